@@ -43,6 +43,7 @@ test:
 	tools/gate/list_reading.py --check
 	tools/gate/list_calls.py --check
 	tools/gate/write_vectors.py --check
+	tools/gate/write_grammar.py --check
 	tools/gate/check_manual.py
 	tools/gate/check_completions.py
 	tools/gate/check_modules.py

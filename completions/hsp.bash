@@ -1,69 +1,93 @@
-# Completions of hsp for bash.
+# Completions of hsp for bash, written by tools/gate/write_grammar.py.
 
-# The options of hsplan and hsplan-stream, whose words stand behind hsp doctor --.
-_hsp_words() {
-    echo "--settings --values --demand --costs --capacity --plan --log --kind --option --servers --index"
-    echo "--unit --fronts --front"
+_hsp_commands() {
+    case $1 in
+        "") echo "demand doctor fleet new plan sites view whatif --help --version" ;;
+        fleet) echo "demand dispatch --help" ;;
+        "doctor --") echo "locate site plan check dispatch report kinds places answer" ;;
+    esac
 }
 
 _hsp_options() {
-    local files="--settings --values --demand --costs --capacity --unit --help"
-    local lines="--format --regex --client --handle --path --from --to --busiest-hour --time"
-    lines+=" --prefix --elsewhere --by --unit --settings --values --costs"
-    local place="--workers --scheduler --tls-ca --tls-cert --tls-key --installed --patience --help"
     case $1 in
-        plan) echo "$files --all --output --no-save --csv --json" ;;
-        view) echo "$files --before --title --output" ;;
-        doctor) echo "${files/ --unit/} --strict --json" ;;
-        whatif) echo "$files --server --from --to --points --step --csv --chart" ;;
-        new) echo "--example --help" ;;
-        sites) echo "--into --name --capacity --help" ;;
-        demand)
-            echo "--regions --into --output --log $lines --help" ;;
-        "fleet demand") echo "--regions --into --output --keep $lines $place" ;;
-        "fleet dispatch") echo "--fronts --plan --any-handle --unit $place" ;;
+        "demand") echo "--regions --into --output --log --format --regex --client --handle --path --from --to --busiest-hour --time --prefix --elsewhere --by --unit --settings --values --costs --help" ;;
+        "doctor") echo "--settings --demand --costs --capacity --values --strict --json --help" ;;
+        "fleet demand") echo "--regions --into --output --keep --format --regex --client --handle --path --from --to --busiest-hour --time --prefix --elsewhere --by --unit --settings --values --costs --workers --scheduler --tls-ca --tls-cert --tls-key --installed --patience --help" ;;
+        "fleet dispatch") echo "--fronts --plan --any-handle --unit --workers --scheduler --tls-ca --tls-cert --tls-key --installed --patience --help" ;;
+        "new") echo "--example --help" ;;
+        "plan") echo "--settings --demand --costs --capacity --values --unit --all --output --no-save --csv --json --help" ;;
+        "sites") echo "--into --name --capacity --help" ;;
+        "view") echo "--settings --demand --costs --capacity --values --before --unit --title --output --help" ;;
+        "whatif") echo "--settings --demand --costs --capacity --values --server --from --to --points --step --unit --csv --chart --help" ;;
+        "doctor -- locate") echo "--option --servers --settings --values" ;;
+        "doctor -- site") echo "--index" ;;
+        "doctor -- plan") echo "--settings --demand --costs --capacity --values" ;;
+        "doctor -- check") echo "--settings --demand --costs --capacity --plan --values" ;;
+        "doctor -- dispatch") echo "--settings --demand --costs --capacity --plan --log --values --fronts" ;;
+        "doctor -- report") echo "--settings --demand --costs --capacity --plan --kind --values" ;;
+        "doctor -- kinds") echo "--settings --costs --log --values --unit --help" ;;
+        "doctor -- places") echo "--settings --log --values --help" ;;
+        "doctor -- answer") echo "--settings --demand --costs --capacity --plan --log --values --unit --fronts --front --help" ;;
+    esac
+}
+
+# What stands behind an option of a command: words, files (-f), folders (-d), or what isn't known (-).
+_hsp_values() {
+    case $1 in
+        "sites --capacity") echo - ;;
+        *" --regions" | *" --output" | *" -o" | *" --log" | *" --settings" | *" --values" | *" --costs" | *" --demand" | *" --capacity" | *" --tls-ca" | *" --tls-cert" | *" --tls-key" | *" --plan" | *" --chart") echo -f ;;
+        *" --into" | *" --before") echo -d ;;
+        *" --format") echo "-W auto server proxy json csv" ;;
+        *" --regex" | *" --client" | *" --handle" | *" --path" | *" --from" | *" --to" | *" --time" | *" --prefix" | *" --elsewhere" | *" --by" | *" --unit" | *" --keep" | *" --workers" | *" --scheduler" | *" --patience" | *" --fronts" | *" --name" | *" --title" | *" --server" | *" --points" | *" --step" | *" --servers" | *" --index" | *" --front") echo - ;;
+        *" --option") echo "-W na local handle" ;;
+        *" --kind") echo "-W load region shortage" ;;
+    esac
+}
+
+# The words of a command that belong to no option.
+_hsp_words() {
+    case $1 in
+        "doctor") echo -d ;;
+        "new") echo -d ;;
+        "plan") echo -d ;;
+        "view") echo -d ;;
+        "whatif") echo -d ;;
+        *) echo -f ;;
     esac
 }
 
 _hsp() {
     local current=${COMP_WORDS[COMP_CWORD]} before=${COMP_WORDS[COMP_CWORD - 1]} command=${COMP_WORDS[1]}
-    # The words between the command and this one, and the options that take a file.
-    local behind=" ${COMP_WORDS[*]:2:(COMP_CWORD > 2 ? COMP_CWORD - 2 : 0)} " of_files=" --settings --values --demand --costs --capacity --output -o --chart "
+    local group= first=1 at values IFS=$' \t\n'
+    if ((COMP_CWORD > 1)) && [[ $command == fleet ]]; then
+        group=fleet first=2 command="fleet ${COMP_WORDS[2]}"
+    fi
+    for ((at = 2; at < COMP_CWORD; at++)); do
+        if [[ $command == doctor && ${COMP_WORDS[at]} == -- ]]; then
+            group="doctor --" first=$((at + 1)) command="doctor -- ${COMP_WORDS[at + 1]}"
+        fi
+    done
     if [[ $current == = ]]; then
         current=
     elif [[ $before == = ]]; then
         before=${COMP_WORDS[COMP_CWORD - 2]}
     fi
     COMPREPLY=()
-    if [ "$COMP_CWORD" -eq 1 ]; then
-        COMPREPLY=($(compgen -W "demand doctor fleet new plan sites view whatif --help --version" -- "$current"))
-    elif [[ $COMP_CWORD -eq 2 && $command == fleet ]]; then
-        COMPREPLY=($(compgen -W "demand dispatch --help" -- "$current"))
-    elif [[ $command == doctor && $before == -- ]]; then
-        COMPREPLY=($(compgen -W "locate site plan check dispatch report kinds places answer" -- "$current"))
-    elif [[ $before == --format ]]; then
-        COMPREPLY=($(compgen -W "auto server proxy json csv" -- "$current"))
-    elif [[ " --unit --title --server --from --to --points --step " == *" $before "* ]]; then
-        COMPREPLY=()
-    elif [[ " --name --regex --client --handle --path --time --prefix --elsewhere --by " == *" $before "* ]]; then
-        COMPREPLY=()
-    elif [[ " --fronts --workers --scheduler --patience --keep " == *" $before "* ]]; then
-        COMPREPLY=()
-    elif [[ $current == -* && $command == fleet ]]; then
-        COMPREPLY=($(compgen -W "$(_hsp_options "fleet ${COMP_WORDS[2]}")" -- "$current"))
-    elif [[ $current == -* && $command == doctor && $behind == *" -- "* ]]; then
-        COMPREPLY=($(compgen -W "$(_hsp_words)" -- "$current"))
-    elif [[ $current == -* ]]; then
-        COMPREPLY=($(compgen -W "$(_hsp_options "$command")" -- "$current"))
-    else
-        local kind=-f IFS=$'\n'
-        if [[ " --into --before " == *" $before "* ]]; then
-            kind=-d
-        elif [[ " plan view whatif doctor new " == *" $command "* && $of_files != *" $before "* && $behind != *" -- "* ]]; then
-            kind=-d
-        fi
+    if ((COMP_CWORD <= first)); then
+        COMPREPLY=($(compgen -W "$(_hsp_commands "$group")" -- "$current"))
+        return
+    fi
+    values=$(_hsp_values "$command $before")
+    if [[ -z $values && $current == -* ]]; then
+        values="-W $(_hsp_options "$command")"
+    fi
+    values=${values:-$(_hsp_words "$command")}
+    if [[ $values == -W* ]]; then
+        COMPREPLY=($(compgen -W "${values#-W }" -- "$current"))
+    elif [[ $values == -f || $values == -d ]]; then
         compopt -o filenames 2> /dev/null
-        COMPREPLY=($(compgen $kind -- "$current"))
+        IFS=$'\n'
+        COMPREPLY=($(compgen "$values" -- "$current"))
     fi
 }
 

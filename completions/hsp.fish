@@ -1,74 +1,68 @@
-# Completions of hsp for fish.
+# Completions of hsp for fish, written by tools/gate/write_grammar.py.
 
-set -l commands demand doctor fleet new plan sites view whatif
-set -l of_folder doctor plan view whatif
-set -l planning plan view whatif
-
-complete -c hsp -n "not __fish_seen_subcommand_from $commands" -f -a "$commands"
-complete -c hsp -n "not __fish_seen_subcommand_from $commands" -l version -d "show the version"
-complete -c hsp -l help -d "show the options"
-# The last word of these is a folder. Behind `hsp doctor --` stand words of hsplan.
-set -l folders "__fish_seen_subcommand_from $of_folder new; and not __fish_seen_subcommand_from fleet; and not contains -- -- (commandline -opc)"
-complete -c hsp -n "$folders" -f -a "(__fish_complete_directories)"
-set -l behind "__fish_seen_subcommand_from doctor; and test (commandline -opc)[-1] = --"
-complete -c hsp -n "$behind" -f -a "locate site plan check dispatch report kinds places answer"
-complete -c hsp -n "__fish_seen_subcommand_from $of_folder" -l settings -r -F -d "sites and hosts, TOML"
-complete -c hsp -n "__fish_seen_subcommand_from $of_folder" -l values -r -F -d "a value list"
-complete -c hsp -n "__fish_seen_subcommand_from $of_folder" -l demand -r -F -d "queries of regions for handles, CSV"
-complete -c hsp -n "__fish_seen_subcommand_from $of_folder" -l costs -r -F -d "costs from regions to sites, CSV"
-complete -c hsp -n "__fish_seen_subcommand_from $of_folder" -l capacity -r -F -d "capacities of servers, CSV"
-complete -c hsp -n "__fish_seen_subcommand_from $planning" -l unit -x -d "unit of costs"
-complete -c hsp -n "__fish_seen_subcommand_from plan" -l all -d "all servers and regions"
-complete -c hsp -n "__fish_seen_subcommand_from plan" -l no-save -d "keep no certificate"
-complete -c hsp -n "__fish_seen_subcommand_from plan doctor" -l json -d "for other programs"
-complete -c hsp -n "__fish_seen_subcommand_from doctor" -l strict -d "status 1 for warnings too"
-complete -c hsp -n "__fish_seen_subcommand_from plan whatif" -l csv -d "a table"
-complete -c hsp -n "__fish_seen_subcommand_from plan view" -l output -r -F -d "the file that is written"
-complete -c hsp -n "__fish_seen_subcommand_from view" -l before -x -a "(__fish_complete_directories)" -d "another folder"
-complete -c hsp -n "__fish_seen_subcommand_from view" -l title -x -d "title of the page"
-complete -c hsp -n "__fish_seen_subcommand_from whatif" -l server -x -d "site and identifier"
-complete -c hsp -n "__fish_seen_subcommand_from whatif" -l from -x -d "the least size"
-complete -c hsp -n "__fish_seen_subcommand_from whatif" -l to -x -d "the greatest size"
-complete -c hsp -n "__fish_seen_subcommand_from whatif" -l points -x -d "how many sizes"
-complete -c hsp -n "__fish_seen_subcommand_from whatif" -l step -x -d "more room, in percent"
-complete -c hsp -n "__fish_seen_subcommand_from whatif" -l chart -r -F -d "a picture"
-complete -c hsp -n "__fish_seen_subcommand_from new" -l example -d "a small service"
-complete -c hsp -n "__fish_seen_subcommand_from sites demand" -l into -x -a "(__fish_complete_directories)" -d "the folder that is added to"
-complete -c hsp -n "__fish_seen_subcommand_from sites" -l name -x -d "name of a site"
-complete -c hsp -n "__fish_seen_subcommand_from sites" -l capacity -x -d "of each server"
-complete -c hsp -n "__fish_seen_subcommand_from demand" -l regions -r -F -d "table of networks or MaxMind database"
-complete -c hsp -n "__fish_seen_subcommand_from demand" -l output -r -F -d "the table that is written"
-complete -c hsp -n "__fish_seen_subcommand_from demand" -l log -r -F -d "the queries, for dispatch"
-complete -c hsp -n "__fish_seen_subcommand_from demand" -l format -x -a "auto server proxy json csv" -d "form of the logs"
-complete -c hsp -n "__fish_seen_subcommand_from demand" -l regex -x -d "lines of another form"
-complete -c hsp -n "__fish_seen_subcommand_from demand" -l client -x -d "field with the address"
-complete -c hsp -n "__fish_seen_subcommand_from demand" -l handle -x -d "field with the handle"
-complete -c hsp -n "__fish_seen_subcommand_from demand" -l path -x -d "field with a path"
-complete -c hsp -n "__fish_seen_subcommand_from demand" -l from -x -d "count from this time on"
-complete -c hsp -n "__fish_seen_subcommand_from demand" -l to -x -d "count what is before this time"
-complete -c hsp -n "__fish_seen_subcommand_from demand" -l busiest-hour -d "count only the hour with most queries"
-complete -c hsp -n "__fish_seen_subcommand_from demand" -l time -x -d "field with the time"
-complete -c hsp -n "__fish_seen_subcommand_from demand" -l prefix -x -d "count only this prefix"
-complete -c hsp -n "__fish_seen_subcommand_from demand" -l elsewhere -x -d "region of other clients"
-complete -c hsp -n "__fish_seen_subcommand_from demand" -l by -x -d "field of a MaxMind database"
-complete -c hsp -n "__fish_seen_subcommand_from demand" -l unit -x -d "count in units"
-complete -c hsp -n "__fish_seen_subcommand_from demand" -l settings -r -F -d "the sites"
-complete -c hsp -n "__fish_seen_subcommand_from demand" -l values -r -F -d "a value list"
-complete -c hsp -n "__fish_seen_subcommand_from demand" -l costs -r -F -d "by which handles are joined"
-
-# hsp fleet: its own demand has the options of hsp demand, above.
-set -l of_fleet "__fish_seen_subcommand_from fleet"
-set -l of_dispatch "__fish_seen_subcommand_from fleet; and __fish_seen_subcommand_from dispatch"
-complete -c hsp -n "$of_fleet; and not __fish_seen_subcommand_from demand dispatch" -f -a "demand dispatch"
-complete -c hsp -n "$of_fleet; and __fish_seen_subcommand_from demand" -l keep -x -d "suffix of the queries of each log"
-complete -c hsp -n "$of_dispatch" -l fronts -x -d "how many fronts"
-complete -c hsp -n "$of_dispatch" -l plan -r -F -d "the certificate"
-complete -c hsp -n "$of_dispatch" -l any-handle -d "by hsplan-stream"
-complete -c hsp -n "$of_dispatch" -l unit -x -d "of the demand"
-complete -c hsp -n "$of_fleet" -l workers -x -d "processes of this machine"
-complete -c hsp -n "$of_fleet" -l scheduler -x -d "one that runs already"
-complete -c hsp -n "$of_fleet" -l tls-ca -r -F -d "the authority"
-complete -c hsp -n "$of_fleet" -l tls-cert -r -F -d "a certificate"
-complete -c hsp -n "$of_fleet" -l tls-key -r -F -d "its key"
-complete -c hsp -n "$of_fleet" -l installed -d "programs of the workers"
-complete -c hsp -n "$of_fleet" -l patience -x -d "seconds to wait for a worker"
+complete -c hsp -n "not __fish_seen_subcommand_from demand doctor fleet new plan sites view whatif" -f -a "demand doctor fleet new plan sites view whatif"
+complete -c hsp -n "not __fish_seen_subcommand_from demand doctor fleet new plan sites view whatif" -l help -d 'show the options'
+complete -c hsp -n "not __fish_seen_subcommand_from demand doctor fleet new plan sites view whatif" -l version -d 'show the version'
+complete -c hsp -n "__fish_seen_subcommand_from fleet; and not __fish_seen_subcommand_from demand dispatch" -f -a "demand dispatch"
+complete -c hsp -n "__fish_seen_subcommand_from doctor new plan view whatif; and not __fish_seen_subcommand_from fleet; and not contains -- -- (commandline -opc)" -f -a "(__fish_complete_directories)"
+complete -c hsp -n "__fish_seen_subcommand_from doctor; and test (commandline -opc)[-1] = --" -f -a "locate site plan check dispatch report kinds places answer"
+complete -c hsp -n "begin; __fish_seen_subcommand_from demand; and not __fish_seen_subcommand_from fleet; end; or begin; __fish_seen_subcommand_from fleet; and __fish_seen_subcommand_from demand; end" -l regions -r -F -d 'a table network,region, or a MaxMind database'
+complete -c hsp -n "begin; __fish_seen_subcommand_from demand; and not __fish_seen_subcommand_from fleet; end; or begin; __fish_seen_subcommand_from fleet; and __fish_seen_subcommand_from demand; end" -l into -x -a "(__fish_complete_directories)" -d 'the folder whose demand.csv is written'
+complete -c hsp -n "begin; __fish_seen_subcommand_from demand; and not __fish_seen_subcommand_from fleet; end; or begin; __fish_seen_subcommand_from fleet; and __fish_seen_subcommand_from demand; end" -l output -r -F -d 'the table, in place of DIR/demand.csv'
+complete -c hsp -n "__fish_seen_subcommand_from demand; and not __fish_seen_subcommand_from fleet" -l log -r -F -d 'also the queries, as a log for hsplan dispatch'
+complete -c hsp -n "begin; __fish_seen_subcommand_from demand; and not __fish_seen_subcommand_from fleet; end; or begin; __fish_seen_subcommand_from fleet; and __fish_seen_subcommand_from demand; end" -l format -x -a "auto server proxy json csv" -d 'of the logs'
+complete -c hsp -n "begin; __fish_seen_subcommand_from demand; and not __fish_seen_subcommand_from fleet; end; or begin; __fish_seen_subcommand_from fleet; and __fish_seen_subcommand_from demand; end" -l regex -x -d 'lines of another form: (?P<client>..) and (?P<handle>..) or (?P<path>..)'
+complete -c hsp -n "begin; __fish_seen_subcommand_from demand; and not __fish_seen_subcommand_from fleet; end; or begin; __fish_seen_subcommand_from fleet; and __fish_seen_subcommand_from demand; end" -l client -x -d 'the field with the client\'s address'
+complete -c hsp -n "begin; __fish_seen_subcommand_from demand; and not __fish_seen_subcommand_from fleet; end; or begin; __fish_seen_subcommand_from fleet; and __fish_seen_subcommand_from demand; end" -l handle -x -d 'the field with the handle'
+complete -c hsp -n "begin; __fish_seen_subcommand_from demand; and not __fish_seen_subcommand_from fleet; end; or begin; __fish_seen_subcommand_from fleet; and __fish_seen_subcommand_from demand; end" -l path -x -d 'the field with the path of a request, in place of a handle'
+complete -c hsp -n "begin; __fish_seen_subcommand_from demand; and not __fish_seen_subcommand_from fleet; end; or begin; __fish_seen_subcommand_from fleet; and __fish_seen_subcommand_from demand; end" -l from -x -d 'count from this time on, as 2026-11-26T10:00+01:00'
+complete -c hsp -n "begin; __fish_seen_subcommand_from demand; and not __fish_seen_subcommand_from fleet; end; or begin; __fish_seen_subcommand_from fleet; and __fish_seen_subcommand_from demand; end" -l to -x -d 'count what is before this time'
+complete -c hsp -n "begin; __fish_seen_subcommand_from demand; and not __fish_seen_subcommand_from fleet; end; or begin; __fish_seen_subcommand_from fleet; and __fish_seen_subcommand_from demand; end" -l busiest-hour -d 'count only the hour with most queries'
+complete -c hsp -n "begin; __fish_seen_subcommand_from demand; and not __fish_seen_subcommand_from fleet; end; or begin; __fish_seen_subcommand_from fleet; and __fish_seen_subcommand_from demand; end" -l time -x -d 'the field with the time'
+complete -c hsp -n "begin; __fish_seen_subcommand_from demand; and not __fish_seen_subcommand_from fleet; end; or begin; __fish_seen_subcommand_from fleet; and __fish_seen_subcommand_from demand; end" -l prefix -x -d 'count only handles of this prefix'
+complete -c hsp -n "begin; __fish_seen_subcommand_from demand; and not __fish_seen_subcommand_from fleet; end; or begin; __fish_seen_subcommand_from fleet; and __fish_seen_subcommand_from demand; end" -l elsewhere -x -d 'of clients that have no region'
+complete -c hsp -n "begin; __fish_seen_subcommand_from demand; and not __fish_seen_subcommand_from fleet; end; or begin; __fish_seen_subcommand_from fleet; and __fish_seen_subcommand_from demand; end" -l by -x -d 'of a MaxMind database'
+complete -c hsp -n "begin; __fish_seen_subcommand_from demand; and not __fish_seen_subcommand_from fleet; end; or begin; __fish_seen_subcommand_from fleet; and __fish_seen_subcommand_from demand; end" -l unit -x -d 'count in units of N queries, rounded up'
+complete -c hsp -n "begin; __fish_seen_subcommand_from demand; and not __fish_seen_subcommand_from fleet; end; or begin; __fish_seen_subcommand_from fleet; and __fish_seen_subcommand_from demand; end" -l settings -r -F -d 'the sites, in place of DIR\'s'
+complete -c hsp -n "begin; __fish_seen_subcommand_from demand; and not __fish_seen_subcommand_from fleet; end; or begin; __fish_seen_subcommand_from fleet; and __fish_seen_subcommand_from demand; end" -l values -r -F -d 'a value list, in place of DIR\'s'
+complete -c hsp -n "begin; __fish_seen_subcommand_from demand; and not __fish_seen_subcommand_from fleet; end; or begin; __fish_seen_subcommand_from fleet; and __fish_seen_subcommand_from demand; end" -l costs -r -F -d 'by which handles are joined, in place of DIR\'s'
+complete -c hsp -n "begin; __fish_seen_subcommand_from demand doctor new plan sites view whatif; and not __fish_seen_subcommand_from fleet; end; or begin; __fish_seen_subcommand_from fleet; and __fish_seen_subcommand_from demand dispatch; end" -l help -d 'show the options'
+complete -c hsp -n "__fish_seen_subcommand_from doctor plan view whatif; and not __fish_seen_subcommand_from fleet" -l settings -r -F -d 'in place of DIR\'s settings'
+complete -c hsp -n "__fish_seen_subcommand_from doctor plan view whatif; and not __fish_seen_subcommand_from fleet" -l demand -r -F -d 'in place of DIR\'s demand'
+complete -c hsp -n "__fish_seen_subcommand_from doctor plan view whatif; and not __fish_seen_subcommand_from fleet" -l costs -r -F -d 'in place of DIR\'s costs'
+complete -c hsp -n "__fish_seen_subcommand_from doctor plan view whatif; and not __fish_seen_subcommand_from fleet" -l capacity -r -F -d 'in place of DIR\'s capacity'
+complete -c hsp -n "__fish_seen_subcommand_from doctor plan view whatif; and not __fish_seen_subcommand_from fleet" -l values -r -F -d 'the value list that the settings refer to'
+complete -c hsp -n "__fish_seen_subcommand_from doctor; and not __fish_seen_subcommand_from fleet" -l strict -d 'status 1 for warnings too'
+complete -c hsp -n "__fish_seen_subcommand_from doctor; and not __fish_seen_subcommand_from fleet" -l json -d 'one object for each finding, for editors'
+complete -c hsp -n "__fish_seen_subcommand_from fleet; and __fish_seen_subcommand_from demand" -l keep -x -d 'also the queries of each LOG, in LOG with this suffix'
+complete -c hsp -n "__fish_seen_subcommand_from fleet; and __fish_seen_subcommand_from demand dispatch" -l workers -x -d 'of this machine; one a processor'
+complete -c hsp -n "__fish_seen_subcommand_from fleet; and __fish_seen_subcommand_from demand dispatch" -l scheduler -x -d 'tcp://HOST:PORT or tls://HOST:PORT that runs already'
+complete -c hsp -n "__fish_seen_subcommand_from fleet; and __fish_seen_subcommand_from demand dispatch" -l tls-ca -r -F -d 'the certificate of the authority that a tls scheduler trusts'
+complete -c hsp -n "__fish_seen_subcommand_from fleet; and __fish_seen_subcommand_from demand dispatch" -l tls-cert -r -F -d 'this client\'s certificate'
+complete -c hsp -n "__fish_seen_subcommand_from fleet; and __fish_seen_subcommand_from demand dispatch" -l tls-key -r -F -d 'its key'
+complete -c hsp -n "__fish_seen_subcommand_from fleet; and __fish_seen_subcommand_from demand dispatch" -l installed -d 'workers use the programs in their PATH, if these are the same'
+complete -c hsp -n "__fish_seen_subcommand_from fleet; and __fish_seen_subcommand_from demand dispatch" -l patience -x -d 'seconds to wait for a worker'
+complete -c hsp -n "__fish_seen_subcommand_from fleet; and __fish_seen_subcommand_from dispatch" -l fronts -x -d 'how many fronts the plan has'
+complete -c hsp -n "__fish_seen_subcommand_from fleet; and __fish_seen_subcommand_from dispatch" -l plan -r -F -d 'the certificate, in place of DIR/plan.txt'
+complete -c hsp -n "__fish_seen_subcommand_from fleet; and __fish_seen_subcommand_from dispatch" -l any-handle -d 'answer by hsplan-stream: any handle, and logs of any length'
+complete -c hsp -n "__fish_seen_subcommand_from fleet; and __fish_seen_subcommand_from dispatch" -l unit -x -d 'of the demand, with --any-handle; that of hsp.toml'
+complete -c hsp -n "__fish_seen_subcommand_from new; and not __fish_seen_subcommand_from fleet" -l example -d 'a small service that plans at once'
+complete -c hsp -n "__fish_seen_subcommand_from plan view whatif; and not __fish_seen_subcommand_from fleet" -l unit -x -d 'of costs, such as ms'
+complete -c hsp -n "__fish_seen_subcommand_from plan; and not __fish_seen_subcommand_from fleet" -l all -d 'all full servers and all regions'
+complete -c hsp -n "__fish_seen_subcommand_from plan; and not __fish_seen_subcommand_from fleet" -l output -r -F -d 'the certificate, in place of DIR/plan.txt'
+complete -c hsp -n "__fish_seen_subcommand_from plan; and not __fish_seen_subcommand_from fleet" -l no-save -d 'keep no certificate'
+complete -c hsp -n "__fish_seen_subcommand_from plan; and not __fish_seen_subcommand_from fleet" -l csv -d 'only how many queries of each region go to each site'
+complete -c hsp -n "__fish_seen_subcommand_from plan; and not __fish_seen_subcommand_from fleet" -l json -d 'the same sums for other programs'
+complete -c hsp -n "__fish_seen_subcommand_from sites; and not __fish_seen_subcommand_from fleet" -l into -x -a "(__fish_complete_directories)" -d 'the folder that they are added to'
+complete -c hsp -n "__fish_seen_subcommand_from sites; and not __fish_seen_subcommand_from fleet" -l name -x -d 'of the first site, the second, and so on'
+complete -c hsp -n "__fish_seen_subcommand_from sites; and not __fish_seen_subcommand_from fleet" -l capacity -x -d 'of each server'
+complete -c hsp -n "__fish_seen_subcommand_from view; and not __fish_seen_subcommand_from fleet" -l before -x -a "(__fish_complete_directories)" -d 'the plan of another folder beside it'
+complete -c hsp -n "__fish_seen_subcommand_from view; and not __fish_seen_subcommand_from fleet" -l title -x -d 'of the page'
+complete -c hsp -n "__fish_seen_subcommand_from view; and not __fish_seen_subcommand_from fleet" -l output -r -F -d 'the page, in place of DIR/plan.html'
+complete -c hsp -n "__fish_seen_subcommand_from whatif; and not __fish_seen_subcommand_from fleet" -l server -x -d 'the cost by the size of this server'
+complete -c hsp -n "__fish_seen_subcommand_from whatif; and not __fish_seen_subcommand_from fleet" -l from -x -d 'the least size; half of the present one'
+complete -c hsp -n "__fish_seen_subcommand_from whatif; and not __fish_seen_subcommand_from fleet" -l to -x -d 'the greatest size; half more than the present one'
+complete -c hsp -n "__fish_seen_subcommand_from whatif; and not __fish_seen_subcommand_from fleet" -l points -x -d 'how many sizes'
+complete -c hsp -n "__fish_seen_subcommand_from whatif; and not __fish_seen_subcommand_from fleet" -l step -x -d 'more room, in percent'
+complete -c hsp -n "__fish_seen_subcommand_from whatif; and not __fish_seen_subcommand_from fleet" -l csv -d 'for other programs'
+complete -c hsp -n "__fish_seen_subcommand_from whatif; and not __fish_seen_subcommand_from fleet" -l chart -r -F -d 'a picture of the costs, SVG'

@@ -1,31 +1,58 @@
-# Completions of hsplan-stream for bash.
+# Completions of hsplan-stream for bash, written by tools/gate/write_grammar.py.
+
+_hsplan_stream_commands() {
+    case $1 in
+        "") echo "kinds places answer --help --version" ;;
+    esac
+}
 
 _hsplan_stream_options() {
     case $1 in
-        kinds) echo "--settings --values --costs --unit --log --help" ;;
-        places) echo "--settings --values --log --help" ;;
-        answer) echo "--settings --values --demand --costs --capacity --plan --log --unit --fronts --front --help" ;;
+        "kinds") echo "--settings --costs --log --values --unit --help" ;;
+        "places") echo "--settings --log --values --help" ;;
+        "answer") echo "--settings --demand --costs --capacity --plan --log --values --unit --fronts --front --help" ;;
+    esac
+}
+
+# What stands behind an option of a command: words, files (-f), folders (-d), or what isn't known (-).
+_hsplan_stream_values() {
+    case $1 in
+        *" --settings" | *" --costs" | *" --log" | *" --values" | *" --demand" | *" --capacity" | *" --plan") echo -f ;;
+        *" --unit" | *" --fronts" | *" --front") echo - ;;
+    esac
+}
+
+# The words of a command that belong to no option.
+_hsplan_stream_words() {
+    case $1 in
+        *) echo -f ;;
     esac
 }
 
 _hsplan_stream() {
-    local current=${COMP_WORDS[COMP_CWORD]} before=${COMP_WORDS[COMP_CWORD - 1]}
+    local current=${COMP_WORDS[COMP_CWORD]} before=${COMP_WORDS[COMP_CWORD - 1]} command=${COMP_WORDS[1]}
+    local group= first=1 at values IFS=$' \t\n'
     if [[ $current == = ]]; then
         current=
     elif [[ $before == = ]]; then
         before=${COMP_WORDS[COMP_CWORD - 2]}
     fi
     COMPREPLY=()
-    if [ "$COMP_CWORD" -eq 1 ]; then
-        COMPREPLY=($(compgen -W "kinds places answer --help --version" -- "$current"))
-    elif [[ $before == --unit || $before == --fronts || $before == --front ]]; then
-        COMPREPLY=()
-    elif [[ $current == -* ]]; then
-        COMPREPLY=($(compgen -W "$(_hsplan_stream_options "${COMP_WORDS[1]}")" -- "$current"))
-    else
+    if ((COMP_CWORD <= first)); then
+        COMPREPLY=($(compgen -W "$(_hsplan_stream_commands "$group")" -- "$current"))
+        return
+    fi
+    values=$(_hsplan_stream_values "$command $before")
+    if [[ -z $values && $current == -* ]]; then
+        values="-W $(_hsplan_stream_options "$command")"
+    fi
+    values=${values:-$(_hsplan_stream_words "$command")}
+    if [[ $values == -W* ]]; then
+        COMPREPLY=($(compgen -W "${values#-W }" -- "$current"))
+    elif [[ $values == -f || $values == -d ]]; then
         compopt -o filenames 2> /dev/null
-        local IFS=$'\n'
-        COMPREPLY=($(compgen -f -- "$current"))
+        IFS=$'\n'
+        COMPREPLY=($(compgen "$values" -- "$current"))
     fi
 }
 

@@ -1,18 +1,16 @@
-# Completions of hsplan-stream for fish.
+# Completions of hsplan-stream for fish, written by tools/gate/write_grammar.py.
 
-set -l commands kinds places answer
-set -l costs "__fish_seen_subcommand_from kinds answer"
-
-complete -c hsplan-stream -n "not __fish_seen_subcommand_from $commands" -f -a "$commands"
-complete -c hsplan-stream -n "not __fish_seen_subcommand_from $commands" -l version -d "show the version"
-complete -c hsplan-stream -l help -d "show what the commands do"
-complete -c hsplan-stream -n "__fish_seen_subcommand_from $commands" -l settings -r -F -d "sites and hosts, TOML"
-complete -c hsplan-stream -n "__fish_seen_subcommand_from $commands" -l values -r -F -d "a value list"
-complete -c hsplan-stream -n "__fish_seen_subcommand_from $commands" -l log -r -F -d "a log, CSV"
-complete -c hsplan-stream -n $costs -l costs -r -F -d "costs from regions to sites, CSV"
-complete -c hsplan-stream -n $costs -l unit -x -d "queries that count as one"
-complete -c hsplan-stream -n "__fish_seen_subcommand_from answer" -l demand -r -F -d "queries of regions for handles, CSV"
-complete -c hsplan-stream -n "__fish_seen_subcommand_from answer" -l capacity -r -F -d "capacities of servers, CSV"
-complete -c hsplan-stream -n "__fish_seen_subcommand_from answer" -l plan -r -F -d "a certificate"
-complete -c hsplan-stream -n "__fish_seen_subcommand_from answer" -l fronts -x -d "number of fronts"
-complete -c hsplan-stream -n "__fish_seen_subcommand_from answer" -l front -x -d "number of this front, from 0"
+complete -c hsplan-stream -n "not __fish_seen_subcommand_from kinds places answer" -f -a "kinds places answer"
+complete -c hsplan-stream -n "not __fish_seen_subcommand_from kinds places answer" -l help -d 'show what the commands do'
+complete -c hsplan-stream -n "not __fish_seen_subcommand_from kinds places answer" -l version -d 'show the version'
+complete -c hsplan-stream -n "__fish_seen_subcommand_from kinds places answer" -l settings -r -F -d 'sites and hosts, TOML'
+complete -c hsplan-stream -n "__fish_seen_subcommand_from kinds answer" -l costs -r -F -d 'costs from regions to sites, CSV'
+complete -c hsplan-stream -n "__fish_seen_subcommand_from kinds places answer" -l log -r -F -d 'a log, CSV'
+complete -c hsplan-stream -n "__fish_seen_subcommand_from kinds places answer" -l values -r -F -d 'a value list'
+complete -c hsplan-stream -n "__fish_seen_subcommand_from kinds answer" -l unit -x -d 'queries that count as one'
+complete -c hsplan-stream -n "__fish_seen_subcommand_from kinds places answer" -l help -d 'show what the commands do'
+complete -c hsplan-stream -n "__fish_seen_subcommand_from answer" -l demand -r -F -d 'queries of regions for handles, CSV'
+complete -c hsplan-stream -n "__fish_seen_subcommand_from answer" -l capacity -r -F -d 'capacities of servers, CSV'
+complete -c hsplan-stream -n "__fish_seen_subcommand_from answer" -l plan -r -F -d 'a certificate'
+complete -c hsplan-stream -n "__fish_seen_subcommand_from answer" -l fronts -x -d 'number of fronts'
+complete -c hsplan-stream -n "__fish_seen_subcommand_from answer" -l front -x -d 'number of this front, from 0'

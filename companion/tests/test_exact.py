@@ -14,6 +14,7 @@ import pytest
 
 from hsp.base import text
 
+from hsp.base.grammar import GREATEST_COUNT, MOST_DEMAND_ROWS
 from hsp.base.numbers import average, listed, part, percent, queries_of, signed, some
 from hsp.base.programs import Desk
 from hsp.base.spelling import near
@@ -31,7 +32,7 @@ from hsp.intake.outlook import sites_in
 from hsp.intake.prefixes import MOST_SHOWN, Prefixes
 from hsp.intake.queries import Judge, Reading
 from hsp.intake.sitefiles import Files, stem, tidy
-from hsp.intake.tally import MOST_COUNT, MOST_ROWS, Tally
+from hsp.intake.tally import Tally
 from hsp.intake.times import Span, iso_seconds, seconds_of, shown_time
 from hsp.plans.charts import Axes
 from hsp.plans.page import step_of
@@ -216,15 +217,15 @@ def test_few_prefixes_are_held(monkeypatch: pytest.MonkeyPatch) -> None:
 
 
 def test_a_table_is_joined_above_so_many_rows_and_so_great_counts() -> None:
-    for rows, count in ((MOST_ROWS, 1), (1, MOST_COUNT)):
+    for rows, count in ((MOST_DEMAND_ROWS, 1), (1, GREATEST_COUNT)):
         own = Tally(Desk())
         own.take({(b"eu", b"20.500.1/%d" % at): count for at in range(rows)}, False)
         table, is_joined = own.demand(None, None)
         assert (table.count(b"\n"), is_joined, own.handles) == (rows + 1, False, rows)
     for rows, count, said in (
-        (MOST_ROWS + 1, 1, "more than 8,192 rows of demand"),
-        (1, MOST_COUNT + 1, "1 row of demand"),
-        (2, MOST_COUNT + 1, "2 rows of demand"),
+        (MOST_DEMAND_ROWS + 1, 1, "more than 8,192 rows of demand"),
+        (1, GREATEST_COUNT + 1, "1 row of demand"),
+        (2, GREATEST_COUNT + 1, "2 rows of demand"),
     ):
         own = Tally(Desk())
         own.take({(b"eu", b"20.500.1/%d" % at): count for at in range(rows)}, False)

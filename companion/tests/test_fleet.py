@@ -296,7 +296,7 @@ def test_logs_of_any_rows_are_parted_as_one_run_reads_them(million: Million, tmp
 
 
 def test_a_log_of_all_has_a_greatest_length(tmp_path: Path, monkeypatch: pytest.MonkeyPatch) -> None:
-    monkeypatch.setattr("hsp.fleet.split.MOST_ROWS", 3)
+    monkeypatch.setattr("hsp.fleet.split.MOST_LOG_ROWS", 3)
     (tmp_path / "log").write_bytes(b"front,region,handle\n" + b"0,eu,20.1/a\n" * 4)
     with pytest.raises(Exception, match="more than 3 rows. Let each front write a file of its own"):
         Parted(str(tmp_path / "log"), str(tmp_path), 2)

@@ -80,6 +80,8 @@ CASES = [
     ("hsp sites --into s", ["service/"]),
     ("hsp doctor -- loc", ["locate"]),
     ("hsp doctor -- plan --settings set", ["settings.toml"]),
+    ("hsp fleet demand --sche", ["--scheduler"]),
+    ("hsp whatif --cs", ["--csv"]),
     ("hsplan check --demand=dem", ["demand.csv"]),
     ("hsplan locate --option=l", ["local"]),
     ("hsplan-stream places --settings=set", ["settings.toml"]),

@@ -77,6 +77,10 @@ def listed(numbers: list[int] | bytes) -> str:
     return "".join(f"{it} ∷ " for it in numbers) + "[]"
 
 
+# The columns of a line, and how far in a line goes on.
+COLUMNS = 120
+INDENT = "    "
+
 HEAD = """\
 -- The digest of "{text}", step by step.
 use Rattle.std.proofs.Common.{{◌≡◌, ℕ, List, [], ◌∷◌, refl, ap, ◌∙◌}}
@@ -94,6 +98,7 @@ words = {words}
 abbrev start : List ℕ
 start = {start}
 
+-- before the first step
 r0 : rounds start words 0 ≡ start
 unfolding rounds
 r0 = refl
@@ -109,36 +114,53 @@ TAIL = """
 abbrev block : List ℕ
 block = {block}
 
+-- the octets of the block are the words
 block_is : block_words block 16 ≡ words
 unfolding block_words
 block_is = refl
 
+-- the steps over the block, added to where they began
 one_block : compress start block ≡ {sum}
 unfolding compress
 one_block = ap (λ u. add_state start (rounds start u 64)) block_is ∙ ap (add_state start) r64
 
+-- the text is one block
 hashed : hash_after block 1 ≡ {sum}
 unfolding hash_after
 hashed = one_block
 
+-- the octets of the words, of each the lowest first
 octets : digest_bytes ({sum}) 4 ≡ {digest}
 unfolding digest_bytes
 octets = refl
 
+-- the digest of the text, as octets
 digest : md5 (codes "{text}") ≡ {digest}
 unfolding md5
 digest = ap (λ h. digest_bytes h 4) hashed ∙ octets
 
+-- those octets in hexadecimal digits
 digits_are : encode_lower ({digest}) ≡ codes "{digits}"
 unfolding encode_with
 digits_are = refl
 
+-- the text has the digest of the definitions
 pub digits : HasDigest (codes "{text}") (codes "{digits}")
 digits = ap encode_lower digest ∙ digits_are
 
+-- its last four octets, as a number with a sign, have the absolute value of the definitions
 pub value : HasValue (codes "{text}") {value}
 value = ap (λ octets. absolute_value (big_number 4 (drop 12 octets))) digest ∙ refl
 """
+
+
+def broken(line: str) -> str:
+    """The line in lines of at most 120 columns, which go on before a relation or an element of a list."""
+    if len(line) <= COLUMNS:
+        return line
+    places = [line.rfind(mark, len(INDENT), COLUMNS + 1) for mark in (" ≡ ", " ∷ ")]
+    at = next(place for place in places if place >= 0)
+    return line[:at] + "\n" + broken(INDENT + line[at + 1 :])
 
 
 def proof_of(text: str) -> str:
@@ -153,7 +175,7 @@ def proof_of(text: str) -> str:
     last = int.from_bytes(digest[12:], "big", signed=True)
     lists = {"block": listed(block), "sum": listed(sum), "digest": listed(digest)}
     parts.append(TAIL.format(text=text, digits=digest.hex(), value=abs(last), **lists))
-    return "".join(parts)
+    return "\n".join(broken(line) for line in "".join(parts).split("\n"))
 
 
 def files() -> dict[str, str]:

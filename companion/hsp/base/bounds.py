@@ -5,10 +5,11 @@ from __future__ import annotations
 import sys
 from collections.abc import Iterable, Iterator
 
+from hsp.base.grammar import LARGEST_FILE
 from hsp.base.unfit import Unfit
 
 # hsplan's limit of a file that is read whole.
-LARGEST = 67_108_864
+LARGEST = LARGEST_FILE
 # So many octets queries have together that are held at once, and what each takes beside its own octets.
 MOST_HELD, BESIDE = 1 << 28, 200
 # So many queries, and octets of them, are passed on at once.

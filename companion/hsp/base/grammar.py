@@ -1,44 +1,140 @@
-"""The commands of hsplan and hsplan-stream, with what each takes."""
+"""The commands, limits and headers of hsplan and hsplan-stream, written by tools/gate/write_grammar.py."""
 
 from __future__ import annotations
 
 from typing import NamedTuple
 
-INPUTS = ["settings", "demand", "costs", "capacity"]
-FILES = [*INPUTS, "values", "plan", "log"]
 
-
-class Form(NamedTuple):
-    """What a command takes: options that it needs, options that it may have, and what its last word is."""
+class Command(NamedTuple):
+    """A command: its program, the options that it needs, those that it may have, and what its last word is."""
 
     program: str
-    needed: list[str]
-    optional: list[str]
+    needed: tuple[str, ...]
+    optional: tuple[str, ...]
     last: str = ""
 
     @property
-    def options(self) -> list[str]:
+    def options(self) -> tuple[str, ...]:
         return self.needed + self.optional
 
 
-FORMS = {
-    "locate": Form("hsplan", [], ["option", "servers", "settings", "values"], "handle"),
-    "site": Form("hsplan", [], ["index"], "file"),
-    "plan": Form("hsplan", INPUTS, ["values"]),
-    "check": Form("hsplan", [*INPUTS, "plan"], ["values"]),
-    "dispatch": Form("hsplan", [*INPUTS, "plan", "log"], ["values", "fronts"]),
-    "report": Form("hsplan", [*INPUTS, "plan", "kind"], ["values"]),
-    "kinds": Form("hsplan-stream", ["settings", "costs", "log"], ["values", "unit"]),
-    "places": Form("hsplan-stream", ["settings", "log"], ["values"]),
-    "answer": Form("hsplan-stream", [*INPUTS, "plan", "log"], ["values", "unit", "fronts", "front"]),
+COMMANDS: dict[str, Command] = {
+    "locate": Command("hsplan", (), ("option", "servers", "settings", "values"), "handle"),
+    "site": Command("hsplan", (), ("index",), "file"),
+    "plan": Command("hsplan", ("settings", "demand", "costs", "capacity"), ("values",)),
+    "check": Command("hsplan", ("settings", "demand", "costs", "capacity", "plan"), ("values",)),
+    "dispatch": Command("hsplan", ("settings", "demand", "costs", "capacity", "plan", "log"), ("values", "fronts")),
+    "report": Command("hsplan", ("settings", "demand", "costs", "capacity", "plan", "kind"), ("values",)),
+    "kinds": Command("hsplan-stream", ("settings", "costs", "log"), ("values", "unit")),
+    "places": Command("hsplan-stream", ("settings", "log"), ("values",)),
+    "answer": Command(
+        "hsplan-stream",
+        ("settings", "demand", "costs", "capacity", "plan", "log"),
+        ("values", "unit", "fronts", "front"),
+    ),
 }
-KINDS = ["load", "region", "shortage"]
-# What stands for the value of an option where its form is shown.
-VALUES = {"option": "na|local|handle", "kind": "load|region|shortage"}
+# What stands behind each option: a file, a number, or one of some words.
+VALUES: dict[str, str] = {
+    "settings": "FILE",
+    "values": "FILE",
+    "demand": "FILE",
+    "costs": "FILE",
+    "capacity": "FILE",
+    "plan": "FILE",
+    "log": "FILE",
+    "option": "na|local|handle",
+    "servers": "N",
+    "index": "N",
+    "kind": "load|region|shortage",
+    "unit": "N",
+    "fronts": "N",
+    "front": "N",
+}
+FILES = tuple(name for name, value in VALUES.items() if value == "FILE")
 
+# The headers of the tables, and those of each command's log; `fronts` is a dispatch for several fronts.
+HEADERS: dict[str, str] = {
+    "demand": "region,handle,count",
+    "costs": "region,site,cost",
+    "capacity": "site,server_id,capacity",
+}
+LOG_HEADERS: dict[str, tuple[str, ...]] = {
+    "dispatch": ("region,handle", "region,body"),
+    "fronts": ("front,region,handle",),
+    "kinds": ("region,handle", "region,handle,count"),
+    "places": ("handle", "region,handle"),
+    "answer": ("region,handle", "region,body"),
+}
+LOG_HEAD = LOG_HEADERS["dispatch"][0].encode() + b"\n"
 
-def shown(command: str) -> str:
-    """The form of a command, as a manual page shows it."""
-    form = FORMS[command]
-    words = [f"--{it} {VALUES.get(it, 'FILE' if it in FILES else 'N')}" for it in form.needed]
-    return " ".join([form.program, command, *words, *([form.last.upper()] if form.last else [])])
+# The signs of a name, as they stand between the brackets of a regular expression.
+NAME_SIGNS = "A-Za-z0-9_.-"
+
+# The greatest identifier of a server, index of a value and number of a front: these have four octets.
+GREATEST_ID = 4_294_967_295
+
+# The greatest number of sites.
+MOST_SITES = 32
+
+# The greatest number of servers of a site, and of all sites together.
+MOST_SERVERS = 1_024
+
+# The greatest number of hosts.
+MOST_HOSTS = 1_024
+
+# The greatest number of regions that the rows of one table may name.
+MOST_REGIONS = 64
+
+# The greatest number of rows in the table of demand.
+MOST_DEMAND_ROWS = 8_192
+
+# The greatest number of rows in the table of costs.
+MOST_COST_ROWS = 2_048
+
+# The greatest number of rows in the table of capacities.
+MOST_CAPACITY_ROWS = 1_024
+
+# The greatest number of rows in a log.
+MOST_LOG_ROWS = 10_000_000
+
+# The greatest number of fronts that may share one plan.
+MOST_FRONTS = 64
+
+# The greatest length of the name of a region or a site, in octets.
+LONGEST_NAME = 64
+
+# The greatest length of a handle, in octets.
+LONGEST_HANDLE = 4_096
+
+# The greatest count of a row of the demand, in queries.
+GREATEST_COUNT = 1_000_000
+
+# The greatest cost of a query.
+GREATEST_COST = 1_000_000
+
+# The greatest capacity of a server, in queries.
+GREATEST_CAPACITY = 1_000_000_000
+
+# The greatest limit of a host: the queries that its servers may take together.
+GREATEST_LIMIT = 1_000_000_000_000
+
+# The greatest price in a certificate.
+GREATEST_PRICE = 1_000_000_000_000
+
+# The greatest sum in a certificate: a cost, a demand or a capacity.
+GREATEST_SUM = 10_000_000_000_000_000
+
+# The greatest size of a file that is read whole, in octets.
+LARGEST_FILE = 67_108_864
+
+# The greatest length of the first line of an input, in octets.
+LONGEST_FIRST_LINE = 65_536
+
+# The greatest length of a row that reaches a desk whole, in octets.
+LONGEST_ROW = 1_048_576
+
+# The most answers for which one query of a plan may stand.
+GREATEST_UNIT = 1_000_000
+
+# The greatest count of a row of a log.
+GREATEST_ROW_COUNT = 1_000_000_000_000

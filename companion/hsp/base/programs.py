@@ -17,10 +17,11 @@ from dataclasses import dataclass, replace
 from typing import NamedTuple
 
 from hsp.base import units
+from hsp.base.grammar import GREATEST_CAPACITY, HEADERS
 from hsp.base.signals import uncut
 
 # A capacity that no demand within hsplan's limits can fill.
-BOUNDLESS = 1_000_000_000
+BOUNDLESS = GREATEST_CAPACITY
 
 
 class Refused(Exception):
@@ -284,8 +285,8 @@ class Desk:
 
     def without_sites(self, demand: bytes = b"") -> Inputs:
         """The inputs of a service that has no site and no cost, with the rows of a demand."""
-        costs, capacity = (self.put_table(it, []) for it in ("region,site,cost", "site,server_id,capacity"))
-        table = demand or b"region,handle,count\n"
+        costs, capacity = (self.put_table(HEADERS[it], []) for it in ("costs", "capacity"))
+        table = demand or f"{HEADERS['demand']}\n".encode()
         return Inputs(self.put(b"", ".toml"), self.put(table, ".csv"), costs, capacity)
 
     @functools.cached_property

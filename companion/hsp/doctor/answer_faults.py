@@ -6,6 +6,7 @@ import os
 import re
 from collections.abc import Iterator
 
+from hsp.base.grammar import GREATEST_COUNT, GREATEST_UNIT, LOG_HEADERS, MOST_DEMAND_ROWS, MOST_REGIONS
 from hsp.base.numbers import listed, some
 from hsp.base.paths import shell_word
 from hsp.doctor.findings import Place, Text, Words, found, quoted
@@ -155,13 +156,19 @@ def log_row(question: Question, said: Said) -> Explained | None:
         why, remedy = body_words(fields[at])
     elif said.word == "BadFront":
         message, why = f"front {quoted(fields[0], 20)} isn't a number", "columns in another order, or a name"
-        remedy = "write the number of the front, from 0 on: front,region,handle"
+        remedy = f"write the number of the front, from 0 on: {LOG_HEADERS['fronts'][0]}"
     elif said.word == "TooManyRegions":
         at = spot.header.index("region") if "region" in spot.header else 0
-        message, why = f"{quoted(fields[at])} is the 65th region", "a region for each network or country"
-        remedy = "join networks under at most 64 names of regions"
+        message, why = (
+            f"{quoted(fields[at])} is the {MOST_REGIONS + 1}th region",
+            "a region for each network or country",
+        )
+        remedy = f"join networks under at most {MOST_REGIONS} names of regions"
     elif said.word == "TooManyKinds":
-        message, why = "here begins the 8,193rd kind", "costs to all sites, or server counts without common factors"
+        message, why = (
+            f"here begins the {MOST_DEMAND_ROWS + 1:,}rd kind",
+            "costs to all sites, or server counts without common factors",
+        )
         remedy = "give each region costs for only the three or four sites that it uses"
     else:
         return None
@@ -184,10 +191,10 @@ def count_too_large(question: Question, said: Said) -> Explained:
     unit = said.numbers.get("unit", 1000)
     log = question.files["log"].original.path
     remedy = f"give --unit {unit}, and divide capacities and limits by {unit:,}"
-    if unit > 1_000_000:
-        remedy = "cut the log in parts, and plan each by itself: a unit is at most 1,000,000"
+    if unit > GREATEST_UNIT:
+        remedy = f"cut the log in parts, and plan each by itself: a unit is at most {GREATEST_UNIT:,}"
     words = Words(
-        "a row of the table is above 1,000,000",
+        f"a row of the table is above {GREATEST_COUNT:,}",
         remedy,
         f"row {said.numbers.get('row', 0)} of the table that kinds makes: a long log",
     )

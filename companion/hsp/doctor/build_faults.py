@@ -5,6 +5,7 @@ from __future__ import annotations
 import re
 from typing import NamedTuple
 
+from hsp.base.grammar import HEADERS
 from hsp.base.numbers import listed
 from hsp.base.programs import run
 from hsp.base.spelling import near
@@ -186,7 +187,7 @@ def _without_rows(text: Text, said: Said) -> Finding:
     """The one cause where each server lacks its row: capacities that are only a header."""
     words = Words(
         "the capacities have no rows",
-        "add a row site,server_id,capacity for each server, with what it takes; 0 if it may get nothing",
+        f"add a row {HEADERS['capacity']} for each server, with what it takes; 0 if it may get nothing",
         "each server of the settings has one",
     )
     return found(text.path, text.whole(1), words, said.line)

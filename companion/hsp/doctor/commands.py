@@ -5,7 +5,14 @@ from __future__ import annotations
 from dataclasses import dataclass
 from typing import NamedTuple
 
-from hsp.base.grammar import FORMS
+from hsp.base.grammar import COMMANDS, VALUES
+
+
+def shown(command: str) -> str:
+    """The form of a command, as a manual page shows it."""
+    form = COMMANDS[command]
+    words = [f"--{name} {VALUES[name]}" for name in form.needed]
+    return " ".join([form.program, command, *words, *([form.last.upper()] if form.last else [])])
 
 
 class Word(NamedTuple):
@@ -34,7 +41,7 @@ def line_of(words: list[str]) -> Line:
     program = ""
     if own and own[0].rpartition("/")[2] in ("hsplan", "hsplan-stream"):
         program = own.pop(0).rpartition("/")[2]
-    form = FORMS.get(own[0]) if own else None
+    form = COMMANDS.get(own[0]) if own else None
     program = program or (form.program if form else "hsplan")
     text, placed = program, []
     for it in own:

@@ -11,6 +11,7 @@ from collections.abc import Iterable, Iterator
 from dataclasses import dataclass, field, replace
 from urllib.parse import unquote
 
+from hsp.base.grammar import GREATEST_CAPACITY, HEADERS
 from hsp.base.numbers import listed, some
 from hsp.base.paths import path_in, shell_word
 from hsp.base.programs import Desk
@@ -27,7 +28,7 @@ from hsp.plans.service import ACCEPT, NAMES, TITLE_KEYS, VALUES, Service, dotted
 # A demand beyond so many times all capacity, or a capacity beyond so many times the demand, has likely another unit.
 FAR_ABOVE, FAR_BELOW = 10, 1000
 # A capacity from here on stands for no limit, as in a what-if.
-NO_LIMIT = 1_000_000_000
+NO_LIMIT = GREATEST_CAPACITY
 # The kind of the doubt about a plan that isn't one of its inputs.
 OLD_PLAN = "old plan"
 ADDRESS = re.compile(
@@ -258,7 +259,7 @@ def rows(it: Read) -> None:
     if not it.demand.rows:
         words = Words(
             "the demand has no rows",
-            "add a row region,handle,count for each region and handle",
+            f"add a row {HEADERS['demand']} for each region and handle",
             "the plan is empty and costs 0",
             kind="empty demand",
         )
@@ -266,7 +267,7 @@ def rows(it: Read) -> None:
     elif not it.costs.rows and it.service.sites:
         words = Words(
             "the costs have no rows",
-            "add a row region,site,cost for each region and each site that it may use",
+            f"add a row {HEADERS['costs']} for each region and each site that it may use",
             "no site may serve any region, so the plan is a shortage",
             kind="empty costs",
         )

@@ -7,7 +7,7 @@ import subprocess
 from collections.abc import Callable
 from dataclasses import replace
 
-from hsp.base.grammar import FILES, FORMS
+from hsp.base.grammar import FILES, COMMANDS
 from hsp.base.programs import Desk, program, run
 from hsp.base.text import is_utf8
 from hsp.doctor import (
@@ -226,7 +226,7 @@ def without_answers(question: Question) -> Question:
 def question_of(desk: Desk, line: Line) -> Question:
     """The question that the words of a line ask."""
     options, others = split(line)
-    form = FORMS[line.command]
+    form = COMMANDS[line.command]
     values: dict[str, str] = {}
     for it in options:
         if it.name in FILES and it.value is not None:

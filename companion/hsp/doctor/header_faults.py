@@ -7,21 +7,14 @@ import re
 import zlib
 from typing import NamedTuple
 
+from hsp.base.grammar import HEADERS, LOG_HEADERS, MOST_LOG_ROWS, MOST_REGIONS
 from hsp.base.numbers import listed
 from hsp.base.paths import shell_word
 from hsp.base.spelling import near
 from hsp.doctor.findings import Finding, Place, Text, Words, decoded, found
 from hsp.doctor.question import ORDER, Question, Said
-from hsp.doctor.rows import HEADERS, table_of
+from hsp.doctor.rows import table_of
 from hsp.doctor.table_faults import Explained
-
-# The headers of logs, by the command that reads them.
-LOGS = {
-    "dispatch": ["region,handle", "region,body"],
-    "kinds": ["region,handle", "region,handle,count"],
-    "places": ["handle", "region,handle"],
-    "answer": ["region,handle", "region,body"],
-}
 
 
 class Cause(NamedTuple):
@@ -36,10 +29,10 @@ class Cause(NamedTuple):
 def headers_of(question: Question, kind: str) -> list[str]:
     """The headers that a file may have."""
     if kind != "log":
-        return [",".join(HEADERS[kind])]
+        return [HEADERS[kind]]
     if question.command == "dispatch" and any(it.startswith("--fronts") for it in question.options):
-        return ["front,region,handle", "front,region,body"]
-    return LOGS.get(question.command, ["region,handle"])
+        return list(LOG_HEADERS["fronts"])
+    return list(LOG_HEADERS.get(question.command, LOG_HEADERS["dispatch"][:1]))
 
 
 def _of_octets(text: Text) -> Cause | None:
@@ -87,7 +80,7 @@ def _of_names(text: Text, wanted: list[str]) -> Cause | None:
     first, want = text.line(1), wanted[0]
     names = [it.strip().strip('"') for it in first.split(",")]
     mended = "\n".join([want, *text.lines[1:]])
-    if first == "region,handle" and want == "region,handle,count":
+    if first == LOG_HEADERS["kinds"][0] and want == HEADERS["demand"]:
         remedy = (
             f"count it: hsplan-stream kinds --settings FILE --costs FILE --log {shell_word(text.path)} > counted.csv"
         )
@@ -98,7 +91,7 @@ def _of_names(text: Text, wanted: list[str]) -> Cause | None:
         if sorted(names) == sorted(other.split(",")):
             return Cause("the columns are in another order", f"put the columns in the order {other}, in each row")
     for kind, header in HEADERS.items():
-        if names == header:
+        if names == header.split(","):
             return Cause(f"this is a table of {kind}", f"give the right file: its first line is {want}")
     if "site" in want and re.match(r"\s*\[\[?site|.*record\s*=", first):
         return Cause("these are settings", f"give the right file: its first line is {want}")
@@ -118,14 +111,16 @@ def _of_fronts(first: str, wanted: list[str]) -> Cause | None:
         remedy = f"put the number of the front before each row, and write front,{first}; or leave --fronts out"
         return Cause("a log for --fronts has a column more", remedy)
     if first.startswith("front,") and first.removeprefix("front,") in wanted:
-        given = "" if "region,handle,count" in wanted else "give --fronts N too, or "
+        given = "" if LOG_HEADERS["kinds"][1] in wanted else "give --fronts N too, or "
         return Cause("a log of several fronts", f"{given}take the first column out")
     return None
 
 
 def _of_access(first: str) -> Cause | None:
     if re.search(r'"(GET|HEAD|POST|PUT) ', first):
-        remedy = "hsp demand makes a table of its queries; a log for hsplan has the rows region,handle"
+        remedy = (
+            f"hsp demand makes a table of its queries; a log for hsplan has the rows {LOG_HEADERS['dispatch'][0]}"
+        )
         return Cause("the access log of a proxy", remedy)
     return None
 
@@ -205,10 +200,10 @@ def too_many(question: Question, kind: str, said: Said) -> Explained:
         for row in table.rows:
             first.setdefault(row.fields[0], row.first)
         lines = sorted(first.values())
-        message = f"{len(first):,} regions; hsplan takes 64"
+        message = f"{len(first):,} regions; hsplan takes {MOST_REGIONS}"
         why = "a region for each network or country"
         remedy = "join regions whose costs are equal under one name, in demand and costs"
-        place = draft.original.whole(draft.number(lines[64] if len(lines) > 64 else 2))
+        place = draft.original.whole(draft.number(lines[MOST_REGIONS] if len(lines) > MOST_REGIONS else 2))
     words = Words(message, remedy, why)
     return Explained(found(draft.original.path, place, words, said.line), [question.with_stand_in(kind)])
 
@@ -218,6 +213,6 @@ def log_too_long(question: Question, said: Said) -> Finding:
     words = Words(
         "the log has more rows than dispatch takes",
         "hsplan-stream answer takes a log of any length; or cut the log in parts",
-        "each run of dispatch takes 10,000,000 rows",
+        f"each run of dispatch takes {MOST_LOG_ROWS:,} rows",
     )
     return found(question.files["log"].original.path, Place(), words, said.line)

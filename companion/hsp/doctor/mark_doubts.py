@@ -5,12 +5,12 @@ from __future__ import annotations
 from collections import Counter
 from collections.abc import Iterator
 
+from hsp.base.grammar import GREATEST_COUNT
 from hsp.base.numbers import part, some
 from hsp.base.paths import path_in
 from hsp.doctor.findings import WARNING, Finding, Place, Text, Words, found, read_text
 from hsp.doctor.toml_places import value_of
 from hsp.intake.kinds import most_of_region
-from hsp.intake.tally import MOST_COUNT
 from hsp.plans.marks import TABLE, TITLES
 from hsp.plans.service import Service
 
@@ -27,7 +27,7 @@ def rounding(service: Service) -> Iterator[Finding]:
     """A unit that makes the demand larger by much."""
     if service.added is None or service.added < MUCH:
         return
-    least = -(-max(row.count for row in service.rows) // MOST_COUNT)
+    least = -(-max(row.count for row in service.rows) // GREATEST_COUNT)
     remedy = f"count again with --unit {least}" if least > 1 else "count again without --unit"
     if least >= service.unit:
         remedy = "count a shorter time, as --busiest-hour does; no smaller unit has room for these counts"

@@ -6,6 +6,7 @@ import re
 from decimal import Decimal
 from typing import NamedTuple
 
+from hsp.base.grammar import GREATEST_CAPACITY, GREATEST_COST, GREATEST_COUNT, GREATEST_ID
 from hsp.doctor.findings import quoted
 
 
@@ -61,7 +62,9 @@ def _of_signs(bare: str) -> Advice | None:
         many = bare.lower() in ("inf", "infinity", "unlimited", "\u221e")
         why = "a word in place of a number" if bare else "an empty field"
         remedy = (
-            "write a large number, as 1000000000 for a capacity" if many else "write a number, or take the row out"
+            f"write a large number, as {GREATEST_CAPACITY} for a capacity"
+            if many
+            else "write a number, or take the row out"
         )
         return Advice(why, remedy)
     return None
@@ -75,11 +78,11 @@ def advice(text: str, name: str) -> Advice:
     if re.fullmatch(r"0|[1-9][0-9]*", bare):
         if name in ("server_id", "front"):
             return Advice(
-                f"a {name} is at most 4,294,967,295", "write the number that it has, as hsplan site prints it"
+                f"a {name} is at most {GREATEST_ID:,}", "write the number that it has, as hsplan site prints it"
             )
         what = "costs" if name == "cost" else "counts and capacities"
-        limits = {"cost": "1,000,000", "count": "1,000,000", "capacity": "1,000,000,000"}
-        limit = limits.get(name, "the limit")
+        limits = {"cost": GREATEST_COST, "count": GREATEST_COUNT, "capacity": GREATEST_CAPACITY}
+        limit = f"{limits[name]:,}" if name in limits else "the limit"
         return Advice(
             f"a {name} is at most {limit}", f"take a larger unit in all {what}, as thousands; or mend the digits"
         )

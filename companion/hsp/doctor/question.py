@@ -10,18 +10,14 @@ import subprocess
 from collections.abc import Callable
 from dataclasses import dataclass, field, replace
 
+from hsp.base.grammar import HEADERS
 from hsp.base.programs import Desk, program
 from hsp.base.text import is_utf8
 from hsp.doctor.findings import Finding, Text, encoded, read_text
 
 # The files in the order in which hsplan reads them.
 ORDER = ("settings", "values", "demand", "costs", "capacity", "plan", "log", "file")
-STANDS_IN = {
-    "settings": "",
-    "demand": "region,handle,count\n",
-    "costs": "region,site,cost\n",
-    "capacity": "site,server_id,capacity\n",
-}
+STANDS_IN = {"settings": ""} | {kind: f"{header}\n" for kind, header in HEADERS.items()}
 
 
 @dataclass(frozen=True)

@@ -6,6 +6,7 @@ import os
 import re
 from collections.abc import Iterator
 
+from hsp.base.grammar import MOST_SERVERS
 from hsp.base.numbers import some
 from hsp.base.paths import shell_word
 from hsp.base.programs import Desk, run
@@ -238,7 +239,7 @@ def site_record(question: Question, said: Said) -> Explained:
         ),
         "TooManyServers": Words(
             "all sites together have more servers than hsplan takes",
-            "plan in parts; 1,024 servers are the limit",
+            f"plan in parts; {MOST_SERVERS:,} servers are the limit",
             "a very large service",
         ),
     }[said.word]

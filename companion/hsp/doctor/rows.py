@@ -10,12 +10,6 @@ from typing import NamedTuple
 
 from hsp.doctor.findings import Place, Text
 
-HEADERS = {
-    "demand": ["region", "handle", "count"],
-    "costs": ["region", "site", "cost"],
-    "capacity": ["site", "server_id", "capacity"],
-}
-
 
 class Row(NamedTuple):
     """A row: the lines that it stands in, and its fields."""

@@ -9,15 +9,14 @@ from collections.abc import Iterator
 from dataclasses import replace
 from typing import Any
 
+from hsp.base.grammar import GREATEST_ID, GREATEST_LIMIT, MOST_HOSTS, MOST_SITES
 from hsp.base.paths import shell_word
 from hsp.base.spelling import near
 from hsp.doctor.findings import Place, Words, found, quoted
 from hsp.doctor.question import Question, Said
 from hsp.doctor.rows import table_of
-from hsp.doctor.table_faults import Explained, slug
+from hsp.doctor.table_faults import NAME_RULE, Explained, slug
 from hsp.doctor.toml_places import KEYS, blocks, data_of, head_of, listed_in, value_of
-
-NAMES = "a name has only ASCII letters, digits, '-', '_' and '.', and at most 64 of them"
 
 
 def place_in(question: Question, kind: str, number: int, key: str) -> Place:
@@ -180,7 +179,7 @@ def _source_words(name: str, site: dict[str, Any], folder: str) -> Words:
         return Words(f"the record of '{name}' isn't hexadecimal digits", advised.remedy, advised.why)
     if record is not None:
         return Words(f"the record of '{name}' isn't a text", "put quotes about the digits", "a record is a text")
-    why = "an index is a whole number up to 4,294,967,295, without quotes"
+    why = f"an index is a whole number up to {GREATEST_ID:,}, without quotes"
     return Words(
         f"the index of '{name}' isn't a whole number from 0 on",
         "write the index of the site's value, as index = 3",
@@ -250,7 +249,7 @@ def _bad_site_name(question: Question, said: Said, number: int, name: object) ->
         words = Words("the name of a site isn't a text", f'write name = "{name}"', "a name stands in quotes")
     else:
         remedy = as_used or (f'write name = "{plain}"' if plain else 'write a name, as name = "paris"')
-        words = Words(f"{quoted(name)} isn't the name of a site", remedy, NAMES)
+        words = Words(f"{quoted(name)} isn't the name of a site", remedy, NAME_RULE)
     place = place_in(question, "site", number, "name")
     own = blocks(text, "site")
     ways: list[Question | None] = []
@@ -330,9 +329,13 @@ def _host_words(host: dict[str, Any]) -> tuple[str, Words, str]:
         return "limit", Words("a host without a limit", remedy, has), ""
     digits = re.sub(r"[^0-9]", "", str(limit).split(".")[0])
     is_plain = digits and len(digits) < 12 and not str(limit).startswith("-")
-    remedy = f"write limit = {digits}" if is_plain else "write a whole number from 0 to 1000000000000"
+    remedy = f"write limit = {digits}" if is_plain else f"write a whole number from 0 to {GREATEST_LIMIT}"
     message = f"the limit {quoted(str(limit))} isn't a whole number within its bounds"
-    return "limit", Words(message, remedy, "a limit has only digits, without quotes, up to 10^12"), "1000000"
+    return (
+        "limit",
+        Words(message, remedy, f"a limit has only digits, without quotes, up to 10^{len(str(GREATEST_LIMIT)) - 1}"),
+        "1000000",
+    )
 
 
 def bad_host(question: Question, said: Said) -> Explained:
@@ -371,7 +374,7 @@ def too_many_blocks(question: Question, said: Said) -> Explained:
     kind = "site" if said.word == "TooManySites" else "host"
     text = question.text("settings")
     own = blocks(text, kind)
-    most = 32 if kind == "site" else 1024
+    most = MOST_SITES if kind == "site" else MOST_HOSTS
     remedy = (
         "plan in parts, each with the regions that use its sites"
         if kind == "site"

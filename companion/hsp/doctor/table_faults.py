@@ -9,6 +9,7 @@ from dataclasses import replace
 from typing import NamedTuple
 from urllib.parse import unquote
 
+from hsp.base.grammar import HEADERS, LONGEST_HANDLE, LONGEST_NAME, NAME_SIGNS
 from hsp.base.numbers import listed, some
 from hsp.base.paths import shell_word
 from hsp.base.programs import run
@@ -16,7 +17,9 @@ from hsp.base.spelling import near
 from hsp.doctor.findings import Finding, Place, Words, found, quoted
 from hsp.doctor.numbers_advice import QUOTES, advice
 from hsp.doctor.question import Question, Said
-from hsp.doctor.rows import HEADERS, Row, joined, spans_of, table_of
+from hsp.doctor.rows import Row, joined, spans_of, table_of
+
+NAME_RULE = f"a name has only ASCII letters, digits, '-', '_' and '.', and at most {LONGEST_NAME} of them"
 
 
 class Explained(NamedTuple):
@@ -70,7 +73,7 @@ def spot_of(question: Question, kind: str, number: int) -> Spot | None:
     row = rows[number]
     line = draft.number(row.first)
     original = table_of(draft.original)
-    header = HEADERS.get(kind) or table_of(draft.text).header
+    header = HEADERS[kind].split(",") if kind in HEADERS else table_of(draft.text).header
     return Spot(question, kind, row, original.at_line(line) or Row(line, line, row.fields), header)
 
 
@@ -123,7 +126,7 @@ def bad_number(spot: Spot, said: str) -> Explained:
 def slug(name: str) -> str:
     """A name that is like another, of letters, digits, hyphen, underscore and point."""
     plain = unicodedata.normalize("NFKD", name).encode("ascii", "ignore").decode().strip()
-    return re.sub(r"[^A-Za-z0-9_.-]+", "-", plain).strip("-")[:64]
+    return re.sub(f"[^{NAME_SIGNS}]+", "-", plain).strip("-")[:LONGEST_NAME]
 
 
 def bad_name(spot: Spot, said: str) -> Explained:
@@ -138,15 +141,15 @@ def bad_name(spot: Spot, said: str) -> Explained:
         return Explained(found(spot.path, spot.line(), words, said), [spot.without()])
     known = [it for it in table_of(spot.question.text(spot.kind)).column(name) if it and slug(it) == it]
     meant = near(field, set(known), 0.8) or slug(field) or ("eu" if name == "region" else "paris")
-    why, remedy = "a name has only ASCII letters, digits, '-', '_' and '.', and at most 64 of them", f"write {meant}"
+    why, remedy = NAME_RULE, f"write {meant}"
     if not field:
         why, remedy = f"the {name} is empty", f"write the name of the {name}, as {known[0] if known else meant}"
     elif field.strip() == meant and field != meant:
         why = "a blank beside the name"
     elif field.strip(QUOTES) == meant and field != meant:
         why = "other quotes than those of a table"
-    elif len(field) > 64:
-        why = f"{len(field)} letters; a name has at most 64"
+    elif len(field) > LONGEST_NAME:
+        why = f"{len(field)} letters; a name has at most {LONGEST_NAME}"
     elif "/" in field:
         why, remedy = "this looks like a handle", f"put the columns in the order {','.join(spot.header)}"
     kind = f"BadName {name} /" if "/" in field else f"BadName {name} {field}"
@@ -167,7 +170,7 @@ def handle_words(handle: str, detail: str, path: str) -> Words:
         )
     if detail == "TooLong":
         size = len(handle.encode("utf-8", "surrogateescape"))
-        why = f"{size:,} octets; a handle has at most 4,096"
+        why = f"{size:,} octets; a handle has at most {LONGEST_HANDLE:,}"
         return Words(
             f"{quoted(handle, 30)} is too long", "put the handle here: an open quote may join lines", why, kind=kind
         )

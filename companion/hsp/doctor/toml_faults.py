@@ -9,6 +9,7 @@ from collections.abc import Iterator
 from dataclasses import replace
 from typing import NamedTuple
 
+from hsp.base.grammar import HEADERS
 from hsp.base.paths import shell_word
 from hsp.base.spelling import near
 from hsp.doctor.findings import Place, Text, Words, encoded, found
@@ -145,7 +146,7 @@ def _line_slip(text: Text, number: int) -> Slip:
     bare, whole = text.line(number).strip(), text.whole(number)
     if bare.startswith(("{", "}", '"')) and number <= 2:
         return Slip("this is JSON, not TOML", "hsp sites makes the blocks from a proxy's JSON", "", whole)
-    if bare in ("region,handle,count", "region,site,cost", "site,server_id,capacity"):
+    if bare in HEADERS.values():
         return Slip("this is a table, not settings", "give the right file for --settings", "", whole)
     if bare.startswith(("//", ";", "--", "%")):
         remedy = f"write # {bare.lstrip('/;-% ')}"[:60]

@@ -5,14 +5,25 @@ from __future__ import annotations
 from collections.abc import Iterator
 from dataclasses import replace
 
-from hsp.base.grammar import FILES, FORMS, KINDS, Form, shown
+from hsp.base.grammar import (
+    COMMANDS,
+    FILES,
+    GREATEST_ID,
+    GREATEST_UNIT,
+    LONGEST_HANDLE,
+    MOST_FRONTS,
+    MOST_SERVERS,
+    VALUES,
+    Command,
+)
 from hsp.base.paths import shell_word
 from hsp.base.spelling import near
-from hsp.doctor.commands import Line, Option, Word, split
+from hsp.doctor.commands import Line, Option, Word, shown, split
 from hsp.doctor.findings import Finding, Place, Words, found, quoted
 from hsp.doctor.question import Said
 
 USAGE = "Usage"
+KINDS = VALUES["kind"].split("|")
 VERSION = ("-V", "--version", "version", "-v")
 HELP = ("-h", "--help", "help", *VERSION)
 # The commands of hsp that take a folder, and ask the doctor first.
@@ -29,17 +40,17 @@ def at_word(line: Line, word: Word | None, words: Words) -> Finding:
 def command_fault(line: Line) -> Finding | None:
     """A command that isn't there, or is another program's."""
     if not line.words:
-        which = [it for it, form in FORMS.items() if form.program == line.program]
+        which = [it for it, form in COMMANDS.items() if form.program == line.program]
         return at_word(line, None, Words("no command", f"write one of {', '.join(which)} behind {line.program}", ""))
     command, first = line.command, line.words[0]
     if command in HELP and line.program == "hsplan":
         remedy = "hsplan-stream --version prints it" if command in VERSION else "man hsplan is its help"
         return at_word(line, first, Words(f"hsplan has no {command}", remedy, "it takes commands only"))
-    own = [it for it, form in FORMS.items() if form.program == line.program]
+    own = [it for it, form in COMMANDS.items() if form.program == line.program]
     if command in own:
         return None
-    if command in FORMS:
-        other = FORMS[command].program
+    if command in COMMANDS:
+        other = COMMANDS[command].program
         return at_word(
             line,
             first,
@@ -60,8 +71,8 @@ def command_fault(line: Line) -> Finding | None:
         return at_word(line, first, words)
     if command == "hsp":
         return at_word(line, first, _of_companion(line))
-    meant = near(command, own, 0.6) or near(command, FORMS, 0.6)
-    remedy = f"write {meant}" if meant in own else f"write {FORMS[meant].program} {meant}" if meant else ""
+    meant = near(command, own, 0.6) or near(command, COMMANDS, 0.6)
+    remedy = f"write {meant}" if meant in own else f"write {COMMANDS[meant].program} {meant}" if meant else ""
     remedy = remedy or f"write one of {', '.join(own)}"
     return at_word(
         line, first, Words(f"no command {quoted(command)}", remedy, "", f"did you mean {meant}?" if meant else "")
@@ -83,17 +94,17 @@ def _of_companion(line: Line) -> Words:
     )
 
 
-def meant_by(name: str, form: Form, taken: set[str]) -> str:
+def meant_by(name: str, form: Command, taken: set[str]) -> str:
     """The option that a misspelt one likely is: a near one, or the only one that begins so."""
     free = [it for it in form.options if it not in taken] or form.options
     start = [it for it in free if name and it.startswith(name)]
     return near(name, free, 0.6) or (start[0] if len(start) == 1 else "")
 
 
-def _unknown_option(line: Line, form: Form, option: Option, taken: set[str]) -> Finding:
+def _unknown_option(line: Line, form: Command, option: Option, taken: set[str]) -> Finding:
     command = line.command
     meant = meant_by(option.name, form, taken)
-    elsewhere = [it for it, other in FORMS.items() if option.name in other.options]
+    elsewhere = [it for it, other in COMMANDS.items() if option.name in other.options]
     if option.name in ("h", "help"):
         words = Words(
             f"{command} has no {option.word.text}", f"man {form.program} is its help", "it takes files only"
@@ -113,7 +124,7 @@ def _unknown_option(line: Line, form: Form, option: Option, taken: set[str]) -> 
     return at_word(line, option.word, words)
 
 
-def _option_faults(line: Line, form: Form, options: list[Option]) -> Iterator[Finding]:
+def _option_faults(line: Line, form: Command, options: list[Option]) -> Iterator[Finding]:
     seen: dict[str, Option] = {}
     right = {it.name for it in options if it.name in form.options}
     for it in options:
@@ -151,7 +162,7 @@ def _option_faults(line: Line, form: Form, options: list[Option]) -> Iterator[Fi
         seen.setdefault(it.name, it)
 
 
-def _missing(line: Line, form: Form, options: list[Option]) -> Iterator[Finding]:
+def _missing(line: Line, form: Command, options: list[Option]) -> Iterator[Finding]:
     """Options that a command needs and the line lacks, but for those that are misspelt in it."""
     names = {it.name for it in options}
     misspelt = [meant_by(it.name, form, names) for it in options if it.name not in form.options]
@@ -184,7 +195,7 @@ def _missing(line: Line, form: Form, options: list[Option]) -> Iterator[Finding]
 
 
 def _locate(line: Line, names: set[str]) -> Iterator[Finding]:
-    forms = "locate --settings FILE HANDLE, or locate --option na|local|handle --servers N HANDLE"
+    forms = f"locate --settings FILE HANDLE, or locate --option {VALUES['option']} --servers N HANDLE"
     if "settings" in names and names & {"option", "servers"}:
         yield at_word(
             line,
@@ -208,7 +219,7 @@ def _locate(line: Line, names: set[str]) -> Iterator[Finding]:
             )
 
 
-def _other_words(line: Line, form: Form, options: list[Option], others: list[Word]) -> Iterator[Finding]:
+def _other_words(line: Line, form: Command, options: list[Option], others: list[Word]) -> Iterator[Finding]:
     """Words that belong to no option: the last word of some commands, and no other."""
     wanted = 1 if form.last else 0
     if len(others) < wanted:
@@ -244,7 +255,7 @@ def usage(line: Line) -> list[Finding]:
     wrong = command_fault(line)
     if wrong:
         return [wrong]
-    form = FORMS[line.command]
+    form = COMMANDS[line.command]
     options, others = split(line)
     faults = list(_option_faults(line, form, options))
     faults += _other_words(line, form, options, others)
@@ -262,7 +273,7 @@ def usage(line: Line) -> list[Finding]:
 
 def not_utf8(line: Line, word: Word) -> Finding:
     """A word that hsplan doesn't take, since it isn't UTF-8."""
-    is_handle = FORMS[line.command].last == "handle" and word in split(line)[1]
+    is_handle = COMMANDS[line.command].last == "handle" and word in split(line)[1]
     remedy = "write it in UTF-8: iconv -f latin1 -t utf-8" if is_handle else "rename the file, or go into its folder"
     return at_word(line, word, Words(f"{quoted(word.text)} isn't UTF-8", remedy, "hsplan takes words in UTF-8"))
 
@@ -272,10 +283,10 @@ def value_fault(line: Line, word: str) -> Finding:
     `BadFront`."""
     advised = {
         "BadOption": ("option", "write na, local or handle"),
-        "BadServers": ("servers", "write the number of the site's servers, 1 to 1024"),
-        "BadIndex": ("index", "write the index of the value, a whole number up to 4294967295"),
-        "BadFronts": ("fronts", "write how many dispatchers there are, 1 to 64"),
-        "BadUnit": ("unit", "write a whole number from 1 to 1000000, as 1000"),
+        "BadServers": ("servers", f"write the number of the site's servers, 1 to {MOST_SERVERS}"),
+        "BadIndex": ("index", f"write the index of the value, a whole number up to {GREATEST_ID}"),
+        "BadFronts": ("fronts", f"write how many dispatchers there are, 1 to {MOST_FRONTS}"),
+        "BadUnit": ("unit", f"write a whole number from 1 to {GREATEST_UNIT}, as 1000"),
         "BadFront": ("front", "write a number below that of --fronts: the first front is 0"),
     }
     name, remedy = advised[word]
@@ -312,7 +323,7 @@ def bad_handle_word(line: Line, said: Said) -> Finding:
         "NoSlash": ("a handle is a prefix, '/' and a suffix", "write it whole, as 20.500.1234/report-2024"),
         "EmptySegment": ("the prefix has an empty part", "write the prefix without a point at its ends or twice"),
         "NotUtf8": ("its octets aren't UTF-8", "write it in UTF-8: iconv -f latin1 -t utf-8"),
-        "TooLong": ("a handle has at most 4,096 octets", "is this a handle?"),
+        "TooLong": (f"a handle has at most {LONGEST_HANDLE:,} octets", "is this a handle?"),
     }
     why, remedy = advised.get(said.word, ("it isn't a handle", "write prefix, '/', suffix"))
     others = split(line)[1]

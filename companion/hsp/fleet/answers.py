@@ -13,12 +13,13 @@ from collections.abc import Iterator
 from typing import IO, Any
 
 from hsp.base.files import created
+from hsp.base.grammar import LOG_HEADERS
 from hsp.base.programs import program
 from hsp.base.unfit import Unfit
 from hsp.intake import logs
 
-HEADER = b"region,handle"
-OF_ALL = b"front,region,handle"
+HEADER = LOG_HEADERS["dispatch"][0].encode()
+OF_ALL = LOG_HEADERS["fronts"][0].encode()
 FILES = ("settings", "values", "demand", "costs", "capacity", "plan")
 SUMS = ("assigned", "spent", "unknown", "nofront", "refused")
 BLOCK = 1 << 22
@@ -65,14 +66,14 @@ def rows_of_front(path: str, front: bytes) -> Iterator[tuple[bytes, int]]:
             is_first = False
             head, _, block = block.partition(b"\n")
             if head.rstrip(b"\r") != HEADER:
-                raise Unfit(f"{path}: line 1: the header isn't region,handle")
+                raise Unfit(f"{path}: line 1: the header isn't {HEADER.decode()}")
         if b"\r" in block or b"\n\n" in block or block[:1] == b"\n":
             block = b"".join(it for it in io.BytesIO(block) if _is_row(it))
         if block:
             rows = front + block[:-1].replace(b"\n", b"\n" + front) + b"\n" if front else block
             yield rows, block.count(b"\n")
     if is_first:
-        raise Unfit(f"{path}: line 1: the header isn't region,handle")
+        raise Unfit(f"{path}: line 1: the header isn't {HEADER.decode()}")
 
 
 def line_of_row(path: str, row: int) -> int:

@@ -14,6 +14,7 @@ from typing import Any
 import click
 
 from hsp.base.files import refuse_clashes
+from hsp.base.grammar import GREATEST_UNIT, MOST_FRONTS
 from hsp.base.numbers import listed, some
 from hsp.base.paths import path_in, shell_word
 from hsp.base.programs import Desk, Inputs, Missing
@@ -166,12 +167,14 @@ def of_these_files(folder: str, desk: Desk, inputs: Inputs, plan: str) -> None:
 @click.command()
 @click.argument("folder", metavar="DIR", type=FOLDER)
 @click.argument("logs", metavar="[FRONT[@HOST]=]LOG..", nargs=-1, required=True)
-@click.option("--fronts", type=click.IntRange(1, 64), required=True, metavar="N", help="how many fronts the plan has")
+@click.option(
+    "--fronts", type=click.IntRange(1, MOST_FRONTS), required=True, metavar="N", help="how many fronts the plan has"
+)
 @click.option("--plan", metavar="FILE", help="the certificate, in place of DIR/plan.txt")
 @click.option("--any-handle", is_flag=True, help="answer by hsplan-stream: any handle, and logs of any length")
 @click.option(
     "--unit",
-    type=click.IntRange(1, 1_000_000),
+    type=click.IntRange(1, GREATEST_UNIT),
     metavar="N",
     help="of the demand, with --any-handle; that of hsp.toml",
 )

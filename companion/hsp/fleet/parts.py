@@ -12,6 +12,7 @@ from typing import Any
 
 from hsp.base.bounds import Query, pieces
 from hsp.base.files import created
+from hsp.base.grammar import LOG_HEAD
 from hsp.base.programs import Desk, Inputs, Missing, Refused
 from hsp.base.unfit import Unfit
 from hsp.fleet import answers
@@ -21,7 +22,6 @@ from hsp.intake.queries import Judge, Reading, field_of, queries
 from hsp.intake.regions import regions_in
 from hsp.intake.times import Span
 
-LOG_HEADER = b"region,handle\n"
 Request = dict[str, Any]
 Reply = dict[str, Any]
 
@@ -57,7 +57,7 @@ def count(request: Request) -> Reply:
     kept = created(request["staged"][0]) if request["staged"] else None
     try:
         if kept:
-            kept.write(LOG_HEADER)
+            kept.write(LOG_HEAD)
         for chunk in pieces(queries(request["log"], reading)):
             asked += len(chunk)
             of_chunk: Counter[Query] = Counter(chunk)

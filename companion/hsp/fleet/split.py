@@ -6,10 +6,9 @@ import io
 import os
 
 from hsp.base.files import growing
+from hsp.base.grammar import MOST_LOG_ROWS
 from hsp.base.unfit import Unfit
 from hsp.fleet.answers import HEADER, OF_ALL, blocks
-
-MOST_ROWS = 10_000_000
 
 
 class Parted:
@@ -33,7 +32,7 @@ class Parted:
                     head, _, block = block.partition(b"\n")
                     is_first = False
                     if head.rstrip(b"\r") != OF_ALL:
-                        raise Unfit(f"{path}: line 1: the header isn't front,region,handle; name a front: 0={path}")
+                        raise Unfit(f"{path}: line 1: the header isn't {OF_ALL.decode()}; name a front: 0={path}")
                 rows = self._rows(block)
                 if rows is None:
                     self.is_plain = False
@@ -44,7 +43,7 @@ class Parted:
             for it in files:
                 it.close()
         if is_first:
-            raise Unfit(f"{path}: line 1: the header isn't front,region,handle")
+            raise Unfit(f"{path}: line 1: the header isn't {OF_ALL.decode()}")
 
     def _rows(self, block: bytes) -> list[list[bytes]] | None:
         """The rows of each front in a block of lines, or none where they aren't plain."""
@@ -60,9 +59,9 @@ class Parted:
                 return None
             rows[at].append(rest)
             self.order.append(at)
-        if len(self.order) > MOST_ROWS:
+        if len(self.order) > MOST_LOG_ROWS:
             raise Unfit(
-                f"{self.path}: more than {MOST_ROWS:,} rows. Let each front write a file of its own, region,handle, "
+                f"{self.path}: more than {MOST_LOG_ROWS:,} rows. Let each front write a file of its own, {HEADER.decode()}, "
                 "and give them as 0=FILE 1=FILE .."
             )
         return rows

@@ -11,10 +11,11 @@ from collections.abc import Iterable
 from dataclasses import dataclass, field
 
 from hsp.base.bounds import MOST_HELD, Query, weight
+from hsp.base.grammar import MOST_DEMAND_ROWS
 from hsp.base.programs import Desk, Inputs, Refused
 from hsp.base.unfit import Unfit
 from hsp.intake.logs import Skipped
-from hsp.intake.tally import HEADER, MOST_ROWS, advice, rows_of
+from hsp.intake.tally import HEADER, advice, rows_of
 
 # So many pairs are counted in memory, before they are joined.
 MOST_PAIRS = 1 << 19
@@ -72,7 +73,7 @@ class Table:
         """Joins the pairs of one kind."""
         if not self.inputs:
             raise Unfit(
-                f"more than {MOST_ROWS:,} rows of demand, which is what hsplan takes. "
+                f"more than {MOST_DEMAND_ROWS:,} rows of demand, which is what hsplan takes. "
                 "Give --into DIR with settings.toml and costs.csv, so that rows of one kind are joined"
             )
         try:
@@ -83,7 +84,7 @@ class Table:
 
     def said(self) -> dict[str, object]:
         """The table as a part returns it, short enough to be passed on."""
-        if len(self.counts) > MOST_ROWS:
+        if len(self.counts) > MOST_DEMAND_ROWS:
             self.join()
         text = HEADER + b"".join(rows_of(self.counts.items()))
         return {"table": text.decode(), "is_joined": self.is_joined}

@@ -13,6 +13,7 @@ import click
 
 from hsp.base.bounds import whole
 from hsp.base.files import create, locked, refuse_clashes, replace_all, together
+from hsp.base.grammar import GREATEST_CAPACITY, GREATEST_UNIT, LOG_HEAD
 from hsp.base.numbers import listed, some
 from hsp.base.paths import path_in, shell_word
 from hsp.base.programs import Desk, Inputs
@@ -35,7 +36,6 @@ from hsp.plans.service import NAMES, VALUES
 
 FOLDER = click.Path(exists=True, file_okay=False)
 FILE = click.Path(exists=True, dir_okay=False)
-LOG_HEADER = b"region,handle\n"
 Command = TypeVar("Command", bound=Callable[..., Any])
 
 
@@ -92,7 +92,7 @@ def gathered(paths: tuple[str, ...], names: tuple[str, ...], files: Files) -> li
 @click.option("--into", metavar="DIR", type=FOLDER, help="the folder that they are added to")
 @click.option("--name", "names", metavar="NAME", multiple=True, help="of the first site, the second, and so on")
 @click.option(
-    "--capacity", default=0, show_default=True, type=click.IntRange(0, 1_000_000_000), help="of each server"
+    "--capacity", default=0, show_default=True, type=click.IntRange(0, GREATEST_CAPACITY), help="of each server"
 )
 def sites(paths: tuple[str, ...], into: str | None, names: tuple[str, ...], capacity: int) -> None:
     """Turns site information into the settings of a service.
@@ -229,7 +229,7 @@ def twice(paths: Sequence[str]) -> list[str]:
 def counted(logs: tuple[str, ...], reading: Reading, tally: Tally, into: Any) -> None:
     """Counts the queries of all logs. Writes them into a file, too, where one is given."""
     if into:
-        into.write(LOG_HEADER)
+        into.write(LOG_HEAD)
     for path in logs:
         for chunk in tally.add(queries(path, reading)):
             if into:
@@ -310,7 +310,7 @@ FORM_OPTIONS = [
     click.option("--elsewhere", metavar="REGION", help="of clients that have no region"),
     click.option("--by", metavar="FIELD", default="continent.code", show_default=True, help="of a MaxMind database"),
     click.option(
-        "--unit", type=click.IntRange(1, 1_000_000), metavar="N", help="count in units of N queries, rounded up"
+        "--unit", type=click.IntRange(1, GREATEST_UNIT), metavar="N", help="count in units of N queries, rounded up"
     ),
     click.option("--settings", type=FILE, metavar="FILE", help="the sites, in place of DIR's"),
     click.option("--values", type=FILE, metavar="FILE", help="a value list, in place of DIR's"),

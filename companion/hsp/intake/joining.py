@@ -11,6 +11,7 @@ import tomllib
 from dataclasses import dataclass, field
 
 from hsp.base.bounds import whole
+from hsp.base.grammar import HEADERS
 from hsp.base.numbers import listed, some
 from hsp.base.paths import path_in
 from hsp.base.programs import Desk, Inputs, Refused, table_of
@@ -19,7 +20,7 @@ from hsp.intake.records import OPTIONS
 from hsp.intake.sitefiles import Found, tidy
 from hsp.plans.service import NAMES, VALUES, dotted, sites_of
 
-CAPACITY_HEAD = "site,server_id,capacity"
+CAPACITY_HEAD = HEADERS["capacity"]
 
 
 def block(found: Found) -> str:

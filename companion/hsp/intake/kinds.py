@@ -7,10 +7,11 @@ import math
 from collections import defaultdict
 from collections.abc import Iterable, Mapping
 
+from hsp.base.grammar import MOST_DEMAND_ROWS
 from hsp.plans.service import Site
 
 # The most kinds of a demand, which are its rows.
-MOST_KINDS = 8192
+MOST_KINDS = MOST_DEMAND_ROWS
 # The sites that each region may use, with what a query costs there.
 Costs = Mapping[str, Mapping[str, int]]
 

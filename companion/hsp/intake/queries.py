@@ -11,6 +11,7 @@ from collections.abc import Callable, Iterable, Iterator
 from dataclasses import dataclass, field, replace
 
 from hsp.base.bounds import Query
+from hsp.base.grammar import LOG_HEAD
 from hsp.base.programs import Desk
 from hsp.base.unfit import Unfit
 from hsp.intake.forms import NAMES, ODD, Clock, Form, Odd, Remembered, Take, likeliest
@@ -53,7 +54,7 @@ class Judge:
             self._octets = 0
         fresh = list(asked - self._known)
         if fresh:
-            log = b"region,handle\n" + b"".join(b"any,%b\n" % field_of(it) for it in fresh)
+            log = LOG_HEAD + b"".join(b"any,%b\n" % field_of(it) for it in fresh)
             for handle, answer in zip(fresh, self._desk.answers_without_sites(log, len(fresh))):
                 if answer.startswith(REFUSED):
                     why = answer.removeprefix(REFUSED).removeprefix(BAD_HANDLE)

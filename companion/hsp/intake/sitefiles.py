@@ -14,6 +14,7 @@ from collections.abc import Iterator
 from dataclasses import dataclass
 from typing import Any
 
+from hsp.base.grammar import NAME_SIGNS
 from hsp.base.programs import Desk, Refused
 from hsp.base.unfit import Unfit, shown
 from hsp.intake.records import counted
@@ -218,7 +219,7 @@ class Files:
 
 
 def tidy(name: str) -> str:
-    return re.sub(r"[^A-Za-z0-9_.-]+", "-", name).strip("-.").lower()[:56].rstrip("-.")
+    return re.sub(f"[^{NAME_SIGNS}]+", "-", name).strip("-.").lower()[:56].rstrip("-.")
 
 
 def stem(path: str) -> str:

@@ -6,13 +6,13 @@ import ipaddress
 from collections.abc import Sequence
 from importlib.resources import files
 
+from hsp.base.grammar import HEADERS
 from hsp.base.programs import table_of
 from hsp.intake.records import Interface, ServerRecord, SiteRecord
 from hsp.plans.marks import TITLES
 from hsp.plans.service import NAMES
 
 README = "README.txt"
-HEADERS = {"demand": "region,handle,count", "costs": "region,site,cost", "capacity": "site,server_id,capacity"}
 PORT, BOTH = 2641, 3
 
 # How the text begins that goes with the example.

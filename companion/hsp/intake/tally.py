@@ -12,22 +12,20 @@ from collections import Counter
 from collections.abc import Callable, Iterable, Iterator
 
 from hsp.base.bounds import MOST_HELD, Query, pieces, weight
+from hsp.base.grammar import GREATEST_COUNT, GREATEST_UNIT, HEADERS, MOST_DEMAND_ROWS, MOST_REGIONS
 from hsp.base.numbers import listed, some
 from hsp.base.programs import Desk, Inputs, Refused
 from hsp.base.unfit import Unfit
-from hsp.intake.kinds import MOST_KINDS
 from hsp.intake.outlook import too_many
 from hsp.intake.prefixes import Prefixes
 from hsp.intake.queries import field_of
 from hsp.intake.regions import NAME_RULE
-from hsp.plans.marks import MOST_UNIT
 from hsp.plans.service import table
 
-HEADER = b"region,handle,count\n"
-MOST_ROWS, MOST_COUNT = MOST_KINDS, 1_000_000
+HEADER = f"{HEADERS['demand']}\n".encode()
 REMEDIES = {
     "BadName": NAME_RULE,
-    "TooManyRegions": "join networks to at most 64 regions",
+    "TooManyRegions": f"join networks to at most {MOST_REGIONS} regions",
 }
 # So many pairs are counted in memory, before they are put into a file.
 MOST_PAIRS = 1 << 20
@@ -71,7 +69,7 @@ class Tally:
             self._counts.update(chunk)
             self._octets += weight(itertools.islice(reversed(self._counts), len(self._counts) - before))
             self.asked += len(chunk)
-            if len(self._counts) > MOST_ROWS:
+            if len(self._counts) > MOST_DEMAND_ROWS:
                 self.regions.update({region for region, _ in chunk})
                 self._joinable()
             if len(self._counts) > self._most or self._octets > MOST_HELD:
@@ -99,8 +97,8 @@ class Tally:
         self.regions.update(region for region, _ in self._counts)
         self.handles = None if self._spilled else len({handle for _, handle in self._counts})
         rows = len(self._counts)
-        large = max(self._counts.values(), default=0) > MOST_COUNT
-        if not self._spilled and rows <= MOST_ROWS and not large and unit is None:
+        large = max(self._counts.values(), default=0) > GREATEST_COUNT
+        if not self._spilled and rows <= MOST_DEMAND_ROWS and not large and unit is None:
             self.prefixes.add(self._counts)
             text = HEADER + b"".join(rows_of(_most_first(self._counts)))
             self._accepted(text)
@@ -118,10 +116,10 @@ class Tally:
         """Rows are joined by the sites that their regions may use, so these have to be known."""
         if not inputs:
             rows = len(self._counts)
-            is_many = self._spilled or rows > MOST_ROWS
-            what = f"more than {MOST_ROWS:,} rows" if is_many else some(rows, "row")
+            is_many = self._spilled or rows > MOST_DEMAND_ROWS
+            what = f"more than {MOST_DEMAND_ROWS:,} rows" if is_many else some(rows, "row")
             raise Unfit(
-                f"{what} of demand; hsplan takes {MOST_ROWS:,}, with counts up to {MOST_COUNT:,}. "
+                f"{what} of demand; hsplan takes {MOST_DEMAND_ROWS:,}, with counts up to {GREATEST_COUNT:,}. "
                 "Give --into DIR with settings.toml and costs.csv, so that rows of one kind are joined"
             )
         lacking = self.without_costs(inputs)
@@ -161,8 +159,8 @@ def advice(fault: Refused, inputs: Inputs, desk: Desk) -> str:
     """What an operator does where rows can't be joined."""
     unit = re.search(r"CountTooLarge.* unit ([0-9]+)", fault.line)
     if unit:
-        fits = int(unit[1]) <= MOST_UNIT
+        fits = int(unit[1]) <= GREATEST_UNIT
         remedy = f"give --unit {unit[1]}" if fits else "no unit suffices: count the logs in parts"
-        return f"a row of the demand has more than {MOST_COUNT:,} queries; {remedy}"
+        return f"a row of the demand has more than {GREATEST_COUNT:,} queries; {remedy}"
     many = too_many(inputs, desk) if "TooManyKinds" in fault.line else ""
     return f"hsplan-stream can't join the rows: {fault.line}{'; ' + many if many else _remedy(fault)}"

@@ -10,6 +10,7 @@ from dataclasses import dataclass
 from typing import Any
 
 from hsp.base.bounds import whole
+from hsp.base.grammar import GREATEST_UNIT
 from hsp.base.paths import path_in
 from hsp.base.text import escaped
 from hsp.base.unfit import Unfit
@@ -17,7 +18,6 @@ from hsp.base.unfit import Unfit
 TITLES, TABLE = "hsp.toml", "demand"
 HANDLES, KINDS = "handles", "kinds"
 KEYS = ("rows", "log", "unit", "queries", "handles")
-MOST_UNIT = 1_000_000
 HEAD = re.compile(r"\s*\[\s*[\"']?demand[\"']?\s*\]\s*(#.*)?")
 # A text between quotes; and no more points stand beside such texts in a line, since long keys take long to be read.
 QUOTED = re.compile(r"\"(?:\\.|[^\"\\])*\"|'[^']*'")
@@ -65,8 +65,8 @@ def bad_keys(said: Any) -> list[BadKey]:
     found = []
     if said.get("rows", HANDLES) not in (HANDLES, KINDS):
         found.append(BadKey("rows", 'rows is neither "handles" nor "kinds"', f'write rows = "{KINDS}"'))
-    if not _is_whole(said.get("unit", 1), 1, MOST_UNIT):
-        message = f"unit is no whole number from 1 to {MOST_UNIT:,}"
+    if not _is_whole(said.get("unit", 1), 1, GREATEST_UNIT):
+        message = f"unit is no whole number from 1 to {GREATEST_UNIT:,}"
         found.append(BadKey("unit", message, "write how many queries a count of 1 stands for, as unit = 1000"))
     for key in ("queries", "handles"):
         if not _is_whole(said.get(key, 0), 0):

@@ -10,13 +10,13 @@ from collections.abc import Callable, Iterable, Sequence
 from dataclasses import dataclass, field, replace
 from fractions import Fraction
 
+from hsp.base.grammar import GREATEST_COST, HEADERS, MOST_SERVERS, MOST_SITES
 from hsp.base.numbers import some
 from hsp.base.programs import Bound, Certificate, Desk, Inputs, Missing
 from hsp.base.units import hosts_text, settings_text
 from hsp.plans.service import Row, Server, Service, dotted
 
 # The limits of hsplan within which a twin of each site can stand beside it.
-MOST_SITES, MOST_SERVERS, MOST_COST = 32, 1024, 1_000_000
 # At most so many full servers are asked what room there saves, those with the greatest prices.
 MOST_GAINS = 40
 
@@ -109,7 +109,7 @@ class Shortage:
 
 
 def capacity_file(desk: Desk, capacities: dict[tuple[str, int], int]) -> str:
-    return desk.put_table("site,server_id,capacity", ((site, at, room) for (site, at), room in capacities.items()))
+    return desk.put_table(HEADERS["capacity"], ((site, at, room) for (site, at), room in capacities.items()))
 
 
 def _shares(service: Service, certificate: Certificate) -> Shares:
@@ -215,7 +215,7 @@ def _twinned(service: Service, desk: Desk, cost: Callable[[int], int], dear: int
     room.update({(f"hsp-twin-{site}", at): service.boundless for site, at in service.capacities})
     inputs = service.inputs.but(
         settings=desk.put(sites + hosts_text(service.settings), ".toml"),
-        costs=desk.put_table("region,site,cost", rows),
+        costs=desk.put_table(HEADERS["costs"], rows),
         capacity=capacity_file(desk, room),
     )
     return desk.plan(inputs)[0]
@@ -225,10 +225,10 @@ def least_purchase(service: Service, desk: Desk) -> dict[Server, int] | None:
     """How much more room at which servers is the least that serves all, and of those a cheapest. None where that
     can't be planned: with more than 16 sites or 512 servers, with costs above 50,000, or where a machine is full."""
     dearest = max(service.costs.values(), default=0)
-    if 2 * len(service.sites) > MOST_SITES or 2 * len(service.servers) > MOST_SERVERS or dearest * 20 > MOST_COST:
+    if 2 * len(service.sites) > MOST_SITES or 2 * len(service.servers) > MOST_SERVERS or dearest * 20 > GREATEST_COST:
         return None
     least = _twinned(service, desk, lambda it: 0, 1)
-    best = _twinned(service, desk, lambda it: it, MOST_COST - dearest)
+    best = _twinned(service, desk, lambda it: it, GREATEST_COST - dearest)
     if not least.is_plan or not best.is_plan:
         return None
     bought: Counter[Server] = Counter()

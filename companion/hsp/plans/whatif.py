@@ -7,6 +7,7 @@ import io
 from collections.abc import Callable, Iterable, Iterator
 from dataclasses import dataclass
 
+from hsp.base.grammar import HEADERS
 from hsp.base.numbers import average, listed, queries_of, signed
 from hsp.base.programs import Desk, Missing
 from hsp.base.spelling import near
@@ -55,14 +56,14 @@ class Changes:
     def without(self, site: str) -> Case:
         """No region may use the site."""
         costs = ((region, name, cost) for (region, name), cost in self.service.costs.items() if name != site)
-        return self.planned(LOST, site, costs=self.desk.put_table("region,site,cost", costs))
+        return self.planned(LOST, site, costs=self.desk.put_table(HEADERS["costs"], costs))
 
     def with_demand(self, percent: float) -> Case:
         """Each row asks for more queries, rounded up to units."""
         unit = self.service.unit
         rows = ((it.region, it.handle, -int(-it.count * (100 + percent) // (100 * unit))) for it in self.service.rows)
         what = f"{percent:g}% more demand"
-        return self.planned(DEMAND, what, demand=self.desk.put_table("region,handle,count", rows))
+        return self.planned(DEMAND, what, demand=self.desk.put_table(HEADERS["demand"], rows))
 
 
 def full_servers(service: Service) -> list[Server]:

@@ -38,12 +38,15 @@ first_line l ls x = append_assoc l (10 ∷ unlines ls) x
 abbrev pub GoesOn : List (List ℕ) → List (List ℕ) → List ℕ → List ℕ → Type 0
 GoesOn ls ms x y = (more : List (List ℕ)) × (ms ≡ ls ++ more) × (x ≡ unlines more ++ y)
 
-pub fronts : (ls ms : List (List ℕ)) (x y : List ℕ) → AllByRecursion Unbroken ls → AllByRecursion Unbroken ms → unlines ls ++ x ≡ unlines ms ++ y → GoesOn ls ms x y ⊎ GoesOn ms ls y x
+pub fronts : (ls ms : List (List ℕ)) (x y : List ℕ) → AllByRecursion Unbroken ls → AllByRecursion Unbroken ms
+    → unlines ls ++ x ≡ unlines ms ++ y → GoesOn ls ms x y ⊎ GoesOn ms ls y x
 fronts [] ms x y hl hm e = inl (ms, refl, e)
 fronts (l ∷ ls) [] x y hl hm e = inr (l ∷ ls, refl, sym e)
 fronts (l ∷ ls) (m ∷ ms) x y hl hm e =
-    let r = same_line l m (unlines ls ++ x) (unlines ms ++ y) hl.0 hm.0 (sym (first_line l ls x) ∙ e ∙ first_line m ms y) in
+    let r =
+    same_line l m (unlines ls ++ x) (unlines ms ++ y) hl.0 hm.0 (sym (first_line l ls x) ∙ e ∙ first_line m ms y) in
     elim (fronts ls ms x y hl.1 hm.1 r.1) [
-      | inl (more, on, rest) ↦ inl (more, ap (λ (k : List ℕ). k ∷ ms) (sym r.0) ∙ ap (λ (k : List (List ℕ)). l ∷ k) on, rest)
+      | inl (more, on, rest) ↦
+          inl (more, ap (λ (k : List ℕ). k ∷ ms) (sym r.0) ∙ ap (λ (k : List (List ℕ)). l ∷ k) on, rest)
       | inr (more, on, rest) ↦ inr (more, ap (λ (k : List ℕ). k ∷ ls) r.0 ∙ ap (λ (k : List (List ℕ)). m ∷ k) on, rest)
     ]

@@ -1,5 +1,6 @@
 -- The text as far as it was read.
-use Rattle.std.proofs.Common.{◌≡◌, ◌<◌, ◌≤◌, ◌^◌, ◌+◌, ℕ, true, List, [], ◌∷◌, ◌++◌, length, map, Option, Some, None, refl, sym, ap, ◌∙◌, arith, append_assoc}
+use Rattle.std.proofs.Common.{◌≡◌, ◌<◌, ◌≤◌, ◌^◌, ◌+◌, ℕ, true, List, [], ◌∷◌, ◌++◌, length, map, Option, Some, None}
+use Rattle.std.proofs.Common.{refl, sym, ap, ◌∙◌, arith, append_assoc}
 use Rattle.std.specs.Prelude.{nat_le, decimal}
 use Rattle.std.specs.List.{AllByRecursion, list_all}
 use Rattle.std.proofs.lemmas.Bool.{and_parts}
@@ -21,6 +22,7 @@ use Rattle.hsp_cert.proofs.LineCuts.{Unbroken}
 use Rattle.hsp_cert.proofs.ReadItems.{Printed, printed_apart, word_printed, decimal_printed, Fits, reads_back}
 use Rattle.hsp_cert.proofs.WholeRuns.{run, run-append, run_so_far, run_whole, first_step, ended}
 use Rattle.hsp_cert.proofs.Standing.{draft_stands}
+use Rattle.hsp_text.proofs.Lists.{all_append}
 
 abbrev pub ReadsBack : Item → Type 0
 ReadsBack i = item_in (line_of i) ≡ Some i
@@ -33,10 +35,6 @@ item_is i j h = cc
 
 -- ---- the lines of a certificate say its items
 
-pub all_append : {A : Type 0} (P : A → Type 0) (xs ys : List A) → AllByRecursion P xs → AllByRecursion P ys → AllByRecursion P (xs ++ ys)
-all_append P [] ys h k = k
-all_append P (x ∷ xs) ys h k = (h.0, all_append P xs ys h.1 k)
-
 le_of : (a b : ℕ) → nat_le a b ≡ true → a ≤ b
 le_of a b h = grind (arith, nat_tests)
 
@@ -47,7 +45,8 @@ uses_fit : (us : List UseLine) → list_all is_use us ≡ true → AllByRecursio
 uses_fit [] h = tt
 uses_fit (u ∷ us) h = let a = and_parts (is_use u) (list_all is_use us) h in (use_fits u a.0, uses_fit us a.1)
 
-prices_fit : (w : Word) (n : ℕ) (ps : List ℕ) → n + length ps ≤ 8192 → list_all is_price ps ≡ true → AllByRecursion Fits (price_items w n ps)
+prices_fit : (w : Word) (n : ℕ) (ps : List ℕ) → n + length ps ≤ 8192 → list_all is_price ps ≡ true
+    → AllByRecursion Fits (price_items w n ps)
 prices_fit w n [] le h = tt
 prices_fit w n (p ∷ ps) le h =
     let a = and_parts (is_price p) (list_all is_price ps) h in
@@ -75,13 +74,17 @@ claim_fits (best b) h =
     let rows_do = prices_fit word.Row 0 b.row_prices (omega (arith, h.row_count)) h.row_prices in
     let servers_do = prices_fit word.Server 0 b.server_prices (omega (arith, h.server_count)) h.server_prices in
     let hosts_do = prices_fit word.Host 0 b.host_prices (omega (arith, h.host_count)) h.host_prices in
-    let body = all_append Fits (use_items b.uses) (rows ++ (servers ++ hosts)) (uses_fit b.uses h.uses) (all_append Fits rows (servers ++ hosts) rows_do (all_append Fits servers hosts servers_do hosts_do)) in
+    let body =
+    all_append Fits (use_items b.uses) (rows ++ (servers ++ hosts)) (uses_fit b.uses h.uses)
+    (all_append Fits rows (servers ++ hosts) rows_do (all_append Fits servers hosts servers_do hosts_do)) in
     (version_small b.host_prices, (tt, (omega arith, all_append Fits (body_items b) end body (tt, tt))))
 claim_fits (short s) h =
     let demand = h.demand in
     let capacity = h.capacity in
-    let end : List Item = item.Alone word.End ∷ [] in
-    (omega arith, (tt, (omega arith, (omega arith, all_append Fits (row_items s.rows) end (rows_fit s.rows h.rows) (tt, tt)))))
+    let end : List Item = item.Alone word.End ∷ [] in (
+      omega arith,
+      (tt, (omega arith, (omega arith, all_append Fits (row_items s.rows) end (rows_fit s.rows h.rows) (tt, tt)))),
+    )
 
 read_back : (is : List Item) → AllByRecursion Fits is → AllByRecursion ReadsBack is
 read_back [] h = tt
@@ -104,10 +107,13 @@ number_unbroken n h = unbroken (decimal n) (decimal_printed n h)
 line_unbroken : (i : Item) → Fits i → Unbroken (line_of i)
 line_unbroken (item.Alone w) h = unbroken (spelled w) (word_printed w)
 line_unbroken (item.One w a) h = spaced (spelled w) (decimal a) (word_printed w) (number_unbroken a h)
-line_unbroken (item.Two w a b) h = spaced (spelled w) (decimal a ++ 32 ∷ decimal b) (word_printed w) (spaced (decimal a) (decimal b) (decimal_printed a h.0) (number_unbroken b h.1))
+line_unbroken (item.Two w a b) h =
+    spaced (spelled w) (decimal a ++ 32 ∷ decimal b) (word_printed w)
+    (spaced (decimal a) (decimal b) (decimal_printed a h.0) (number_unbroken b h.1))
 line_unbroken (item.Three w a b c) h =
     spaced (spelled w) (decimal a ++ 32 ∷ (decimal b ++ 32 ∷ decimal c)) (word_printed w)
-    (spaced (decimal a) (decimal b ++ 32 ∷ decimal c) (decimal_printed a h.0) (spaced (decimal b) (decimal c) (decimal_printed b h.1) (number_unbroken c h.2)))
+    (spaced (decimal a) (decimal b ++ 32 ∷ decimal c) (decimal_printed a h.0)
+    (spaced (decimal b) (decimal c) (decimal_printed b h.1) (number_unbroken c h.2)))
 
 lines_unbroken : (is : List Item) → AllByRecursion Fits is → AllByRecursion Unbroken (map line_of is)
 lines_unbroken [] h = tt
@@ -119,7 +125,8 @@ claim_unbroken claim h = lines_unbroken (items_of claim) (claim_fits claim h)
 -- ---- lines that stand and lines that do not
 
 -- the items up to a line of a certificate are those that were read
-pub up_to : (xs is : List Item) (line : List ℕ) (more : List (List ℕ)) → AllByRecursion ReadsBack xs → AllByRecursion ReadsBack is → map line_of xs ≡ map line_of is ++ (line ∷ more) →
+pub up_to : (xs is : List Item) (line : List ℕ) (more : List (List ℕ)) → AllByRecursion ReadsBack xs
+    → AllByRecursion ReadsBack is → map line_of xs ≡ map line_of is ++ (line ∷ more) →
     (i : Item) × (zs : List Item) × (xs ≡ is ++ (i ∷ zs)) × (line_of i ≡ line) × ReadsBack i
 up_to [] [] line more hx hi e = absurd cc
 up_to [] (y ∷ is) line more hx hi e = absurd cc
@@ -136,11 +143,17 @@ map-lines [] ys = refl
 map-lines (x ∷ xs) ys = ap (λ (l : List (List ℕ)). line_of x ∷ l) (map-lines xs ys)
 
 -- a line that is not taken can't stand
-pub untaken : (is : List Item) (d : Drafted) (line : List ℕ) → AllByRecursion ReadsBack is → run (Some start) is ≡ Some d → step_line d line ≡ None → LinesStand (map line_of is ++ line ∷ []) → ⊥
+pub untaken : (is : List Item) (d : Drafted) (line : List ℕ) → AllByRecursion ReadsBack is
+    → run (Some start) is ≡ Some d → step_line d line ≡ None → LinesStand (map line_of is ++ line ∷ []) → ⊥
 untaken is d line back made none st =
-    let u = up_to (items_of st.0) is line st.2 (claim_back st.0 st.1) back (st.3 ∙ append_assoc (map line_of is) (line ∷ []) st.2) in
-    let whole : run (Some start) (is ++ (u.0 ∷ u.1)) ≡ Some (ended st.0) = ap (run (Some start)) (sym u.2) ∙ run_whole st.0 st.1 in
-    let goes : run (Some d) (u.0 ∷ u.1) ≡ Some (ended st.0) = ap (λ (o : Option Drafted). run o (u.0 ∷ u.1)) (sym made) ∙ sym (run-append (Some start) is (u.0 ∷ u.1)) ∙ whole in
+    let u =
+    up_to (items_of st.0) is line st.2 (claim_back st.0 st.1) back
+    (st.3 ∙ append_assoc (map line_of is) (line ∷ []) st.2) in
+    let whole : run (Some start) (is ++ (u.0 ∷ u.1)) ≡ Some (ended st.0) =
+    ap (run (Some start)) (sym u.2) ∙ run_whole st.0 st.1 in
+    let goes : run (Some d) (u.0 ∷ u.1) ≡ Some (ended st.0) =
+    ap (λ (o : Option Drafted). run o (u.0 ∷ u.1)) (sym made) ∙ sym (run-append (Some start) is (u.0 ∷ u.1))
+    ∙ whole in
     let f = first_step (step d u.0) u.1 (ended st.0) goes in
     let says : item_in line ≡ Some u.0 = ap item_in (sym u.3) ∙ u.4 in
     let one : step d u.0 ≡ None = rw says at none in

@@ -1,5 +1,6 @@
 -- Lines and the items that they say.
-use Rattle.std.proofs.Common.{◌≡◌, ◌<◌, ◌≤◌, ◌^◌, ◌%◌, ◌+◌, ℕ, Bool, true, false, List, [], ◌∷◌, ◌++◌, Option, Some, None, decimal, refl, sym, ap, ◌∙◌, arith, inl, inr, ◌⊎◌, Ok, Err}
+use Rattle.std.proofs.Common.{◌≡◌, ◌<◌, ◌≤◌, ◌^◌, ◌%◌, ◌+◌, ℕ, Bool, true, false, List, [], ◌∷◌, ◌++◌, Option, Some}
+use Rattle.std.proofs.Common.{None, decimal, refl, sym, ap, ◌∙◌, arith, inl, inr, ◌⊎◌, Ok, Err}
 use Rattle.std.specs.Prelude.{if◌then◌else◌, nat_le}
 use Rattle.std.specs.Str.{bytes_eq}
 use Rattle.std.specs.Str.Parse.{digits_value}
@@ -17,12 +18,14 @@ use Rattle.hsp_cert.specs.declared.item.Item.{Item}
 use Rattle.hsp_cert.specs.declared.item.Item.TheVariants as item
 use Rattle.hsp_cert.specs.Words.{spelled}
 use Rattle.hsp_cert.specs.Text.{line_of}
-use Rattle.hsp_cert.specs.Lexing.{cut, words, word_among, word_in, number_read, number_in, after_word, after_first, after_second, after_third, item_in}
+use Rattle.hsp_cert.specs.Lexing.{cut, words, word_among, word_in, number_read, number_in, after_word, after_first}
+use Rattle.hsp_cert.specs.Lexing.{after_second, after_third, item_in}
 use Rattle.hsp_cert.proofs.SpacedText.{NoSpace, cut_spaced, cut_whole, rejoined, cut_rejoined}
 
 -- ---- what a line that is read spells
 
-chosen : (b : Bool) (v w : Word) (r : Option Word) → (if b then Some v else r) ≡ Some w → ((b ≡ true) × (v ≡ w)) ⊎ (r ≡ Some w)
+chosen : (b : Bool) (v w : Word) (r : Option Word) → (if b then Some v else r) ≡ Some w
+    → ((b ≡ true) × (v ≡ w)) ⊎ (r ≡ Some w)
 chosen true v w r h = inl (refl, cc)
 chosen false v w r h = inr h
 
@@ -33,7 +36,9 @@ word_named (v ∷ ws) o w h = elim (chosen (bytes_eq o (spelled v)) v w (word_am
   | inr later ↦ word_named ws o w later
 ]
 
-read_parts : (w l : Bool) (v n : ℕ) → number_read (if w then (if l then Ok v else Err TooLarge) else Err NotWhole) ≡ Some n → (w ≡ true) × (l ≡ true) × (v ≡ n)
+read_parts : (w l : Bool) (v n : ℕ)
+    → number_read (if w then (if l then Ok v else Err TooLarge) else Err NotWhole) ≡ Some n
+    → (w ≡ true) × (l ≡ true) × (v ≡ n)
 read_parts true true v n h = (refl, refl, cc)
 read_parts true false v n h = absurd cc
 read_parts false l v n h = absurd cc
@@ -50,33 +55,39 @@ number_named o n h =
     let small : n < 2 ^ 64 = omega (arith, below (digits_value 10 o) p.1, p.2) in
     (digits_spell_their_number n o small).0 (p.0, p.2)
 
-third_says : (w : Word) (a b : ℕ) (x : List ℕ) (o : Option ℕ) (i : Item) → ((n : ℕ) → o ≡ Some n → x ≡ decimal n) → after_third w a b o ≡ Some i →
+third_says : (w : Word) (a b : ℕ) (x : List ℕ) (o : Option ℕ) (i : Item) → ((n : ℕ) → o ≡ Some n → x ≡ decimal n)
+    → after_third w a b o ≡ Some i →
     spelled w ++ 32 ∷ (decimal a ++ 32 ∷ (decimal b ++ 32 ∷ x)) ≡ line_of i
 third_says w a b x None i named h = absurd cc
 third_says w a b x (Some c) i named h =
     let same : item.Three w a b c ≡ i = cc in
     ap (λ (t : List ℕ). spelled w ++ 32 ∷ (decimal a ++ 32 ∷ (decimal b ++ 32 ∷ t))) (named c refl) ∙ ap line_of same
 
-second_says : (w : Word) (a : ℕ) (x : List ℕ) (o : Option ℕ) (r : Option (List ℕ)) (i : Item) → ((n : ℕ) → o ≡ Some n → x ≡ decimal n) → after_second w a o r ≡ Some i →
+second_says : (w : Word) (a : ℕ) (x : List ℕ) (o : Option ℕ) (r : Option (List ℕ)) (i : Item)
+    → ((n : ℕ) → o ≡ Some n → x ≡ decimal n) → after_second w a o r ≡ Some i →
     spelled w ++ 32 ∷ (decimal a ++ 32 ∷ rejoined x r) ≡ line_of i
 second_says w a x None r i named h = absurd cc
 second_says w a x (Some b) None i named h =
     let same : item.Two w a b ≡ i = cc in
     ap (λ (t : List ℕ). spelled w ++ 32 ∷ (decimal a ++ 32 ∷ t)) (named b refl) ∙ ap line_of same
 second_says w a x (Some b) (Some rest) i named h =
-    ap (λ (t : List ℕ). spelled w ++ 32 ∷ (decimal a ++ 32 ∷ (t ++ 32 ∷ rest))) (named b refl) ∙ third_says w a b rest (number_in rest) i (number_named rest) h
+    ap (λ (t : List ℕ). spelled w ++ 32 ∷ (decimal a ++ 32 ∷ (t ++ 32 ∷ rest))) (named b refl)
+    ∙ third_says w a b rest (number_in rest) i (number_named rest) h
 
-first_says : (w : Word) (x : List ℕ) (o : Option ℕ) (r : Option (List ℕ)) (i : Item) → ((n : ℕ) → o ≡ Some n → x ≡ decimal n) → after_first w o r ≡ Some i →
+first_says : (w : Word) (x : List ℕ) (o : Option ℕ) (r : Option (List ℕ)) (i : Item)
+    → ((n : ℕ) → o ≡ Some n → x ≡ decimal n) → after_first w o r ≡ Some i →
     spelled w ++ 32 ∷ rejoined x r ≡ line_of i
 first_says w x None r i named h = absurd cc
 first_says w x (Some a) None i named h =
     let same : item.One w a ≡ i = cc in
     ap (λ (t : List ℕ). spelled w ++ 32 ∷ t) (named a refl) ∙ ap line_of same
 first_says w x (Some a) (Some rest) i named h =
-    ap (λ (t : List ℕ). spelled w ++ 32 ∷ (t ++ 32 ∷ rest)) (named a refl) ∙ ap (λ (t : List ℕ). spelled w ++ 32 ∷ (decimal a ++ 32 ∷ t)) (cut_rejoined rest)
+    ap (λ (t : List ℕ). spelled w ++ 32 ∷ (t ++ 32 ∷ rest)) (named a refl)
+    ∙ ap (λ (t : List ℕ). spelled w ++ 32 ∷ (decimal a ++ 32 ∷ t)) (cut_rejoined rest)
     ∙ second_says w a (cut rest).0 (number_in (cut rest).0) (cut rest).1 i (number_named (cut rest).0) h
 
-word_says : (x : List ℕ) (o : Option Word) (r : Option (List ℕ)) (i : Item) → ((w : Word) → o ≡ Some w → x ≡ spelled w) → after_word o r ≡ Some i → rejoined x r ≡ line_of i
+word_says : (x : List ℕ) (o : Option Word) (r : Option (List ℕ)) (i : Item) → ((w : Word) → o ≡ Some w → x ≡ spelled w)
+    → after_word o r ≡ Some i → rejoined x r ≡ line_of i
 word_says x None r i named h = absurd cc
 word_says x (Some w) None i named h = let same : item.Alone w ≡ i = cc in named w refl ∙ ap line_of same
 word_says x (Some w) (Some rest) i named h =
@@ -85,7 +96,8 @@ word_says x (Some w) (Some rest) i named h =
 
 -- the item that is read of a line is spelled by it
 pub item_spelled : (line : List ℕ) (i : Item) → item_in line ≡ Some i → line ≡ line_of i
-item_spelled line i h = cut_rejoined line ∙ word_says (cut line).0 (word_in (cut line).0) (cut line).1 i (word_named words (cut line).0) h
+item_spelled line i h =
+    cut_rejoined line ∙ word_says (cut line).0 (word_in (cut line).0) (cut line).1 i (word_named words (cut line).0) h
 
 -- ---- what is read of a line that is spelled
 
@@ -109,7 +121,9 @@ printed_push [] x h le = (le, tt)
 printed_push (y ∷ xs) x h le = (h.0, printed_push xs x h.1 le)
 
 pub decimal_printed : (n : ℕ) → n < 2 ^ 64 → Printed (decimal n)
-decimal_printed n h = decimal_by_steps (λ _ ds. Printed ds) (λ k lt. (omega arith, tt)) (λ k ds le g. printed_push ds (48 + k % 10) g (omega arith)) n h
+decimal_printed n h =
+    decimal_by_steps (λ _ ds. Printed ds) (λ k lt. (omega arith, tt))
+    (λ k ds le g. printed_push ds (48 + k % 10) g (omega arith)) n h
 
 -- no octet is one below them, as a space or an LF
 pub printed_apart : (c : ℕ) → c < 48 → (xs : List ℕ) → Printed xs → AllByRecursion (λ x. x ≡ c → ⊥) xs
@@ -139,7 +153,13 @@ Fits (item.Three w a b c) = (a < 2 ^ 64) × (b < 2 ^ 64) × (c < 2 ^ 64)
 -- the line of an item says that item
 pub reads_back : (i : Item) → Fits i → item_in (line_of i) ≡ Some i
 reads_back (item.Alone w) h = rw (cut_whole (spelled w) (word_spaceless w), word_back w) refl
-reads_back (item.One w a) h = rw (cut_spaced (spelled w) (decimal a) (word_spaceless w), word_back w, cut_whole (decimal a) (decimal_spaceless a h), number_back a h) refl
+reads_back (item.One w a) h =
+    rw (
+      cut_spaced (spelled w) (decimal a) (word_spaceless w),
+      word_back w,
+      cut_whole (decimal a) (decimal_spaceless a h),
+      number_back a h,
+    ) refl
 reads_back (item.Two w a b) h =
     rw (
       cut_spaced (spelled w) (decimal a ++ 32 ∷ decimal b) (word_spaceless w),

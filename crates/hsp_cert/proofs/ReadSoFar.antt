@@ -1,5 +1,6 @@
 -- What is known of a text as far as it was read.
-use Rattle.std.proofs.Common.{◌≡◌, ◌<◌, ◌≤◌, ◌+◌, ℕ, true, false, List, [], ◌∷◌, ◌++◌, length, map, Option, Some, None, refl, sym, ap, subst, ◌∙◌, arith, append_assoc, length-append}
+use Rattle.std.proofs.Common.{◌≡◌, ◌<◌, ◌≤◌, ◌+◌, ℕ, true, false, List, [], ◌∷◌, ◌++◌, length, map, Option, Some, None}
+use Rattle.std.proofs.Common.{refl, sym, ap, subst, ◌∙◌, arith, append_assoc, length-append}
 use Rattle.std.proofs.lemmas.List.{append-nil, length-map, nil_from_length}
 use Rattle.std.proofs.lemmas.Bool.{eqb-true}
 use Rattle.std.specs.Prelude.{◌==◌, codes}
@@ -21,7 +22,8 @@ use Rattle.hsp_cert.proofs.ReadItems.{item_spelled}
 use Rattle.hsp_cert.proofs.GrammarSteps.{when_taken}
 use Rattle.hsp_cert.proofs.WholeRuns.{run, run-append, run_so_far}
 use Rattle.hsp_cert.proofs.Standing.{claim_ended}
-use Rattle.hsp_cert.proofs.LinesRead.{ReadsBack, item_is, all_append, map-lines, untaken, read_stand}
+use Rattle.hsp_cert.proofs.LinesRead.{ReadsBack, item_is, map-lines, untaken, read_stand}
+use Rattle.hsp_text.proofs.Lists.{all_append}
 
 -- the lines that were read, of the items that made the draft, and what is left of the text
 pub record Progress (text rest : List ℕ) (lines : ℕ) (d : Drafted) : Type 0 where
@@ -34,7 +36,8 @@ pub record Progress (text rest : List ℕ) (lines : ℕ) (d : Drafted) : Type 0 
   pub no_end : has_ended d.stage ≡ false → HasNoEnd (map line_of items)
 
 pub begins : (text : List ℕ) → Progress text text 0 start
-begins text = record { items = []; made = refl; back = tt; read = refl; count = refl; within = omega arith; no_end = λ _. tt }
+begins text =
+    record { items = []; made = refl; back = tt; read = refl; count = refl; within = omega arith; no_end = λ _. tt }
 
 abbrev some_of : {A : Type 0} → A → Option A
 some_of x = Some x
@@ -47,17 +50,21 @@ refused : {A : Type 0} (o : Option A) (x : A) → Took o false x → o ≡ None
 refused None x h = refl
 refused (Some y) x h = absurd h
 
-said_parts : (d e : Drafted) (o : Option Item) → said_step d o ≡ Some e → (i : Item) × (o ≡ Some i) × (step d i ≡ Some e)
+said_parts : (d e : Drafted) (o : Option Item) → said_step d o ≡ Some e
+    → (i : Item) × (o ≡ Some i) × (step d i ≡ Some e)
 said_parts d e None h = absurd cc
 said_parts d e (Some i) h = (i, refl, h)
 
 -- the line END ends a draft
 end_ends_at : (s : Stage) (d e : Drafted) → step_at s d (item.Alone word.End) ≡ Some e → has_ended e.stage ≡ true
-end_ends_at stage.Body d e h = let t = when_taken _ (staged stage.PlanEnded d) e h in subst (λ (x : Drafted). has_ended x.stage ≡ true) t.1 refl
-end_ends_at stage.Rows d e h = let same : staged stage.ShortageEnded d ≡ e = cc in subst (λ (x : Drafted). has_ended x.stage ≡ true) same refl
+end_ends_at stage.Body d e h =
+    let t = when_taken _ (staged stage.PlanEnded d) e h in subst (λ (x : Drafted). has_ended x.stage ≡ true) t.1 refl
+end_ends_at stage.Rows d e h =
+    let same : staged stage.ShortageEnded d ≡ e = cc in subst (λ (x : Drafted). has_ended x.stage ≡ true) same refl
 end_ends_at s d e h = absurd cc
 
-no_end_yet : (d e : Drafted) (i : Item) → ReadsBack i → step d i ≡ Some e → has_ended e.stage ≡ false → line_of i ≡ codes "END" → ⊥
+no_end_yet : (d e : Drafted) (i : Item) → ReadsBack i → step d i ≡ Some e → has_ended e.stage ≡ false
+    → line_of i ≡ codes "END" → ⊥
 no_end_yet d e i back taken still named =
     let said : item_in (codes "END") ≡ Some (item.Alone word.End) = refl in
     let same = item_is i (item.Alone word.End) (sym back ∙ ap item_in named ∙ said) in
@@ -65,7 +72,8 @@ no_end_yet d e i back taken still named =
     cc (ends, still)
 
 -- a line more
-pub adds : (text rest line after : List ℕ) (lines : ℕ) (d e : Drafted) → Progress text rest lines d → has_ended d.stage ≡ false → rest ≡ line ++ 10 ∷ after →
+pub adds : (text rest line after : List ℕ) (lines : ℕ) (d e : Drafted) → Progress text rest lines d
+    → has_ended d.stage ≡ false → rest ≡ line ++ 10 ∷ after →
     Took (step_line d line) true e → Progress text after (lines + 1) e
 adds text rest line after lines d e g still cut t =
     let p = said_parts d e (item_in line) (took (step_line d line) e t) in
@@ -78,23 +86,38 @@ adds text rest line after lines d e g still cut t =
       made = run-append (Some start) g.items new ∙ ap (λ (o : Option Drafted). run o new) g.made ∙ p.2;
       back = all_append ReadsBack g.items new g.back (back, tt);
       read =
-          g.read ∙ ap (λ (x : List ℕ). spelling g.items ++ x) (cut ∙ ap (λ (x : List ℕ). x ++ 10 ∷ after) spelled ∙ sym (append_assoc (line_of i) (10 ∷ []) after))
+          g.read
+          ∙ ap (λ (x : List ℕ). spelling g.items ++ x)
+          (cut ∙ ap (λ (x : List ℕ). x ++ 10 ∷ after) spelled ∙ sym (append_assoc (line_of i) (10 ∷ []) after))
           ∙ sym (append_assoc (spelling g.items) (spelling new) after)
           ∙ ap (λ (x : List ℕ). x ++ after) (sym (spelling-append g.items new));
       count = omega (arith, g.count, length-append g.items new);
       within = omega (arith, g.within, ap length cut, length-append line (10 ∷ after));
       no_end = λ goes.
           subst HasNoEnd (sym (map-lines g.items new))
-          (all_append (λ l. l ≡ codes "END" → ⊥) (map line_of g.items) (map line_of new) (g.no_end still) (no_end_yet d e i back p.2 goes, tt));
+          (all_append (λ l. l ≡ codes "END" → ⊥) (map line_of g.items) (map line_of new) (g.no_end still)
+          (no_end_yet d e i back p.2 goes, tt));
     }
 
-pub bad_line : (text rest line after : List ℕ) (lines : ℕ) (d e : Drafted) → Progress text rest lines d → has_ended d.stage ≡ false → rest ≡ line ++ 10 ∷ after → IsUnbroken line →
+pub bad_line : (text rest line after : List ℕ) (lines : ℕ) (d e : Drafted) → Progress text rest lines d
+    → has_ended d.stage ≡ false → rest ≡ line ++ 10 ∷ after → IsUnbroken line →
     Took (step_line d line) false e → IsBadLine text (lines + 1)
-bad_line text rest line after lines d e g still cut unbroken t =
-    (map line_of g.items, line, after, g.read ∙ ap (λ (x : List ℕ). spelling g.items ++ x) cut, unbroken, read_stand g.items d g.made, g.no_end still, untaken g.items d line g.back g.made (refused (step_line d line) e t), omega (arith, g.count, length-map g.items line_of))
+bad_line text rest line after lines d e g still cut unbroken t = (
+  map line_of g.items,
+  line,
+  after,
+  g.read ∙ ap (λ (x : List ℕ). spelling g.items ++ x) cut,
+  unbroken,
+  read_stand g.items d g.made,
+  g.no_end still,
+  untaken g.items d line g.back g.made (refused (step_line d line) e t),
+  omega (arith, g.count, length-map g.items line_of),
+)
 
-pub ended : (text rest : List ℕ) (lines : ℕ) (d : Drafted) → Progress text rest lines d → has_ended d.stage ≡ false → IsUnbroken rest → IsEnded text
-ended text rest lines d g still unbroken = (map line_of g.items, rest, g.read, unbroken, read_stand g.items d g.made, g.no_end still)
+pub ended : (text rest : List ℕ) (lines : ℕ) (d : Drafted) → Progress text rest lines d → has_ended d.stage ≡ false
+    → IsUnbroken rest → IsEnded text
+ended text rest lines d g still unbroken =
+    (map line_of g.items, rest, g.read, unbroken, read_stand g.items d g.made, g.no_end still)
 
 -- at END, the lines are those of a certificate
 pub whole : (text rest : List ℕ) (lines : ℕ) (d : Drafted) → Progress text rest lines d → has_ended d.stage ≡ true →
@@ -102,19 +125,28 @@ pub whole : (text rest : List ℕ) (lines : ℕ) (d : Drafted) → Progress text
 whole text rest lines d g over =
     let v = run_so_far g.items d g.made in
     let c = claim_ended d over v.0 in
-    let same : g.items ≡ items_of (claimed d) = sym (c.1 ∙ v.1) in
-    (c.0, g.read ∙ ap (λ (x : List Item). spelling x ++ rest) same, omega (arith, g.count, ap length same, length-map (items_of (claimed d)) line_of))
+    let same : g.items ≡ items_of (claimed d) = sym (c.1 ∙ v.1) in (
+      c.0,
+      g.read ∙ ap (λ (x : List Item). spelling x ++ rest) same,
+      omega (arith, g.count, ap length same, length-map (items_of (claimed d)) line_of),
+    )
 
-pub whole_alone : (text rest : List ℕ) (lines : ℕ) (d : Drafted) (c : Claim) → Progress text rest lines d → has_ended d.stage ≡ true → (length rest == 0) ≡ true → c ≡ claimed d →
+pub whole_alone : (text rest : List ℕ) (lines : ℕ) (d : Drafted) (c : Claim) → Progress text rest lines d
+    → has_ended d.stage ≡ true → (length rest == 0) ≡ true → c ≡ claimed d →
     IsCertificate c × (text ≡ text_of c)
 whole_alone text rest lines d c g over none same =
     let w = whole text rest lines d g over in
-    let nothing = nil_from_length rest (eqb-true (length rest) 0 none) in
-    (subst IsCertificate (sym same) w.0, w.1 ∙ ap (λ (x : List ℕ). text_of (claimed d) ++ x) nothing ∙ append-nil (text_of (claimed d)) ∙ ap text_of (sym same))
+    let nothing = nil_from_length rest (eqb-true (length rest) 0 none) in (
+      subst IsCertificate (sym same) w.0,
+      w.1 ∙ ap (λ (x : List ℕ). text_of (claimed d) ++ x) nothing ∙ append-nil (text_of (claimed d))
+          ∙ ap text_of (sym same),
+    )
 
 some_left : (rest : List ℕ) → (length rest == 0) ≡ false → 0 < length rest
 some_left [] h = absurd cc
 some_left (x ∷ rest) h = omega arith
 
-pub after_end : (text rest : List ℕ) (lines : ℕ) (d : Drafted) → Progress text rest lines d → has_ended d.stage ≡ true → (length rest == 0) ≡ false → IsAfterEnd text (lines + 1)
-after_end text rest lines d g over some = let w = whole text rest lines d g over in (claimed d, w.0, rest, some_left rest some, w.1, omega (arith, w.2))
+pub after_end : (text rest : List ℕ) (lines : ℕ) (d : Drafted) → Progress text rest lines d → has_ended d.stage ≡ true
+    → (length rest == 0) ≡ false → IsAfterEnd text (lines + 1)
+after_end text rest lines d g over some =
+    let w = whole text rest lines d g over in (claimed d, w.0, rest, some_left rest some, w.1, omega (arith, w.2))

@@ -1,5 +1,6 @@
 -- Text cut at its first space.
-use Rattle.std.proofs.Common.{◌≡◌, ◌<◌, ℕ, zero, suc, List, [], ◌∷◌, ◌++◌, length, get_or, take, drop, Option, Some, None, refl, sym, ap, ◌∙◌, ◌+◌, ◌-◌, arith, eq-eqb, inl, inr}
+use Rattle.std.proofs.Common.{◌≡◌, ◌<◌, ℕ, zero, suc, List, [], ◌∷◌, ◌++◌, length, get_or, take, drop, Option, Some}
+use Rattle.std.proofs.Common.{None, refl, sym, ap, ◌∙◌, ◌+◌, ◌-◌, arith, eq-eqb, inl, inr}
 use Rattle.std.specs.List.{AllByRecursion}
 use Rattle.std.proofs.lemmas.Bool.{ne_eqb, cases_eq}
 use Rattle.std.proofs.lemmas.Grind.{common_steps}
@@ -32,21 +33,26 @@ pub cut_rejoined : (t : List ℕ) → t ≡ rejoined (cut t).0 (cut t).1
 cut_rejoined [] = refl
 cut_rejoined (x ∷ t) = elim (cases_eq x 32) [
   | inl space ↦ rw (eq-eqb x 32 space) (ap (λ (y : ℕ). y ∷ t) space)
-  | inr other ↦ rw (ne_eqb x 32 other) (ap (λ (y : List ℕ). x ∷ y) (cut_rejoined t) ∙ sym (rejoined-cons x (cut t).0 (cut t).1))
+  | inr other ↦
+      rw (ne_eqb x 32 other) (ap (λ (y : List ℕ). x ∷ y) (cut_rejoined t) ∙ sym (rejoined-cons x (cut t).0 (cut t).1))
 ]
 
-cut_first : (t : List ℕ) (i : ℕ) → i < length t → get_or t i 0 ≡ 32 → ((k : ℕ) → k < i → get_or t k 0 ≡ 32 → ⊥) → cut t ≡ (take i t, Some (drop (suc i) t))
+cut_first : (t : List ℕ) (i : ℕ) → i < length t → get_or t i 0 ≡ 32 → ((k : ℕ) → k < i → get_or t k 0 ≡ 32 → ⊥)
+    → cut t ≡ (take i t, Some (drop (suc i) t))
 cut_first [] i lt at none = absurd (omega arith)
 cut_first (x ∷ t) zero lt at none = rw (eq-eqb x 32 at) refl
-cut_first (x ∷ t) (suc i) lt at none = rw (ne_eqb x 32 (none 0 (omega arith)), cut_first t i (omega arith) at (λ k h. none (suc k) (omega arith))) refl
+cut_first (x ∷ t) (suc i) lt at none =
+    rw (ne_eqb x 32 (none 0 (omega arith)), cut_first t i (omega arith) at (λ k h. none (suc k) (omega arith))) refl
 
 rest_of : (t : List ℕ) (i : ℕ) → i < length t → take (length t - (i + 1)) (drop (i + 1) t) ≡ drop (suc i) t
 rest_of t i h = grind (arith, common_steps)
 
 -- where the first space stands at a place
-pub cut_at : (t : List ℕ) (i : ℕ) → i < length t → get_or t i 0 ≡ 32 → ((k : ℕ) → k < i → get_or t k 0 ≡ 32 → ⊥) → cut t ≡ (take i t, Some (take (length t - (i + 1)) (drop (i + 1) t)))
+pub cut_at : (t : List ℕ) (i : ℕ) → i < length t → get_or t i 0 ≡ 32 → ((k : ℕ) → k < i → get_or t k 0 ≡ 32 → ⊥)
+    → cut t ≡ (take i t, Some (take (length t - (i + 1)) (drop (i + 1) t)))
 cut_at t i lt at none = rw (rest_of t i lt) (cut_first t i lt at none)
 
 pub cut_nowhere : (t : List ℕ) → ((k : ℕ) → k < length t → get_or t k 0 ≡ 32 → ⊥) → cut t ≡ (t, None)
 cut_nowhere [] none = refl
-cut_nowhere (x ∷ t) none = rw (ne_eqb x 32 (none 0 (omega arith)), cut_nowhere t (λ k h. none (suc k) (omega arith))) refl
+cut_nowhere (x ∷ t) none =
+    rw (ne_eqb x 32 (none 0 (omega arith)), cut_nowhere t (λ k h. none (suc k) (omega arith))) refl

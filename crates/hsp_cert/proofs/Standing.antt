@@ -24,42 +24,76 @@ record Completes (v : ℕ) (b : Best) : Type 0 where
   items : body_items plan ≡ body_items b ++ more
 
 as_it_is : (v : ℕ) (b : Best) → IsBest b → version_of b.host_prices ≡ v → Completes v b
-as_it_is v b h e = record { plan = b; is = h; version = e; cost = refl; more = []; items = sym (append-nil (body_items b)) }
+as_it_is v b h e =
+    record { plan = b; is = h; version = e; cost = refl; more = []; items = sym (append-nil (body_items b)) }
 
-with_hosts : (cost : ℕ) (us : List UseLine) (rs ss hs : List ℕ) → IsBest (record { cost = cost; uses = us; row_prices = rs; server_prices = ss; host_prices = hs }) →
+with_hosts : (cost : ℕ) (us : List UseLine) (rs ss hs : List ℕ)
+    → IsBest (record { cost = cost; uses = us; row_prices = rs; server_prices = ss; host_prices = hs }) →
     Completes 2 (record { cost = cost; uses = us; row_prices = rs; server_prices = ss; host_prices = hs })
 with_hosts cost us rs ss [] h =
     let b : Best = record { cost = cost; uses = us; row_prices = rs; server_prices = ss; host_prices = [] } in
     let n = body_host 2 b 0 0 h refl in
-    record { plan = record { cost = cost; uses = us; row_prices = rs; server_prices = ss; host_prices = 0 ∷ [] }; is = n.0; version = refl; cost = refl; more = item.Two word.Host 0 0 ∷ []; items = n.1 }
-with_hosts cost us rs ss (q ∷ hs) h = as_it_is 2 (record { cost = cost; uses = us; row_prices = rs; server_prices = ss; host_prices = q ∷ hs }) h refl
+    record {
+      plan = record { cost = cost; uses = us; row_prices = rs; server_prices = ss; host_prices = 0 ∷ [] };
+      is = n.0;
+      version = refl;
+      cost = refl;
+      more = item.Two word.Host 0 0 ∷ [];
+      items = n.1;
+    }
+with_hosts cost us rs ss (q ∷ hs) h =
+    as_it_is 2 (record { cost = cost; uses = us; row_prices = rs; server_prices = ss; host_prices = q ∷ hs }) h refl
 
 completes_two : (v : ℕ) (b : Best) → 2 ≡ v → Completes 2 b → Completes v b
-completes_two v b e c = record { plan = c.plan; is = c.is; version = c.version ∙ e; cost = c.cost; more = c.more; items = c.items }
+completes_two v b e c =
+    record { plan = c.plan; is = c.is; version = c.version ∙ e; cost = c.cost; more = c.more; items = c.items }
 
 completes : (v : ℕ) (b : Best) → (v ≡ 1) ⊎ (v ≡ 2) → (v ≡ 1 → b.host_prices ≡ []) → IsBest b → Completes v b
 completes v b (inl one) none h = as_it_is v b h (ap version_of (none one) ∙ sym one)
-completes v b (inr two) none h = completes_two v b (sym two) (with_hosts b.cost b.uses b.row_prices b.server_prices b.host_prices h)
+completes v b (inr two) none h =
+    completes_two v b (sym two) (with_hosts b.cost b.uses b.row_prices b.server_prices b.host_prices h)
 
 -- some certificate begins with these items
 abbrev pub CanStand : List Item → Type 0
 CanStand items = (claim : Claim) × IsCertificate claim × (more : List Item) × (items_of claim ≡ items ++ more)
 
 no_plan_is : IsBest no_plan
-no_plan_is = record { cost = omega arith; uses = refl; order = refl; row_count = omega arith; row_prices = refl; server_count = omega arith; server_prices = refl; host_count = omega arith; host_prices = refl }
+no_plan_is =
+    record {
+      cost = omega arith;
+      uses = refl;
+      order = refl;
+      row_count = omega arith;
+      row_prices = refl;
+      server_count = omega arith;
+      server_prices = refl;
+      host_count = omega arith;
+      host_prices = refl;
+    }
 
 end : List Item
 end = item.Alone word.End ∷ []
 
 -- a draft that was read to its end is of a certificate's items
-claim_ended_at : (s : Stage) (d : Drafted) → has_ended s ≡ true → Valid_at s d → IsCertificate (claimed_at s d) × (items_of (claimed_at s d) ≡ so_far_at s d)
+claim_ended_at : (s : Stage) (d : Drafted) → has_ended s ≡ true → Valid_at s d
+    → IsCertificate (claimed_at s d) × (items_of (claimed_at s d) ≡ so_far_at s d)
 unfolding end
-claim_ended_at stage.PlanEnded d over h = (h.0, ap (λ (v : ℕ). item.One word.Version v ∷ item.Alone word.Plan ∷ item.One word.Cost d.plan.cost ∷ (body_items d.plan ++ end)) (sym h.2))
-claim_ended_at stage.ShortageEnded d over h =
-    (h.1, ap (λ (v : ℕ). item.One word.Version v ∷ item.Alone word.Shortage ∷ item.One word.Demand d.set.demand ∷ item.One word.Capacity d.set.capacity ∷ (row_items d.set.rows ++ end)) (sym h.2))
+claim_ended_at stage.PlanEnded d over h = (
+  h.0,
+  ap
+      (λ (v : ℕ). item.One word.Version v ∷ item.Alone word.Plan ∷ item.One word.Cost d.plan.cost
+      ∷ (body_items d.plan ++ end)) (sym h.2),
+)
+claim_ended_at stage.ShortageEnded d over h = (
+  h.1,
+  ap
+      (λ (v : ℕ). item.One word.Version v ∷ item.Alone word.Shortage ∷ item.One word.Demand d.set.demand
+      ∷ item.One word.Capacity d.set.capacity ∷ (row_items d.set.rows ++ end)) (sym h.2),
+)
 claim_ended_at s d over h = absurd cc
 
-pub claim_ended : (d : Drafted) → has_ended d.stage ≡ true → Valid d → IsCertificate (claimed d) × (items_of (claimed d) ≡ so_far d)
+pub claim_ended : (d : Drafted) → has_ended d.stage ≡ true → Valid d
+    → IsCertificate (claimed d) × (items_of (claimed d) ≡ so_far d)
 claim_ended d over h = claim_ended_at d.stage d over h
 
 stands_at : (s : Stage) (d : Drafted) → Valid_at s d → CanStand (so_far_at s d)
@@ -78,22 +112,46 @@ stands_at stage.Body d h =
       best c.plan,
       c.is,
       c.more ++ end,
-      ap (λ (v : ℕ). item.One word.Version v ∷ item.Alone word.Plan ∷ item.One word.Cost c.plan.cost ∷ (body_items c.plan ++ end)) c.version
-          ∙ ap (λ (k : ℕ). item.One word.Version d.version ∷ item.Alone word.Plan ∷ item.One word.Cost k ∷ (body_items c.plan ++ end)) c.cost
-          ∙ ap (λ (x : List Item). plan_head d ++ x) (ap (λ (x : List Item). x ++ end) c.items ∙ append_assoc (body_items d.plan) c.more end),
+      ap
+          (λ (v : ℕ). item.One word.Version v ∷ item.Alone word.Plan ∷ item.One word.Cost c.plan.cost
+          ∷ (body_items c.plan ++ end)) c.version
+          ∙ ap
+          (λ (k : ℕ). item.One word.Version d.version ∷ item.Alone word.Plan ∷ item.One word.Cost k
+          ∷ (body_items c.plan ++ end)) c.cost
+          ∙ ap (λ (x : List Item). plan_head d ++ x)
+          (ap (λ (x : List Item). x ++ end) c.items ∙ append_assoc (body_items d.plan) c.more end),
     )
 stands_at stage.Demand d h =
     let s : Short = no_set in
-    let rest : List Item = item.One word.Demand 0 ∷ item.One word.Capacity 0 ∷ end in
-    (short s, record { rows = refl; order = refl; demand = omega arith; capacity = omega arith }, rest, ap (λ (v : ℕ). item.One word.Version v ∷ item.Alone word.Shortage ∷ rest) (sym h.2.0))
+    let rest : List Item = item.One word.Demand 0 ∷ item.One word.Capacity 0 ∷ end in (
+      short s,
+      record { rows = refl; order = refl; demand = omega arith; capacity = omega arith },
+      rest,
+      ap (λ (v : ℕ). item.One word.Version v ∷ item.Alone word.Shortage ∷ rest) (sym h.2.0),
+    )
 stands_at stage.Capacity d h =
     let s : Short = record { rows = []; demand = d.set.demand; capacity = 0 } in
-    let rest : List Item = item.One word.Capacity 0 ∷ end in
-    (short s, record { rows = refl; order = refl; demand = h.1.demand; capacity = omega arith }, rest, ap (λ (v : ℕ). item.One word.Version v ∷ item.Alone word.Shortage ∷ item.One word.Demand d.set.demand ∷ rest) (sym h.2.0))
-stands_at stage.Rows d h =
-    (short d.set, h.1, end, ap (λ (v : ℕ). item.One word.Version v ∷ item.Alone word.Shortage ∷ item.One word.Demand d.set.demand ∷ item.One word.Capacity d.set.capacity ∷ (row_items d.set.rows ++ end)) (sym h.2))
-stands_at stage.PlanEnded d h = let c = claim_ended_at stage.PlanEnded d refl h in (best d.plan, c.0, [], c.1 ∙ sym (append-nil (so_far_at stage.PlanEnded d)))
-stands_at stage.ShortageEnded d h = let c = claim_ended_at stage.ShortageEnded d refl h in (short d.set, c.0, [], c.1 ∙ sym (append-nil (so_far_at stage.ShortageEnded d)))
+    let rest : List Item = item.One word.Capacity 0 ∷ end in (
+      short s,
+      record { rows = refl; order = refl; demand = h.1.demand; capacity = omega arith },
+      rest,
+      ap (λ (v : ℕ). item.One word.Version v ∷ item.Alone word.Shortage ∷ item.One word.Demand d.set.demand ∷ rest)
+          (sym h.2.0),
+    )
+stands_at stage.Rows d h = (
+  short d.set,
+  h.1,
+  end,
+  ap
+      (λ (v : ℕ). item.One word.Version v ∷ item.Alone word.Shortage ∷ item.One word.Demand d.set.demand
+      ∷ item.One word.Capacity d.set.capacity ∷ (row_items d.set.rows ++ end)) (sym h.2),
+)
+stands_at stage.PlanEnded d h =
+    let c = claim_ended_at stage.PlanEnded d refl h in
+    (best d.plan, c.0, [], c.1 ∙ sym (append-nil (so_far_at stage.PlanEnded d)))
+stands_at stage.ShortageEnded d h =
+    let c = claim_ended_at stage.ShortageEnded d refl h in
+    (short d.set, c.0, [], c.1 ∙ sym (append-nil (so_far_at stage.ShortageEnded d)))
 
 -- the items of a draft begin those of some certificate
 pub draft_stands : (d : Drafted) → Valid d → CanStand (so_far d)

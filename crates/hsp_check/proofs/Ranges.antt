@@ -1,5 +1,6 @@
 -- What the ranges and orders of a certificate say of its numbers.
-use Rattle.std.proofs.Common.{◌≡◌, ℕ, ◌+◌, ◌*◌, ◌<◌, ◌≤◌, true, List, [], ◌∷◌, length, All, slice_index_or, inl, inr, Some, arith, eqb-true}
+use Rattle.std.proofs.Common.{◌≡◌, ℕ, ◌+◌, ◌*◌, ◌<◌, ◌≤◌, true, List, [], ◌∷◌, length, All, slice_index_or, inl, inr}
+use Rattle.std.proofs.Common.{Some, arith, eqb-true}
 use Rattle.std.specs.Prelude.{◌&&◌, ◌==◌, nat_le, nat_lt}
 use Rattle.std.specs.List.{list_all}
 use Rattle.std.proofs.lemmas.List.Sums.{AllPass-from_list_all}
@@ -20,10 +21,16 @@ record InRange (one : UseLine) : Type 0 where
 
 in_range : (one : UseLine) → is_use one ≡ true → InRange one
 in_range one test =
-    let both = and_parts (nat_le one.row 8191 && nat_le one.site 31) (nat_le 1 one.count && nat_le one.count 1000000) test in
+    let both =
+    and_parts (nat_le one.row 8191 && nat_le one.site 31) (nat_le 1 one.count && nat_le one.count 1000000) test in
     let places = and_parts (nat_le one.row 8191) (nat_le one.site 31) both.0 in
     let counts = and_parts (nat_le 1 one.count) (nat_le one.count 1000000) both.1 in
-    record { row = leb-true _ _ places.0; site = leb-true _ _ places.1; least = leb-true _ _ counts.0; most = leb-true _ _ counts.1 }
+    record {
+      row = leb-true _ _ places.0;
+      site = leb-true _ _ places.1;
+      least = leb-true _ _ counts.0;
+      most = leb-true _ _ counts.1;
+    }
 
 pub counts_low : (uses : List UseLine) → list_all is_use uses ≡ true → All (λ u. u.count ≤ 1000000) uses
 counts_low uses all k d l = (in_range (slice_index_or uses k d) (AllPass-from_list_all is_use uses all k d l)).most
@@ -43,7 +50,8 @@ later u v a b test = elim (cases_Bool (nat_lt u.row v.row)) [
       omega arith
 ]
 
-few_after : (u : UseLine) (uses : List UseLine) → InRange u → list_all is_use uses ≡ true → ascends_from is_before (Some u) uses ≡ true → place_of u + length uses < 262144
+few_after : (u : UseLine) (uses : List UseLine) → InRange u → list_all is_use uses ≡ true
+    → ascends_from is_before (Some u) uses ≡ true → place_of u + length uses < 262144
 few_after u [] a all order = let r = a.row in let s = a.site in omega arith
 few_after u (v ∷ uses) a all order =
     let each = and_parts (is_use v) (list_all is_use uses) all in
@@ -54,7 +62,8 @@ few_after u (v ∷ uses) a all order =
     omega arith
 
 -- there are no more uses than pairs
-pub few_uses : (uses : List UseLine) → list_all is_use uses ≡ true → ascends is_before uses ≡ true → length uses < 4294967296
+pub few_uses : (uses : List UseLine) → list_all is_use uses ≡ true → ascends is_before uses ≡ true
+    → length uses < 4294967296
 few_uses [] all order = omega arith
 few_uses (u ∷ uses) all order =
     let each = and_parts (is_use u) (list_all is_use uses) all in

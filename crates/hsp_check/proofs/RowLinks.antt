@@ -1,5 +1,6 @@
 -- The links of a row of a network whose arcs stand in one list a row.
-use Rattle.std.proofs.Common.{◌≡◌, ℕ, zero, suc, ◌+◌, ◌<◌, ◌≤◌, List, [], ◌∷◌, ◌++◌, length, map, slice_index_or, All, refl, ap, ap₂, sym, ◌∙◌, arith, eq-eqb, ne_eqb, append-nil}
+use Rattle.std.proofs.Common.{◌≡◌, ℕ, zero, suc, ◌+◌, ◌<◌, ◌≤◌, List, [], ◌∷◌, ◌++◌, length, map, slice_index_or, All}
+use Rattle.std.proofs.Common.{refl, ap, ap₂, sym, ◌∙◌, arith, eq-eqb, ne_eqb, append-nil}
 use Rattle.std.proofs.lemmas.List.Elements.{All-append, All-nil, All-cons}
 use Rattle.hsp_transport.specs.Kinds.{Link, links_in}
 use Rattle.hsp_instance.specs.declared.arc.Arc.{Arc}
@@ -33,7 +34,8 @@ module _ (n : Network) where
       links_append (map (arc_of j) arcs) (arcs_from (j + 1) lists) i
       ∙ ap₂ (λ x y. x ++ y) (no_links arcs j i (λ e. omega arith)) (before_links lists (j + 1) i (omega arith))
 
-  links_from : (lists : List (List Arc)) (j i : ℕ) → links (arcs_from j lists) (j + i) ≡ map link (slice_index_or lists i [])
+  links_from : (lists : List (List Arc)) (j i : ℕ)
+      → links (arcs_from j lists) (j + i) ≡ map link (slice_index_or lists i [])
   links_from [] j i = refl
   links_from (arcs ∷ lists) j zero =
       let e : j + 0 ≡ j = omega arith in
@@ -43,17 +45,23 @@ module _ (n : Network) where
   links_from (arcs ∷ lists) j (suc i) =
       let e : (j + 1) + i ≡ j + suc i = omega arith in
       links_append (map (arc_of j) arcs) (arcs_from (j + 1) lists) (j + suc i)
-      ∙ ap₂ (λ x y. x ++ y) (no_links arcs j (j + suc i) (λ q. omega arith)) (ap (links (arcs_from (j + 1) lists)) (sym e) ∙ links_from lists (j + 1) i)
+      ∙ ap₂ (λ x y. x ++ y) (no_links arcs j (j + suc i) (λ q. omega arith))
+      (ap (links (arcs_from (j + 1) lists)) (sym e) ∙ links_from lists (j + 1) i)
 
   -- they are those of its list
-  pub links_of_row : (lists : List (List Arc)) (i : ℕ) → links (arcs_from 0 lists) i ≡ map link (slice_index_or lists i [])
-  links_of_row lists i = let e : 0 + i ≡ i = omega arith in ap (links (arcs_from 0 lists)) (sym e) ∙ links_from lists 0 i
+  pub links_of_row : (lists : List (List Arc)) (i : ℕ)
+      → links (arcs_from 0 lists) i ≡ map link (slice_index_or lists i [])
+  links_of_row lists i =
+      let e : 0 + i ≡ i = omega arith in ap (links (arcs_from 0 lists)) (sym e) ∙ links_from lists 0 i
 
-pub rows_below : (lists : List (List Arc)) (j most : ℕ) → j + length lists ≤ most → All (λ (a : NetworkArc). a.row < most) (arcs_from j lists)
+pub rows_below : (lists : List (List Arc)) (j most : ℕ) → j + length lists ≤ most
+    → All (λ (a : NetworkArc). a.row < most) (arcs_from j lists)
 rows_below [] j most l = All-nil (λ (a : NetworkArc). a.row < most)
 rows_below (arcs ∷ lists) j most l =
-    All-append (λ (a : NetworkArc). a.row < most) (map (arc_of j) arcs) (arcs_from (j + 1) lists) (own arcs) (rows_below lists (j + 1) most (omega arith))
+    All-append (λ (a : NetworkArc). a.row < most) (map (arc_of j) arcs) (arcs_from (j + 1) lists) (own arcs)
+    (rows_below lists (j + 1) most (omega arith))
   where
     own : (arcs : List Arc) → All (λ (a : NetworkArc). a.row < most) (map (arc_of j) arcs)
     own [] = All-nil (λ (a : NetworkArc). a.row < most)
-    own (a ∷ rest) = All-cons (λ (b : NetworkArc). b.row < most) (arc_of j a) (map (arc_of j) rest) (omega arith) (own rest)
+    own (a ∷ rest) =
+        All-cons (λ (b : NetworkArc). b.row < most) (arc_of j a) (map (arc_of j) rest) (omega arith) (own rest)

@@ -1,13 +1,17 @@
 -- What a verdict says of a certificate.
-use Rattle.std.proofs.Common.{◌≡◌, ℕ, ◌+◌, ◌==◌, ◌∙◌, ◌↔◌, ◌⊎◌, inl, inr, true, false, Some, Ok, Err, List, [], ◌∷◌, All, sum_by, slice_index_or, if◌then◌else◌, refl, sym, arith, eqb-true}
+use Rattle.std.proofs.Common.{◌≡◌, ℕ, ◌+◌, ◌==◌, ◌∙◌, ◌↔◌, ◌⊎◌, inl, inr, true, false, Some, Ok, Err, List, [], ◌∷◌}
+use Rattle.std.proofs.Common.{All, sum_by, slice_index_or, if◌then◌else◌, refl, sym, arith, eqb-true}
 use Rattle.std.specs.Prelude.{◌&&◌, IfOk, IfSome, Result}
 use Rattle.std.proofs.lemmas.List.Sums.{sum_by-cons}
 use Rattle.std.proofs.lemmas.Bool.{cases_Bool, and_parts}
-use Rattle.hsp_cert.specs.Certificate.{Claim, Best as BestClaim, Short as ShortClaim, IsCertificate, IsBest, best_of, short_of}
+use Rattle.hsp_cert.specs.Certificate.{Claim, Best as BestClaim, Short as ShortClaim, IsCertificate, IsBest, best_of}
+use Rattle.hsp_cert.specs.Certificate.{short_of}
 use Rattle.hsp_cert.specs.Certificate.Claim.{best, short}
 use Rattle.hsp_cert.specs.declared.use_line.UseLine.{UseLine}
 use Rattle.hsp_check.specs.declared.verdict.Reason.{Reason}
-use Rattle.hsp_check.specs.declared.verdict.Reason.TheVariants.{Shape, NoSuchUse, RowSum, Load, Cost, ArcPrice, UsedArcPrice, IdlePrice, DemandSum, CapacitySum, NotShort}
+use Rattle.hsp_check.specs.declared.verdict.Reason.TheVariants.{Shape, NoSuchUse, RowSum, Load, Cost, ArcPrice}
+use Rattle.hsp_check.specs.declared.verdict.Reason.TheVariants.{UsedArcPrice, IdlePrice, DemandSum, CapacitySum}
+use Rattle.hsp_check.specs.declared.verdict.Reason.TheVariants.{NotShort}
 use Rattle.hsp_check.specs.declared.verdict.Verdict.{Verdict}
 use Rattle.hsp_check.specs.declared.verdict.Verdict.TheVariants.{Yes, No}
 use Rattle.hsp_check.specs.Network.{Network, IsNetwork, is_allowed}
@@ -26,12 +30,18 @@ nothing_used [] = refl
 nothing_used (u ∷ uses) = omega (arith, sum_by-cons (λ (_ : UseLine). 0) u uses, nothing_used uses)
 
 -- a plan is 0 where its uses may not go
-unused : (n : Network) (uses : List UseLine) → All (λ u. is_allowed n u.row u.site ≡ true) uses → (i s : ℕ) → is_allowed n i s ≡ false → table uses i s ≡ 0
+unused : (n : Network) (uses : List UseLine) → All (λ u. is_allowed n u.row u.site ≡ true) uses → (i s : ℕ)
+    → is_allowed n i s ≡ false → table uses i s ≡ 0
 unused n uses each i s never =
-    sum_by_same_all (λ u. if u.row == i && u.site == s then u.count else 0) (λ _. 0) uses (λ k d l. elsewhere (slice_index_or uses k d) (each k d l) (cases_Bool ((slice_index_or uses k d).row == i && (slice_index_or uses k d).site == s)))
+    sum_by_same_all (λ u. if u.row == i && u.site == s then u.count else 0) (λ _. 0) uses
+    (λ k d l.
+    elsewhere (slice_index_or uses k d) (each k d l)
+    (cases_Bool ((slice_index_or uses k d).row == i && (slice_index_or uses k d).site == s)))
     ∙ nothing_used uses
   where
-    elsewhere : (u : UseLine) → is_allowed n u.row u.site ≡ true → ((u.row == i && u.site == s) ≡ true) ⊎ ((u.row == i && u.site == s) ≡ false) → (if u.row == i && u.site == s then u.count else 0) ≡ 0
+    elsewhere : (u : UseLine) → is_allowed n u.row u.site ≡ true
+        → ((u.row == i && u.site == s) ≡ true) ⊎ ((u.row == i && u.site == s) ≡ false)
+        → (if u.row == i && u.site == s then u.count else 0) ≡ 0
     elsewhere u may (inl here) =
         let parts = and_parts (u.row == i) (u.site == s) here in
         let row = eqb-true u.row i parts.0 in
@@ -47,7 +57,11 @@ plan_valid n c ranges met =
     let idle = met IdlePrice in
     record {
       allowed = met NoSuchUse;
-      feasible = record { allowed = unused n c.uses (met NoSuchUse); flow = record { met = met RowSum; within = loads.0; hosted = loads.1 } };
+      feasible =
+          record {
+            allowed = unused n c.uses (met NoSuchUse);
+            flow = record { met = met RowSum; within = loads.0; hosted = loads.1 };
+          };
       cost = met Cost;
       prices = record { below = met ArcPrice; used = met UsedArcPrice; idle = idle.0; idle_host = idle.1 };
       row_prices = (shape.0, prices_low c.row_prices ranges.row_prices);
@@ -100,9 +114,12 @@ pub yes_valid : (n : Network) (c : Claim) (v : Verdict) → IsCertificate c → 
 yes_valid n c Yes ranges is = (λ yes. met_valid n c ranges is, λ valid. refl)
 yes_valid n c (No r) ranges is = (λ yes. absurd (cc), λ valid. absurd (is.0 (valid_met n c valid r)))
 
-valid_best : (n : Network) (c : BestClaim) → IsNetwork n → IsValidPlan n c → Best n (table c.uses) × (times n.demands c.row_prices ≡ c.cost + times n.capacities c.server_prices + times n.limits c.host_prices)
+valid_best : (n : Network) (c : BestClaim) → IsNetwork n → IsValidPlan n c
+    → Best n (table c.uses)
+    × (times n.demands c.row_prices ≡ c.cost + times n.capacities c.server_prices + times n.limits c.host_prices)
 valid_best n c is valid =
-    let shown = prices_show_best n (table c.uses) c.row_prices c.server_prices c.host_prices is valid.feasible valid.prices in
+    let shown =
+    prices_show_best n (table c.uses) c.row_prices c.server_prices c.host_prices is valid.feasible valid.prices in
     let cost = valid.cost in
     (shown.0, omega (arith, shown.1))
 
@@ -111,7 +128,9 @@ pub record Says (n : Network) (c : Claim) (v : Verdict) : Type 0 where
   pub verdict : IsVerdict n c v
   pub valid : (v ≡ Yes) ↔ IsValid n c
   pub best_plan : v ≡ Yes → IfSome (best_of c) (λ b. Best n (table b.uses))
-  pub prices : v ≡ Yes → IfSome (best_of c) (λ b. times n.demands b.row_prices ≡ b.cost + times n.capacities b.server_prices + times n.limits b.host_prices)
+  pub prices : v ≡ Yes
+      → IfSome (best_of c)
+      (λ b. times n.demands b.row_prices ≡ b.cost + times n.capacities b.server_prices + times n.limits b.host_prices)
   pub short_set : v ≡ Yes → IfSome (short_of c) (λ s. IsShort n (is_one_of s.rows))
   pub none : v ≡ Yes → IfSome (short_of c) (λ _. (x : Plan) → Feasible n x → ⊥)
 

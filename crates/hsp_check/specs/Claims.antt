@@ -45,7 +45,8 @@ pub record IsServed (m : Network) (y : Plan) : Type 0 where
 
 -- What one number that differs by k is worth, by the prices of a feasible plan x: the plan y is any one of the network
 -- with that number. Room for k more at a server or on a host saves at most k times its price, and room for k less costs
--- at least that. A row that asks for k more costs at least k times its price, and one that asks for k less saves at most
+-- at least that. A row that asks for k more costs at least k times its price, and one that asks for k less saves at
+-- most
 -- that.
 pub record OneChangeIsPriced (n : Network) (x : Plan) (u p q : List ℕ) : Type 0 where
   pub room_saves : (j k : ℕ) (others : List ℕ) → IsMoreAt j k n.capacities others →

@@ -34,17 +34,6 @@ fn push_arcs(arc_flows: &mut Vec<ArcFlow>, row: u32, arcs: &[Arc]) -> Result<(),
     Ok(())
 }
 
-// How many arcs all rows have together.
-fn arc_count(instance: &Instance) -> usize
-    ensures { result ≡ length (arcs_from 0 instance.now.arcs) }
-{
-    let mut count: usize = 0;
-    for row in 0..instance.rows() {
-        count += instance.arcs(row).len();
-    }
-    count
-}
-
 /// The arcs of all rows in turn.
 pub(crate) fn arcs_of(alloc: Global, instance: &Instance) -> Result<IndexedArcs, AllocError>
     ensures arcs { IfOk result (λ arcs.
@@ -52,7 +41,7 @@ pub(crate) fn arcs_of(alloc: Global, instance: &Instance) -> Result<IndexedArcs,
     // The instance is within its limits.
     ensures within { IfOk result (λ _. IsInstance instance.now) }
 {
-    let mut arc_flows = Vec::with_capacity(alloc, arc_count(instance))?;
+    let mut arc_flows = Vec::with_capacity(alloc, instance.arc_count())?;
     let mut runs = Runs::new(alloc)?;
     for row in 0..instance.rows() {
         push_arcs(&mut arc_flows, row, instance.arcs(row))?;

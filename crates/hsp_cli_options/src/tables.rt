@@ -21,6 +21,22 @@ pub(crate) struct Subcommand<'a> {
     pub(crate) others: &'a [Argument<'a>],
 }
 
+// What stands behind each option, and what that is. tools/gate/write_grammar.py reads these lines.
+// --settings FILE: sites and hosts, TOML
+// --values FILE: a value list
+// --demand FILE: queries of regions for handles, CSV
+// --costs FILE: costs from regions to sites, CSV
+// --capacity FILE: capacities of servers, CSV
+// --plan FILE: a certificate
+// --log FILE: a log, CSV
+// --option na|local|handle: what the site hashes
+// --servers N: number of servers
+// --index N: index of the value
+// --kind load|region|shortage: what is shown
+// --unit N: queries that count as one
+// --fronts N: number of fronts
+// --front N: number of this front, from 0
+
 const INPUTS: [Argument<'static>; 5] = [
     Needed("settings"),
     Optional("values"),

@@ -10,7 +10,8 @@ unfolding strip_bom
 after_mark rest = refl
 
 -- a text that begins with a mark
-pub marked : (octets : List ℕ) → pointwise eqb (take 3 octets) (239 ∷ 187 ∷ 191 ∷ []) ≡ true → drop 3 octets ≡ strip_bom octets
+pub marked : (octets : List ℕ) → pointwise eqb (take 3 octets) (239 ∷ 187 ∷ 191 ∷ []) ≡ true
+    → drop 3 octets ≡ strip_bom octets
 unfolding strip_bom
 marked [] e = cc e
 marked (a ∷ []) e = let p = and_parts (a == 239) false e in cc (p.1)
@@ -25,7 +26,8 @@ marked (a ∷ b ∷ c ∷ rest) e =
     rw (p.0, q.0, r.0) refl
 
 -- a text that begins otherwise stays as it is
-pub unmarked : (octets : List ℕ) → pointwise eqb (take 3 octets) (239 ∷ 187 ∷ 191 ∷ []) ≡ false → octets ≡ strip_bom octets
+pub unmarked : (octets : List ℕ) → pointwise eqb (take 3 octets) (239 ∷ 187 ∷ 191 ∷ []) ≡ false
+    → octets ≡ strip_bom octets
 unfolding strip_bom
 unmarked [] e = refl
 unmarked (a ∷ []) e = refl

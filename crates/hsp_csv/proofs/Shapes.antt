@@ -10,13 +10,15 @@ unfolding field_at
 no_fields [] e = refl
 no_fields (first ∷ more) e = cc e
 
-pub one_field : (fields : Fields) (x : List ℕ) → Some x ≡ field_at fields 0 → None ≡ field_at fields 1 → one x ≡ shape_of_fields fields
+pub one_field : (fields : Fields) (x : List ℕ) → Some x ≡ field_at fields 0 → None ≡ field_at fields 1
+    → one x ≡ shape_of_fields fields
 unfolding field_at
 one_field [] x e end = cc e
 one_field (first ∷ []) x e end = let same : x ≡ first = cc e in rw same refl
 one_field (first ∷ second ∷ more) x e end = cc end
 
-pub two_fields : (fields : Fields) (x y : List ℕ) → Some x ≡ field_at fields 0 → Some y ≡ field_at fields 1 → None ≡ field_at fields 2 → two x y ≡ shape_of_fields fields
+pub two_fields : (fields : Fields) (x y : List ℕ) → Some x ≡ field_at fields 0 → Some y ≡ field_at fields 1
+    → None ≡ field_at fields 2 → two x y ≡ shape_of_fields fields
 unfolding field_at
 two_fields [] x y e f end = cc e
 two_fields (first ∷ []) x y e f end = cc f

@@ -1,5 +1,6 @@
 -- What one answer more adds to what a desk has answered.
-use Rattle.std.proofs.Common.{◌≡◌, ◌≢◌, ◌++◌, ◌∙◌, ℕ, List, [], ◌∷◌, length, Option, Some, None, option_map, Result, Ok, Err, IfOk, arith, refl, sym, ap}
+use Rattle.std.proofs.Common.{◌≡◌, ◌≢◌, ◌++◌, ◌∙◌, ℕ, List, [], ◌∷◌, length, Option, Some, None, option_map, Result, Ok}
+use Rattle.std.proofs.Common.{Err, IfOk, arith, refl, sym, ap}
 use Rattle.std.specs.List.{slice_get}
 use Rattle.std.proofs.lemmas.List.{append-nil, append_assoc, map_push}
 use Rattle.std.proofs.lemmas.Option.{slice_get-map}
@@ -8,8 +9,10 @@ use Rattle.hsp_instance.specs.Instance.{Instance, Server}
 use Rattle.hsp_check.specs.Plan.{Plan}
 use Rattle.hsp_dispatch.specs.Desks.{AnswersEntries, AnswersEvents, answers_by}
 use Rattle.hsp_dispatch.specs.Dispatch.{Entry, IsSame, all_of, answer_to, answers, answers_after, rest, sums_of}
-use Rattle.hsp_dispatch.specs.Fronts.{Event, Tables, event_answer, event_answers_after, front_sums_of, fronts_of, left_at_front}
-use Rattle.hsp_dispatch.specs.Lines.{IsAmong, answer_of, counted, front_line, line_by, line_of, lines_of, or_none, server_line, served_by}
+use Rattle.hsp_dispatch.specs.Fronts.{Event, Tables, event_answer, event_answers_after, front_sums_of, fronts_of}
+use Rattle.hsp_dispatch.specs.Fronts.{left_at_front}
+use Rattle.hsp_dispatch.specs.Lines.{IsAmong, answer_of, counted, front_line, line_by, line_of, lines_of, or_none}
+use Rattle.hsp_dispatch.specs.Lines.{server_line, served_by}
 use Rattle.hsp_dispatch.specs.Log.{AreEntries, AreEvents, Gives, IsEntryIn, IsEventIn, IsFront}
 use Rattle.hsp_names.specs.Handle.{handle_in}
 use Rattle.hsp_dispatch.specs.Shares.{Held, left_of}
@@ -29,13 +32,17 @@ use Rattle.hsp_dispatch.proofs.Resting.{answer_after, answers_more, rest_more, r
 
 -- ---- lines
 
-at_number : (it : Instance) (server : Option Server) → server ≢ None → or_none (option_map (server_line it) server) ≡ line_of it (served_by server)
+at_number : (it : Instance) (server : Option Server) → server ≢ None
+    → or_none (option_map (server_line it) server) ≡ line_of it (served_by server)
 at_number it None there = absurd (there refl)
 at_number it (Some server) there = refl
 
-line_is : (it : Instance) (how : Given) → IsAmong (length it.servers) how → line_by (lines_of it) how ≡ front_line it (answer_of it how)
+line_is : (it : Instance) (how : Given) → IsAmong (length it.servers) how
+    → line_by (lines_of it) how ≡ front_line it (answer_of it how)
 line_is it (given.Server number) among =
-    ap or_none (slice_get-map (server_line it) it.servers number) ∙ at_number it (slice_get it.servers number) (λ none. absurd (omega (arith, none_from it.servers number none, among)))
+    ap or_none (slice_get-map (server_line it) it.servers number)
+    ∙ at_number it (slice_get it.servers number)
+    (λ none. absurd (omega (arith, none_from it.servers number none, among)))
 line_is it given.Spent among = refl
 line_is it given.Unknown among = refl
 line_is it given.NoFront among = refl
@@ -46,31 +53,40 @@ pub no_entries : (it : Instance) (x : Plan) → BeginsWithNone (AnswersEntries i
 unfolding answers_after
 no_entries it x form = ([], tt, refl, refl, rest_none it x)
 
-pub spells : (form : Form) (row : Fields) (region field : List ℕ) (entry : Entry) → row ≡ region ∷ field ∷ [] → entry.region ≡ region → Gives form field entry.handle
+pub spells : (form : Form) (row : Fields) (region field : List ℕ) (entry : Entry) → row ≡ region ∷ field ∷ []
+    → entry.region ≡ region → Gives form field entry.handle
     → handle_in entry.handle ≡ Ok entry.handle → IsEntryIn form row entry
 spells form row region field entry is same gives handle = rw is (same, gives, handle)
 
 -- an entry more, where the earlier ones were answered by the plan `x`, of which `middle` was left
-entry_on : (it : Instance) (x middle left : Plan) (form : Form) (rows : List Fields) (lines : List (List ℕ)) (sums : FrontSums) (row : Fields) (entry : Entry) (how : Given)
-    → IsEntryIn form row entry → answer_of it how ≡ Answered (answer_to it middle [] entry) → IsSame left (rest it middle (entry ∷ []))
+entry_on : (it : Instance) (x middle left : Plan) (form : Form) (rows : List Fields) (lines : List (List ℕ))
+    (sums : FrontSums) (row : Fields) (entry : Entry) (how : Given)
+    → IsEntryIn form row entry → answer_of it how ≡ Answered (answer_to it middle [] entry)
+    → IsSame left (rest it middle (entry ∷ []))
     → IsAmong (length it.servers) how → AnswersEntries it x middle form rows lines sums
     → AnswersEntries it x left form (rows ++ row ∷ []) (lines ++ line_by (lines_of it) how ∷ []) (counted sums how)
 entry_on it x middle left form rows lines sums row entry how is answer takes among so_far =
     let entries = so_far.0 in
-    let own : answer_to it middle [] entry ≡ answer_to it x entries entry = answer_after it x middle entries entry so_far.4 in
+    let own : answer_to it middle [] entry ≡ answer_to it x entries entry =
+    answer_after it x middle entries entry so_far.4 in
     let given : answer_of it how ≡ Answered (answer_to it x entries entry) = answer ∙ ap Answered own in
-    let all : answers it x (entries ++ entry ∷ []) ≡ answers it x entries ++ answer_to it x entries entry ∷ [] = answers_more it x [] entries entry in
-    let line : line_by (lines_of it) how ≡ line_of it (answer_to it x entries entry) = line_is it how among ∙ ap (front_line it) given in (
+    let all : answers it x (entries ++ entry ∷ []) ≡ answers it x entries ++ answer_to it x entries entry ∷ [] =
+    answers_more it x [] entries entry in
+    let line : line_by (lines_of it) how ≡ line_of it (answer_to it x entries entry) = line_is it how among
+    ∙ ap (front_line it) given in (
       entries ++ entry ∷ [],
       zip_push (IsEntryIn form) rows entries row entry so_far.1 is,
       rw (so_far.2, line, all) (sym (map_push (line_of it) (answers it x entries) (answer_to it x entries entry))),
-      counted_answer it how (answers it x entries) (answer_to it x entries entry) sums among so_far.3 given ∙ ap (λ (given : List Answer). all_of (sums_of given)) (sym all),
+      counted_answer it how (answers it x entries) (answer_to it x entries entry) sums among so_far.3 given
+          ∙ ap (λ (given : List Answer). all_of (sums_of given)) (sym all),
       rest_more it x middle left entries entry so_far.4 takes,
     )
 
-pub entry_more : (old new : Held) (form : Form) (row : Fields) (entry : Entry) (how : Given) → IsEntryIn form row entry → Takes old entry new how
+pub entry_more : (old new : Held) (form : Form) (row : Fields) (entry : Entry) (how : Given) → IsEntryIn form row entry
+    → Takes old entry new how
     → IsAmong (length old.instance.servers) how
-    → GoesOn (λ held. held.instance) (λ a b. AnswersEntries a.instance (left_of a) (left_of b)) old new form row (line_by (lines_of old.instance) how) how
+    → GoesOn (λ held. held.instance) (λ a b. AnswersEntries a.instance (left_of a) (left_of b)) old new form row
+    (line_by (lines_of old.instance) how) how
 entry_more old new form row entry how is takes among start rows lines sums same so_far =
     rw same (entry_on start.instance (left_of start) (left_of old) (left_of new) form rows lines sums row entry how is
     (rw same at takes.answer) (rw same at takes.left) (rw same at among) so_far)
@@ -84,19 +100,27 @@ no_events tables form = (
   tt,
   refl,
   refl,
-  record { instance = refl; many = refl; each = λ front inside. rest_none tables.instance (left_at_front tables front) },
+  record {
+    instance = refl;
+    many = refl;
+    each = λ front inside. rest_none tables.instance (left_at_front tables front);
+  },
 )
 
-pub spells_event : (row : Fields) (front region handle : List ℕ) (event : Event) → row ≡ front ∷ region ∷ handle ∷ [] → IsFront front event.front
+pub spells_event : (row : Fields) (front region handle : List ℕ) (event : Event) → row ≡ front ∷ region ∷ handle ∷ []
+    → IsFront front event.front
     → event.entry.region ≡ region → event.entry.handle ≡ handle → handle_in handle ≡ Ok handle → IsEventIn row event
 spells_event row front region handle event is number same own good = rw is (number, same, own, good)
 
 answers_on : (it : Instance) (fronts : ℕ) (tables : ℕ → Plan) (before events : List Event) (event : Event)
-    → event_answers_after it fronts tables before (events ++ event ∷ []) ≡ event_answers_after it fronts tables before events ++ event_answer it fronts tables (before ++ events) event ∷ []
+    → event_answers_after it fronts tables before (events ++ event ∷ [])
+    ≡ event_answers_after it fronts tables before events ++ event_answer it fronts tables (before ++ events) event
+    ∷ []
 unfolding event_answers_after
 answers_on it fronts tables before events event = each_parts (event_answer it fronts tables) before events (event ∷ [])
 
-pub event_more : (old new : Tables) (form : Form) (row : Fields) (event : Event) (how : Given) → IsEventIn row event → TakesAt event.front old event.entry new how
+pub event_more : (old new : Tables) (form : Form) (row : Fields) (event : Event) (how : Given) → IsEventIn row event
+    → TakesAt event.front old event.entry new how
     → IsAmong (length old.instance.servers) how
     → GoesOn (λ held. held.instance) AnswersEvents old new form row (line_by (lines_of old.instance) how) how
 event_more old new form row event how is takes among start rows lines sums same so_far =
@@ -106,15 +130,20 @@ event_more old new form row event how is takes among start rows lines sums same 
     let fronts = fronts_of start in
     let tables = left_at_front start in
     let given : answer_of it how ≡ event_answer it fronts tables events event =
-    ap (λ (i : Instance). answer_of i how) (sym same) ∙ takes.answer ∙ answered_by it fronts tables events event old same left.many left.each in
-    let all : answers_by start (events ++ event ∷ []) ≡ answers_by start events ++ event_answer it fronts tables events event ∷ [] = answers_on it fronts tables [] events event in
+    ap (λ (i : Instance). answer_of i how) (sym same) ∙ takes.answer
+    ∙ answered_by it fronts tables events event old same left.many left.each in
+    let all : answers_by start (events ++ event ∷ []) ≡ answers_by start events
+    ++ event_answer it fronts tables events event ∷ [] = answers_on it fronts tables [] events event in
     let line : line_by (lines_of old.instance) how ≡ front_line it (event_answer it fronts tables events event) =
-    line_is old.instance how among ∙ ap (λ (i : Instance). front_line i (answer_of i how)) same ∙ ap (front_line it) given in (
+    line_is old.instance how among ∙ ap (λ (i : Instance). front_line i (answer_of i how)) same
+    ∙ ap (front_line it) given in (
       events ++ event ∷ [],
       zip_push IsEventIn rows events row event so_far.1 is,
-      rw (so_far.2, line, all) (sym (map_push (front_line it) (answers_by start events) (event_answer it fronts tables events event))),
+      rw (so_far.2, line, all)
+          (sym (map_push (front_line it) (answers_by start events) (event_answer it fronts tables events event))),
       counted_more it how (answers_by start events) sums (rw same at among) so_far.3
-          ∙ ap (λ (last : FrontAnswer). front_sums_of (answers_by start events ++ last ∷ [])) given ∙ ap front_sums_of (sym all),
+          ∙ ap (λ (last : FrontAnswer). front_sums_of (answers_by start events ++ last ∷ [])) given
+          ∙ ap front_sums_of (sym all),
       record {
         instance = takes.left.instance ∙ same;
         many = takes.left.many ∙ left.many;
@@ -125,6 +154,7 @@ event_more old new form row event how is takes among start rows lines sums same 
 -- ---- results
 
 -- what two promises of a result show together
-pub if_both : {A E : Type 0} {P Q R : A → Type 0} (result : Result A E) → IfOk result P → IfOk result Q → ((a : A) → P a → Q a → R a) → IfOk result R
+pub if_both : {A E : Type 0} {P Q R : A → Type 0} (result : Result A E) → IfOk result P → IfOk result Q
+    → ((a : A) → P a → Q a → R a) → IfOk result R
 if_both (Ok a) p q both = both a p q
 if_both (Err e) p q both = tt

@@ -1,11 +1,13 @@
 -- What holds of every plan and every log.
-use Rattle.std.proofs.Common.{◌≡◌, ◌≤◌, ◌∙◌, ◌++◌, ℕ, List, [], ◌∷◌, length, take, Option, Some, None, arith, refl, sym, ap}
+use Rattle.std.proofs.Common.{◌≡◌, ◌≤◌, ◌∙◌, ◌++◌, ℕ, List, [], ◌∷◌, length, take, Option, Some, None, arith, refl, sym}
+use Rattle.std.proofs.Common.{ap}
 use Rattle.std.specs.List.{slice_get}
 use Rattle.std.proofs.lemmas.List.{append-nil, append_assoc, take_all}
 use Rattle.std.proofs.lemmas.List.Sums.{sum_by-take-le}
 use Rattle.hsp_instance.specs.Instance.{Instance, Server}
 use Rattle.hsp_check.specs.Plan.{Plan}
-use Rattle.hsp_dispatch.specs.Dispatch.{Entry, answer_at, answer_in, answer_to, answers, answers_after, assigned_in, assigned_to, count_for, rest, server_to, spread}
+use Rattle.hsp_dispatch.specs.Dispatch.{Entry, answer_at, answer_in, answer_to, answers, answers_after, assigned_in}
+use Rattle.hsp_dispatch.specs.Dispatch.{assigned_to, count_for, rest, server_to, spread}
 use Rattle.hsp_dispatch.specs.Laws.{GoesOnWithTheRest, IsSpentAfterAll, NeverExceeds}
 use Rattle.hsp_dispatch.specs.declared.answer.Answer.{Answer}
 use Rattle.hsp_dispatch.specs.declared.answer.Answer.TheVariants.{Spent}
@@ -37,13 +39,18 @@ is_spent_after_all it x earlier entry row site found spent inside =
     k : ℕ
     k = count_for it row earlier
 
-    by_element : (given : Option ℕ) → given ≡ slice_get (spread it x row) (count_for it row earlier) → answer_at it row given ≡ Spent → assigned_in it x earlier row site ≡ x row site
+    by_element : (given : Option ℕ) → given ≡ slice_get (spread it x row) (count_for it row earlier)
+        → answer_at it row given ≡ Spent → assigned_in it x earlier row site ≡ x row site
     by_element None e spent =
-        let long : length (spread it x row) ≤ count_for it row earlier = none_from (spread it x row) (count_for it row earlier) (sym e) in
-        assigned_is it x earlier row site ∙ ap (λ (front : List ℕ). times site front) (take_all (count_for it row earlier) (spread it x row) long)
+        let long : length (spread it x row) ≤ count_for it row earlier =
+        none_from (spread it x row) (count_for it row earlier) (sym e) in
+        assigned_is it x earlier row site
+        ∙ ap (λ (front : List ℕ). times site front) (take_all (count_for it row earlier) (spread it x row) long)
         ∙ times_in (length it.sites) 0 site (x row) (omega arith) (omega arith)
     by_element (Some element) e spent = absurd (not_spent element (server_to it row element) spent)
 
 pub goes_on : GoesOnWithTheRest
 unfolding answers_after
-goes_on it x a b = each_goes_on (answer_to it x) (answer_to it (rest it x a)) a (λ earlier entry. sym (answer_parts it x a earlier entry)) b
+goes_on it x a b =
+    each_goes_on (answer_to it x) (answer_to it (rest it x a)) a
+    (λ earlier entry. sym (answer_parts it x a earlier entry)) b

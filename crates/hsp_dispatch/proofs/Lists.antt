@@ -1,11 +1,15 @@
 -- Lists, element by element.
-use Rattle.std.proofs.Common.{◌≡◌, ◌≤◌, ◌∙◌, ◌++◌, ◌+◌, ℕ, zero, suc, List, [], ◌∷◌, length, take, None, Some, arith, ap}
+use Rattle.std.proofs.Common.{◌≡◌, ◌≤◌, ◌∙◌, ◌++◌, ◌+◌, ℕ, zero, suc, List, [], ◌∷◌, length, take, None, Some, arith}
+use Rattle.std.proofs.Common.{ap}
 use Rattle.std.specs.List.{AllByRecursion, AllZip, slice_get}
 use Rattle.std.proofs.lemmas.List.{take_more}
 use Rattle.std.proofs.lemmas.Option.{get_or_from_slice_get, same_Some, slice_get_within}
 
-pub take_next : {A : Type 0} (xs : List A) (k : ℕ) (x : A) → slice_get xs k ≡ Some x → take (k + 1) xs ≡ take k xs ++ x ∷ []
-take_next {A} xs k x e = take_more xs k x (slice_get_within xs k x e) ∙ ap (λ (own : A). take k xs ++ own ∷ []) (get_or_from_slice_get xs k x x e)
+pub take_next : {A : Type 0} (xs : List A) (k : ℕ) (x : A) → slice_get xs k ≡ Some x
+    → take (k + 1) xs ≡ take k xs ++ x ∷ []
+take_next {A} xs k x e =
+    take_more xs k x (slice_get_within xs k x e)
+    ∙ ap (λ (own : A). take k xs ++ own ∷ []) (get_or_from_slice_get xs k x x e)
 
 -- where there is no element, the list has come to its end
 pub none_from : {A : Type 0} (xs : List A) (k : ℕ) → slice_get xs k ≡ None → length xs ≤ k
@@ -14,13 +18,15 @@ none_from (x ∷ xs) zero none = absurd (cc)
 none_from (x ∷ xs) (suc k) none = omega (arith, none_from xs k none)
 
 -- what holds of two lists place by place, with one element more in each
-pub zip_push : {A B : Type 0} (R : A → B → Type 0) (xs : List A) (ys : List B) (x : A) (y : B) → AllZip R xs ys → R x y → AllZip R (xs ++ x ∷ []) (ys ++ y ∷ [])
+pub zip_push : {A B : Type 0} (R : A → B → Type 0) (xs : List A) (ys : List B) (x : A) (y : B) → AllZip R xs ys → R x y
+    → AllZip R (xs ++ x ∷ []) (ys ++ y ∷ [])
 zip_push R [] [] x y all is = (is, tt)
 zip_push R [] (b ∷ ys) x y all is = absurd all
 zip_push R (a ∷ xs) [] x y all is = absurd all
 zip_push R (a ∷ xs) (b ∷ ys) x y all is = (all.0, zip_push R xs ys x y all.1 is)
 
-pub zip_at : {A B : Type 0} (R : A → B → Type 0) (xs : List A) (ys : List B) (k : ℕ) (x : A) (y : B) → AllZip R xs ys → slice_get xs k ≡ Some x
+pub zip_at : {A B : Type 0} (R : A → B → Type 0) (xs : List A) (ys : List B) (k : ℕ) (x : A) (y : B) → AllZip R xs ys
+    → slice_get xs k ≡ Some x
     → slice_get ys k ≡ Some y → R x y
 zip_at R [] ys k x y all at there = absurd (cc)
 zip_at R (a ∷ xs) [] k x y all at there = absurd all
@@ -30,11 +36,7 @@ zip_at R (a ∷ xs) (b ∷ ys) zero x y all at there =
     rw (← left, ← right) all.0
 zip_at R (a ∷ xs) (b ∷ ys) (suc k) x y all at there = zip_at R xs ys k x y all.1 at there
 
-pub all_so : {A : Type 0} (P Q : A → Type 0) → ((x : A) → P x → Q x) → (xs : List A) → AllByRecursion P xs → AllByRecursion Q xs
+pub all_so : {A : Type 0} (P Q : A → Type 0) → ((x : A) → P x → Q x) → (xs : List A) → AllByRecursion P xs
+    → AllByRecursion Q xs
 all_so P Q so [] all = tt
 all_so P Q so (x ∷ xs) all = (so x all.0, all_so P Q so xs all.1)
-
-pub all_take : {A : Type 0} (P : A → Type 0) (n : ℕ) (xs : List A) → AllByRecursion P xs → AllByRecursion P (take n xs)
-all_take P zero xs all = tt
-all_take P (suc n) [] all = tt
-all_take P (suc n) (x ∷ xs) all = (all.0, all_take P n xs all.1)

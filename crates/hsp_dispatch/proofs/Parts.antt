@@ -1,4 +1,5 @@
--- The parts in the cells of a row: each cell has a part of what it had, and those of which nothing is left are left out.
+-- The parts in the cells of a row: each cell has a part of what it had, and those of which nothing is left are left
+-- out.
 use Rattle.std.proofs.Common.{◌≡◌, ◌<◌, ◌≤◌, ◌/◌, ◌%◌, ◌++◌, ℕ, List, [], ◌∷◌, arith, refl, sym, eq-eqb}
 use Rattle.std.proofs.Common.{inl, inr}
 use Rattle.std.specs.List.{AllByRecursion}
@@ -33,34 +34,45 @@ part_le portion number some one = rw one (omega (arith, share_le portion.fronts 
 -- ---- the parts in cells
 
 -- what only the site and the server of a cell decide
-parts_keep : (P : Cell → Type 0) → ((cell : Cell) (left : ℕ) → P cell → P (record cell { left = left })) → (part : ℕ → ℕ) (cells : List Cell)
+parts_keep : (P : Cell → Type 0) → ((cell : Cell) (left : ℕ) → P cell → P (record cell { left = left }))
+    → (part : ℕ → ℕ) (cells : List Cell)
     → AllByRecursion P cells → AllByRecursion P (parts_in part cells)
 parts_keep P keeps part [] all = tt
 parts_keep P keeps part (cell ∷ cells) all = elim (cases_eq (part cell.left) 0) [
   | inl none ↦ rw (eq-eqb (part cell.left) 0 none) (parts_keep P keeps part cells all.1)
-  | inr some ↦ rw (ne_eqb (part cell.left) 0 some) (keeps cell (part cell.left) all.0, parts_keep P keeps part cells all.1)
+  | inr some ↦
+      rw (ne_eqb (part cell.left) 0 some) (keeps cell (part cell.left) all.0, parts_keep P keeps part cells all.1)
 ]
 
 parts_after : (part : ℕ → ℕ) (site : ℕ) (cells : List Cell) → AllByRecursion (λ (later : Cell). site < later.site) cells
     → AllByRecursion (λ (later : Cell). site < later.site) (parts_in part cells)
-parts_after part site cells after = parts_keep (λ (later : Cell). site < later.site) (λ cell left less. less) part cells after
+parts_after part site cells after =
+    parts_keep (λ (later : Cell). site < later.site) (λ cell left less. less) part cells after
 
 pub parts_are : (part : ℕ → ℕ) (cells : List Cell) → AreCells cells → AreCells (parts_in part cells)
 parts_are part [] are = tt
 parts_are part (cell ∷ cells) are = elim (cases_eq (part cell.left) 0) [
   | inl none ↦ rw (eq-eqb (part cell.left) 0 none) (parts_are part cells are.1.1)
-  | inr some ↦ rw (ne_eqb (part cell.left) 0 some) (omega (arith, some), (parts_after part cell.site cells are.1.0, parts_are part cells are.1.1))
+  | inr some ↦
+      rw (ne_eqb (part cell.left) 0 some)
+      (omega (arith, some), (parts_after part cell.site cells are.1.0, parts_are part cells are.1.1))
 ]
 
 -- the parts in the cells of a row are cells of the row
-pub parts_of_row : (part : ℕ → ℕ) (it : Instance) (row : ℕ) (cells : List Cell) → AreCellsOf it row cells → AreCellsOf it row (parts_in part cells)
+pub parts_of_row : (part : ℕ → ℕ) (it : Instance) (row : ℕ) (cells : List Cell) → AreCellsOf it row cells
+    → AreCellsOf it row (parts_in part cells)
 parts_of_row part it row cells are = record {
-  each = parts_keep (IsCellOf it row) (λ cell left own. record { site = own.site; arc = own.arc; is_arc = own.is_arc; server = own.server; there = own.there }) part cells are.each;
+  each =
+      parts_keep (IsCellOf it row)
+      (λ cell left own.
+      record { site = own.site; arc = own.arc; is_arc = own.is_arc; server = own.server; there = own.there }) part cells
+      are.each;
   are = parts_are part cells are.are;
 }
 
 -- the part in what is left at a site
-pub part_left : (part : ℕ → ℕ) → part 0 ≡ 0 → (site : ℕ) (cells : List Cell) → AreCells cells → left_at (parts_in part cells) site ≡ part (left_at cells site)
+pub part_left : (part : ℕ → ℕ) → part 0 ≡ 0 → (site : ℕ) (cells : List Cell) → AreCells cells
+    → left_at (parts_in part cells) site ≡ part (left_at cells site)
 part_left part nothing site [] are = sym nothing
 part_left part nothing site (cell ∷ cells) are =
     let behind = parts_after part site cells in
@@ -68,14 +80,18 @@ part_left part nothing site (cell ∷ cells) are =
     grind (arith, nothing, none, part_left part nothing site cells are.1.1)
 
 -- one cell more
-pub parts_more : (part : ℕ → ℕ) (cells : List Cell) (cell : Cell) → parts_in part (cells ++ cell ∷ []) ≡ parts_in part cells ++ with_first (with_part part cell) []
+pub parts_more : (part : ℕ → ℕ) (cells : List Cell) (cell : Cell)
+    → parts_in part (cells ++ cell ∷ []) ≡ parts_in part cells ++ with_first (with_part part cell) []
 parts_more part [] cell = refl
 parts_more part (first ∷ cells) cell = grind (arith, parts_more part cells cell)
 
 -- cells have no more in units of one
-pub parts_bounded : (portion : Portion) (cells : List Cell) → 0 < portion.fronts → portion.unit ≡ 1 → AreBounded cells → AreBounded (parts_in (part_of portion) cells)
+pub parts_bounded : (portion : Portion) (cells : List Cell) → 0 < portion.fronts → portion.unit ≡ 1 → AreBounded cells
+    → AreBounded (parts_in (part_of portion) cells)
 parts_bounded portion [] some one bounded = tt
 parts_bounded portion (cell ∷ cells) some one bounded = elim (cases_eq (part_of portion cell.left) 0) [
   | inl none ↦ rw (eq-eqb (part_of portion cell.left) 0 none) (parts_bounded portion cells some one bounded.1)
-  | inr more ↦ rw (ne_eqb (part_of portion cell.left) 0 more) (omega (arith, part_le portion cell.left some one, bounded.0), parts_bounded portion cells some one bounded.1)
+  | inr more ↦
+      rw (ne_eqb (part_of portion cell.left) 0 more)
+      (omega (arith, part_le portion cell.left some one, bounded.0), parts_bounded portion cells some one bounded.1)
 ]

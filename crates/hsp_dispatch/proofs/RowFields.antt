@@ -8,6 +8,7 @@ use Rattle.hsp_dispatch.specs.declared.form.Form.{Form}
 use Rattle.hsp_dispatch.specs.declared.form.Form.TheVariants.{Handles, Bodies}
 
 -- a record that is neither of the headers
-pub is_no_header : (fields : Fields) → same_fields fields (header_of Handles) ≡ false → same_fields fields (header_of Bodies) ≡ false → (form : Form) → fields ≡ header_of form → ⊥
+pub is_no_header : (fields : Fields) → same_fields fields (header_of Handles) ≡ false
+    → same_fields fields (header_of Bodies) ≡ false → (form : Form) → fields ≡ header_of form → ⊥
 is_no_header fields one other Handles same = is_other fields (header_of Handles) one same
 is_no_header fields one other Bodies same = is_other fields (header_of Bodies) other same

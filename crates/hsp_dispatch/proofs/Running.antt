@@ -1,5 +1,6 @@
 -- A run over a log: what was answered so far, one row more, and how it stops.
-use Rattle.std.proofs.Common.{◌≡◌, ◌≤◌, ◌<◌, ◌++◌, ◌∙◌, ◌+◌, ℕ, List, [], ◌∷◌, length, length-append, Option, Some, None, inl, inr, refl, sym, ap, arith, lit≤}
+use Rattle.std.proofs.Common.{◌≡◌, ◌≤◌, ◌<◌, ◌++◌, ◌∙◌, ◌+◌, ℕ, List, [], ◌∷◌, length, length-append, Option, Some}
+use Rattle.std.proofs.Common.{None, inl, inr, refl, sym, ap, arith, lit≤}
 use Rattle.std.specs.Io.KnownBytes.{Appends, Keeps}
 use Rattle.std.proofs.KnownBytes.{Appends-trans}
 use Rattle.std.proofs.lemmas.List.{append-nil, append_assoc}
@@ -12,7 +13,8 @@ use Rattle.hsp_csv.specs.declared.fault.RecordsFault.TheVariants as records_faul
 use Rattle.hsp_instance.specs.Instance.{Instance}
 use Rattle.hsp_dispatch.specs.Lines.{count_all, counted, text_of}
 use Rattle.hsp_dispatch.specs.Log.{fault_of}
-use Rattle.hsp_dispatch.specs.Runs.{Answered, AreWithinLimit, Begins, Desk, EndsWhole, Stops, StopsAtRow, StopsSomewhere, Streams, desk_of}
+use Rattle.hsp_dispatch.specs.Runs.{Answered, AreWithinLimit, Begins, Desk, EndsWhole, Stops, StopsAtRow}
+use Rattle.hsp_dispatch.specs.Runs.{StopsSomewhere, Streams, desk_of}
 use Rattle.hsp_dispatch.specs.Steps.{FailsHeader, GoesOn, IsRead, IsRefused, RowAnswers, log_left, none_counted}
 use Rattle.hsp_dispatch.specs.declared.answer.FrontSums.{FrontSums}
 use Rattle.hsp_dispatch.specs.declared.answer.Given.{Given}
@@ -26,7 +28,8 @@ use Rattle.hsp_dispatch.proofs.InTurn.{begins, begins_before, unheaded}
 -- ---- what was answered so far
 
 -- so many rows were read and answered; `now` are the records that are left
-pub record SoFar (desk : Desk) (run : Streams) (form : Form) (now : Option (List Fields)) (number : ℕ) (sums : FrontSums) : Type 0 where
+pub record SoFar (desk : Desk) (run : Streams) (form : Form) (now : Option (List Fields)) (number : ℕ)
+    (sums : FrontSums) : Type 0 where
   pub rows : List Fields
   pub lines : List (List ℕ)
   pub many : length rows ≡ number
@@ -45,7 +48,8 @@ answered desk run form now number sums so_far =
 
 text_more : (lines : List (List ℕ)) (line : List ℕ) → text_of (lines ++ line ∷ []) ≡ text_of lines ++ line
 text_more [] line = append-nil line
-text_more (first ∷ lines) line = ap (λ more. first ++ more) (text_more lines line) ∙ sym (append_assoc first (text_of lines) line)
+text_more (first ∷ lines) line =
+    ap (λ more. first ++ more) (text_more lines line) ∙ sym (append_assoc first (text_of lines) line)
 
 count_more : (sums : FrontSums) (how : Given) → count_all (counted sums how) ≡ count_all sums + 1
 count_more sums (given.Server number) = omega arith
@@ -54,17 +58,22 @@ count_more sums given.Unknown = omega arith
 count_more sums given.NoFront = omega arith
 
 -- the row's answer is counted, and its line is or is not written whole
-module _ {S : Type 0} (instance : S → Instance) (Answers : S → S → RowAnswers) (header : Form → Fields) (Refuses : Form → Fields → LogFault → Type 0) (start old new : S)
-    (log : Option (List Fields)) (before middle after : Option (List ℕ)) (form : Form) (now later : Option (List Fields)) (number : ℕ) (sums : FrontSums)
+module _ {S : Type 0} (instance : S → Instance) (Answers : S → S → RowAnswers) (header : Form → Fields)
+    (Refuses : Form → Fields → LogFault → Type 0) (start old new : S)
+    (log : Option (List Fields)) (before middle after : Option (List ℕ)) (form : Form)
+    (now later : Option (List Fields)) (number : ℕ) (sums : FrontSums)
     (row : Fields) (line text : List ℕ) (how : Given)
-    (so_far : SoFar (desk_of header (Answers start old) Refuses) (record { log = log; before = before; after = middle }) form now number sums)
-    (read : IsRead (header form) log (so_far.rows ++ row ∷ []) later) (same : instance old ≡ instance start) (on : GoesOn instance Answers old new form row line how)
+    (so_far : SoFar (desk_of header (Answers start old) Refuses) (record { log = log; before = before; after = middle })
+    form now number sums)
+    (read : IsRead (header form) log (so_far.rows ++ row ∷ []) later) (same : instance old ≡ instance start)
+    (on : GoesOn instance Answers old new form row line how)
     (is_line : text ≡ line) (below : number < MOST_LOG_ROWS) where
   many_more : length (so_far.rows ++ row ∷ []) ≡ number + 1
   many_more = length-append so_far.rows (row ∷ []) ∙ ap (λ n. n + 1) so_far.many
 
   pub row_more : Appends middle after text
-      → SoFar (desk_of header (Answers start new) Refuses) (record { log = log; before = before; after = after }) form later (number + 1) (counted sums how)
+      → SoFar (desk_of header (Answers start new) Refuses) (record { log = log; before = before; after = after }) form
+      later (number + 1) (counted sums how)
   row_more line_written = record {
     rows = so_far.rows ++ row ∷ [];
     lines = so_far.lines ++ line ∷ [];
@@ -72,11 +81,15 @@ module _ {S : Type 0} (instance : S → Instance) (Answers : S → S → RowAnsw
     within = omega (arith, below);
     read = read;
     answers = on start so_far.rows so_far.lines sums same so_far.answers;
-    written = rw (text_more so_far.lines line) (Appends-trans before middle after (text_of so_far.lines) line so_far.written (rw is_line at line_written));
+    written =
+        rw (text_more so_far.lines line)
+        (Appends-trans before middle after (text_of so_far.lines) line so_far.written (rw is_line at line_written));
     counted_all = count_more sums how ∙ ap (λ n. n + 1) so_far.counted_all;
   }
 
-  pub line_stops : IsCut middle after text → Stops (desk_of header (Answers start new) Refuses) (record { log = log; before = before; after = after }) fault.WriteFailed
+  pub line_stops : IsCut middle after text
+      → Stops (desk_of header (Answers start new) Refuses) (record { log = log; before = before; after = after })
+      fault.WriteFailed
   line_stops cut =
       let begun = begins (header form) log later (so_far.rows ++ row ∷ []) read in
       inl (
@@ -97,13 +110,17 @@ module _ {S : Type 0} (instance : S → Instance) (Answers : S → S → RowAnsw
 -- ---- how a run stops
 
 -- at the header
-pub header_stops : {R : Type 0} (remaining : R → Option (List ℕ)) (old : Reader R) (desk : Desk) (run : Streams) (e : LogFault)
-    → run.log ≡ log_left remaining old → desk.Answers Handles [] [] none_counted → Appends run.before run.after [] → FailsHeader remaining old desk.header e
+pub header_stops : {R : Type 0} (remaining : R → Option (List ℕ)) (old : Reader R) (desk : Desk) (run : Streams)
+    (e : LogFault)
+    → run.log ≡ log_left remaining old → desk.Answers Handles [] [] none_counted → Appends run.before run.after []
+    → FailsHeader remaining old desk.header e
     → Stops desk run e
 header_stops remaining old desk run fault.Header log none written fails =
     (rw log (unheaded remaining old desk.header fails), (Handles, none_counted, (lit≤ tt, [], none, written)))
-header_stops remaining old desk run fault.ReadFailed log none written fails = (Handles, [], [], none_counted, inl refl, (lit≤ tt, [], none, written))
-header_stops remaining old desk run fault.OutOfMemory log none written fails = (Handles, [], [], none_counted, inl refl, (lit≤ tt, [], none, written))
+header_stops remaining old desk run fault.ReadFailed log none written fails =
+    (Handles, [], [], none_counted, inl refl, (lit≤ tt, [], none, written))
+header_stops remaining old desk run fault.OutOfMemory log none written fails =
+    (Handles, [], [], none_counted, inl refl, (lit≤ tt, [], none, written))
 header_stops remaining old desk run fault.WriteFailed log none written fails = absurd fails
 header_stops remaining old desk run fault.LogTooLong log none written fails = absurd fails
 header_stops remaining old desk run (fault.Fields row) log none written fails = absurd fails
@@ -112,7 +129,8 @@ header_stops remaining old desk run (fault.BadBody row) log none written fails =
 header_stops remaining old desk run (fault.BadFront row) log none written fails = absurd fails
 
 -- before it
-pub memory_stops : (desk : Desk) (run : Streams) → desk.Answers Handles [] [] none_counted → Appends run.before run.after [] → Stops desk run fault.OutOfMemory
+pub memory_stops : (desk : Desk) (run : Streams) → desk.Answers Handles [] [] none_counted
+    → Appends run.before run.after [] → Stops desk run fault.OutOfMemory
 memory_stops desk run none written = (Handles, [], [], none_counted, inl refl, (lit≤ tt, [], none, written))
 
 module _ (desk : Desk) (run : Streams) (form : Form) (now : Option (List Fields)) (number : ℕ) (sums : FrontSums)
@@ -128,17 +146,31 @@ module _ (desk : Desk) (run : Streams) (form : Form) (now : Option (List Fields)
   read_stops records_fault.OutOfMemory = somewhere
 
   -- at a row that was read
-  module _ (row : Fields) (later : Option (List Fields)) (read : IsRead (desk.header form) run.log (so_far.rows ++ row ∷ []) later) where
+  module _ (row : Fields) (later : Option (List Fields))
+      (read : IsRead (desk.header form) run.log (so_far.rows ++ row ∷ []) later) where
     abbrev more : List Fields
     more = (begins (desk.header form) run.log later (so_far.rows ++ row ∷ []) read).0
 
     before_row : Begins (desk.header form) run.log so_far.rows (row ∷ more)
-    before_row = begins_before (desk.header form) run.log so_far.rows row more (begins (desk.header form) run.log later (so_far.rows ++ row ∷ []) read).1
+    before_row =
+        begins_before (desk.header form) run.log so_far.rows row more
+        (begins (desk.header form) run.log later (so_far.rows ++ row ∷ []) read).1
 
     pub too_long : number ≡ MOST_LOG_ROWS → Stops desk run fault.LogTooLong
-    too_long last = (form, so_far.rows, row, more, sums, before_row, so_far.many ∙ last, tt, answered desk run form now number sums so_far)
+    too_long last = (
+      form,
+      so_far.rows,
+      row,
+      more,
+      sums,
+      before_row,
+      so_far.many ∙ last,
+      tt,
+      answered desk run form now number sums so_far,
+    )
 
-    at_row : number < MOST_LOG_ROWS → (n : ℕ) → n ≡ number → (e : LogFault) → desk.Refuses form row e → StopsAtRow desk run n e
+    at_row : number < MOST_LOG_ROWS → (n : ℕ) → n ≡ number → (e : LogFault) → desk.Refuses form row e
+        → StopsAtRow desk run n e
     at_row below n is e refused = (
       form,
       so_far.rows,
@@ -151,24 +183,32 @@ module _ (desk : Desk) (run : Streams) (form : Form) (now : Option (List Fields)
       answered desk run form now number sums so_far,
     )
 
-    pub refused_stops : number < MOST_LOG_ROWS → (e : LogFault) → IsRefused desk.Refuses number form row e → Stops desk run e
+    pub refused_stops : number < MOST_LOG_ROWS → (e : LogFault) → IsRefused desk.Refuses number form row e
+        → Stops desk run e
     refused_stops below (fault.Fields n) refused = at_row below n refused.0 (fault.Fields n) refused.1
     refused_stops below (fault.BadHandle n) refused = at_row below n refused.0 (fault.BadHandle n) refused.1
     refused_stops below (fault.BadBody n) refused = at_row below n refused.0 (fault.BadBody n) refused.1
     refused_stops below (fault.BadFront n) refused = at_row below n refused.0 (fault.BadFront n) refused.1
-    refused_stops below fault.OutOfMemory refused = (form, so_far.rows, row ∷ more, sums, inr before_row, answered desk run form now number sums so_far)
+    refused_stops below fault.OutOfMemory refused =
+        (form, so_far.rows, row ∷ more, sums, inr before_row, answered desk run form now number sums so_far)
     refused_stops below fault.ReadFailed refused = absurd refused
     refused_stops below fault.WriteFailed refused = absurd refused
     refused_stops below fault.Header refused = absurd refused
     refused_stops below fault.LogTooLong refused = absurd refused
 
 -- at the end of the log, where nothing more is written
-pub ends : (desk : Desk) (log : Option (List Fields)) (before middle after : Option (List ℕ)) (form : Form) (now : Option (List Fields)) (number : ℕ)
-    (sums : FrontSums) (so_far : SoFar desk (record { log = log; before = before; after = middle }) form now number sums) → Keeps middle after
-    → Begins (desk.header form) log so_far.rows [] → EndsWhole desk (record { log = log; before = before; after = after }) sums
+pub ends : (desk : Desk) (log : Option (List Fields)) (before middle after : Option (List ℕ)) (form : Form)
+    (now : Option (List Fields)) (number : ℕ)
+    (sums : FrontSums)
+    (so_far : SoFar desk (record { log = log; before = before; after = middle }) form now number sums)
+    → Keeps middle after
+    → Begins (desk.header form) log so_far.rows []
+    → EndsWhole desk (record { log = log; before = before; after = after }) sums
 ends desk log before middle after form now number sums so_far keeps whole =
     let written : Appends before after (text_of so_far.lines) =
-    rw (append-nil (text_of so_far.lines)) at (Appends-trans before middle after (text_of so_far.lines) [] so_far.written (keeps_appends middle after keeps)) in
+    rw (append-nil (text_of so_far.lines)) at
+    (Appends-trans before middle after (text_of so_far.lines) [] so_far.written
+    (keeps_appends middle after keeps)) in
     (form, so_far.rows, whole, (rw so_far.many so_far.within, so_far.lines, so_far.answers, written))
   where
     keeps_appends : (a b : Option (List ℕ)) → Keeps a b → Appends a b []

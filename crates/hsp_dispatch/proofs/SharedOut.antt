@@ -1,5 +1,7 @@
 -- The cells that the uses of a plan give the rows of an instance.
-use Rattle.std.proofs.Common.{◌≡◌, ◌<◌, ◌≤◌, ◌+◌, ◌∙◌, ◌++◌, ◌==◌, ◌&&◌, Bool, true, ℕ, zero, suc, List, [], ◌∷◌, length, map, take, replicate, if◌then◌else◌, Option, Some, None, arith, refl, sym, ap, subst, eq-eqb, eqb-true}
+use Rattle.std.proofs.Common.{◌≡◌, ◌<◌, ◌≤◌, ◌+◌, ◌∙◌, ◌++◌, ◌==◌, ◌&&◌, Bool, true, ℕ, zero, suc, List, [], ◌∷◌}
+use Rattle.std.proofs.Common.{length, map, take, replicate, if◌then◌else◌, Option, Some, None, arith, refl, sym, ap}
+use Rattle.std.proofs.Common.{subst, eq-eqb, eqb-true}
 use Rattle.std.proofs.Common.{inl, inr}
 use Rattle.std.specs.List.{AllByRecursion, list_all, list_any, slice_get}
 use Rattle.std.proofs.lemmas.Bool.{and_parts, cases_Bool, cases_eq, cases_lt, ne_eqb, or_cases}
@@ -21,13 +23,15 @@ use Rattle.hsp_check.specs.Network.{is_allowed}
 use Rattle.hsp_check.specs.Uses.{table}
 use Rattle.hsp_dispatch.specs.Dispatch.{IsSame, arc_to}
 use Rattle.hsp_dispatch.specs.Portions.{AreSharesOf, part_of, parts_in, portion_of, with_part}
-use Rattle.hsp_dispatch.specs.Shares.{AreCells, AreUsesOf, IsCellOf, IsHeld, cell_of, cells_at, cells_of, holding, left_at, left_of, number_of, with_first}
+use Rattle.hsp_dispatch.specs.Shares.{AreCells, AreUsesOf, IsCellOf, IsHeld, cell_of, cells_at, cells_of, holding}
+use Rattle.hsp_dispatch.specs.Shares.{left_at, left_of, number_of, with_first}
 use Rattle.hsp_dispatch.specs.Standings.{AreBounded}
 use Rattle.hsp_dispatch.specs.declared.share.Cell.{Cell}
 use Rattle.hsp_dispatch.specs.declared.portion.Portion.{Portion}
 use Rattle.hsp_dispatch.proofs.Parts.{part_left, part_none, parts_are, parts_bounded, parts_more, parts_of_row}
-use Rattle.hsp_dispatch.proofs.Lists.{all_so, all_take, take_next}
+use Rattle.hsp_dispatch.proofs.Lists.{all_so, take_next}
 use Rattle.hsp_dispatch.proofs.Shares.{none_at}
+use Rattle.hsp_text.proofs.Lists.{all_take}
 
 -- ---- uses in order
 
@@ -48,13 +52,16 @@ abbrev pub InOrder : List UseLine → Type 0
 InOrder [] = Unit {0}
 InOrder (one ∷ uses) = AllByRecursion (Before one) uses × InOrder uses
 
-order_from : (one : UseLine) (uses : List UseLine) → ascends_from is_before (Some one) uses ≡ true → AllByRecursion (Before one) uses × InOrder uses
+order_from : (one : UseLine) (uses : List UseLine) → ascends_from is_before (Some one) uses ≡ true
+    → AllByRecursion (Before one) uses × InOrder uses
 order_from one [] order = (tt, tt)
 order_from one (next ∷ uses) order =
     let parts = and_parts (is_before one next) (ascends_from is_before (Some next) uses) order in
     let first = before_is one next parts.0 in
-    let rest = order_from next uses parts.1 in
-    ((first, all_so (Before next) (Before one) (λ later after. before_both one next later first after) uses rest.0), rest)
+    let rest = order_from next uses parts.1 in (
+      (first, all_so (Before next) (Before one) (λ later after. before_both one next later first after) uses rest.0),
+      rest,
+    )
 
 pub in_order : (uses : List UseLine) → ascends is_before uses ≡ true → InOrder uses
 in_order [] order = tt
@@ -73,13 +80,15 @@ counted (one ∷ uses) all =
     let each = and_parts (is_use one) (list_all is_use uses) all in
     (is_counted one each.0, counted uses each.1)
 
-pub count_within : (uses : List UseLine) (k : ℕ) (one : UseLine) → list_all is_use uses ≡ true → slice_get uses k ≡ Some one → one.count ≤ GREATEST_COUNT
+pub count_within : (uses : List UseLine) (k : ℕ) (one : UseLine) → list_all is_use uses ≡ true
+    → slice_get uses k ≡ Some one → one.count ≤ GREATEST_COUNT
 count_within uses k one all at = (all_at IsCounted uses k one (counted uses all) at).1
 
 -- ---- cells in order
 
 -- what holds of the cells of a row, since it holds of its uses
-cells_so : (it : Instance) (row : ℕ) (P : UseLine → Type 0) (Q : Cell → Type 0) → ((one : UseLine) → one.row ≡ row → P one → Q (cell_of it one)) → (uses : List UseLine)
+cells_so : (it : Instance) (row : ℕ) (P : UseLine → Type 0) (Q : Cell → Type 0)
+    → ((one : UseLine) → one.row ≡ row → P one → Q (cell_of it one)) → (uses : List UseLine)
     → AllByRecursion P uses → AllByRecursion Q (cells_of it row uses)
 cells_so it row P Q so [] all = tt
 cells_so it row P Q so (one ∷ uses) all = elim (cases_eq one.row row) [
@@ -91,13 +100,16 @@ cells_so it row P Q so (one ∷ uses) all = elim (cases_eq one.row row) [
 cells_after : (it : Instance) (first : UseLine) (uses : List UseLine) → AllByRecursion (Before first) uses
     → AllByRecursion (λ (cell : Cell). first.site < cell.site) (cells_of it first.row uses)
 cells_after it first uses after =
-    cells_so it first.row (Before first) (λ (cell : Cell). first.site < cell.site) (λ one here before. before.sites (sym here)) uses after
+    cells_so it first.row (Before first) (λ (cell : Cell). first.site < cell.site)
+    (λ one here before. before.sites (sym here)) uses after
 
-are_cells : (it : Instance) (row : ℕ) (uses : List UseLine) → InOrder uses → AllByRecursion IsCounted uses → AreCells (cells_of it row uses)
+are_cells : (it : Instance) (row : ℕ) (uses : List UseLine) → InOrder uses → AllByRecursion IsCounted uses
+    → AreCells (cells_of it row uses)
 are_cells it row [] order counts = tt
 are_cells it row (one ∷ uses) order counts = elim (cases_eq one.row row) [
   | inl here ↦
-      let later : AllByRecursion (λ (cell : Cell). one.site < cell.site) (cells_of it row uses) = rw (← here) (cells_after it one uses order.0) in
+      let later : AllByRecursion (λ (cell : Cell). one.site < cell.site) (cells_of it row uses) =
+      rw (← here) (cells_after it one uses order.0) in
       rw (eq-eqb one.row row here) (counts.0.0, (later, are_cells it row uses order.1 counts.1))
   | inr other ↦ rw (ne_eqb one.row row other) (are_cells it row uses order.1 counts.1)
 ]
@@ -107,7 +119,8 @@ abbrev count_at : ℕ → ℕ → UseLine → ℕ
 count_at row site one = if one.row == row && one.site == site then one.count else 0
 
 -- what is left of the cells is what the uses say
-left_is : (it : Instance) (row site : ℕ) (uses : List UseLine) → InOrder uses → left_at (cells_of it row uses) site ≡ table uses row site
+left_is : (it : Instance) (row site : ℕ) (uses : List UseLine) → InOrder uses
+    → left_at (cells_of it row uses) site ≡ table uses row site
 left_is it row site [] order = refl
 left_is it row site (one ∷ uses) order =
     let later = λ (here : one.row ≡ row). cells_after it one uses order.0 in
@@ -126,23 +139,26 @@ pub record HasArcTo (site : ℕ) (arcs : Option (List Arc)) : Type 0 where
 abbrev goes : ℕ → ℕ → NetworkArc → Bool
 goes row site a = a.row == row && a.site == site
 
-arc_among : (i row site : ℕ) (arcs : List Arc) → list_any (goes row site) (map (arc_of i) arcs) ≡ true → (i ≡ row) × HasArcTo site (Some arcs)
+arc_among : (i row site : ℕ) (arcs : List Arc) → list_any (goes row site) (map (arc_of i) arcs) ≡ true
+    → (i ≡ row) × HasArcTo site (Some arcs)
 arc_among i row site [] any = absurd (cc)
-arc_among i row site (arc ∷ arcs) any = elim (or_cases (i == row && arc.site == site) (list_any (goes row site) (map (arc_of i) arcs)) any) [
-  | inl here ↦
-      let parts = and_parts (i == row) (arc.site == site) here in
-      (eqb-true i row parts.0, record { arc = arc; is_arc = rw parts.1 refl })
-  | inr later ↦
-      let rest = arc_among i row site arcs later in (
-        rest.0,
-        elim (cases_Bool (arc.site == site)) [
-          | inl at ↦ record { arc = arc; is_arc = rw at refl }
-          | inr away ↦ record { arc = rest.1.arc; is_arc = rw away rest.1.is_arc }
-        ],
-      )
-]
+arc_among i row site (arc ∷ arcs) any =
+    elim (or_cases (i == row && arc.site == site) (list_any (goes row site) (map (arc_of i) arcs)) any) [
+      | inl here ↦
+          let parts = and_parts (i == row) (arc.site == site) here in
+          (eqb-true i row parts.0, record { arc = arc; is_arc = rw parts.1 refl })
+      | inr later ↦
+          let rest = arc_among i row site arcs later in (
+            rest.0,
+            elim (cases_Bool (arc.site == site)) [
+              | inl at ↦ record { arc = arc; is_arc = rw at refl }
+              | inr away ↦ record { arc = rest.1.arc; is_arc = rw away rest.1.is_arc }
+            ],
+          )
+    ]
 
-arc_from : (i row site : ℕ) (lists : List (List Arc)) → list_any (goes row site) (arcs_from i lists) ≡ true → (k : ℕ) × (row ≡ i + k) × HasArcTo site (slice_get lists k)
+arc_from : (i row site : ℕ) (lists : List (List Arc)) → list_any (goes row site) (arcs_from i lists) ≡ true
+    → (k : ℕ) × (row ≡ i + k) × HasArcTo site (slice_get lists k)
 arc_from i row site [] any = absurd (cc)
 arc_from i row site (arcs ∷ lists) any =
     elim (or_cases (list_any (goes row site) (map (arc_of i) arcs)) (list_any (goes row site) (arcs_from (i + 1) lists))
@@ -155,7 +171,8 @@ arc_from i row site (arcs ∷ lists) any =
           (suc rest.0, omega (arith, rest.1), rest.2)
     ]
 
-pub has_arc : (it : Instance) (row site : ℕ) → is_allowed (network_of it) row site ≡ true → HasArcTo site (slice_get it.arcs row)
+pub has_arc : (it : Instance) (row site : ℕ) → is_allowed (network_of it) row site ≡ true
+    → HasArcTo site (slice_get it.arcs row)
 has_arc it row site allowed =
     let found = arc_from 0 row site it.arcs allowed in
     let same : row ≡ found.0 = omega (arith, found.1) in
@@ -167,11 +184,13 @@ has_arc it row site allowed =
 row_there : (site row : ℕ) (lists : List (List Arc)) → HasArcTo site (slice_get lists row) → row < length lists
 row_there site row lists has = elim (cases_lt row (length lists)) [
   | inl inside ↦ inside
-  | inr past ↦ let none : arc_to site (slice_get lists row) ≡ None = rw (slice_get_past lists row past) refl in absurd (cc (none, has.is_arc))
+  | inr past ↦ let none : arc_to site (slice_get lists row) ≡ None =
+      rw (slice_get_past lists row past) refl in absurd (cc (none, has.is_arc))
 ]
 
 -- the arc that is found is one of the arcs, and of the site
-pub found_so : (P : Arc → Type 0) (site : ℕ) (arcs : List Arc) (arc : Arc) → AllByRecursion P arcs → arc_to site (Some arcs) ≡ Some arc → P arc × (arc.site ≡ site)
+pub found_so : (P : Arc → Type 0) (site : ℕ) (arcs : List Arc) (arc : Arc) → AllByRecursion P arcs
+    → arc_to site (Some arcs) ≡ Some arc → P arc × (arc.site ≡ site)
 found_so P site [] arc all found = absurd (cc)
 found_so P site (first ∷ arcs) arc all found = elim (cases_Bool (first.site == site)) [
   | inl at ↦
@@ -181,21 +200,29 @@ found_so P site (first ∷ arcs) arc all found = elim (cases_Bool (first.site ==
 ]
 
 -- the arc of a row to a site is one of the instance
-pub own_arc : (it : Instance) (row site : ℕ) (arc : Arc) → IsInstance it → arc_to site (slice_get it.arcs row) ≡ Some arc → IsArc it.servers arc × (arc.site ≡ site)
+pub own_arc : (it : Instance) (row site : ℕ) (arc : Arc) → IsInstance it
+    → arc_to site (slice_get it.arcs row) ≡ Some arc → IsArc it.servers arc × (arc.site ≡ site)
 own_arc it row site arc is found = by_list (slice_get it.arcs row) refl found
   where
-    by_list : (own : Option (List Arc)) → slice_get it.arcs row ≡ own → arc_to site own ≡ Some arc → IsArc it.servers arc × (arc.site ≡ site)
+    by_list : (own : Option (List Arc)) → slice_get it.arcs row ≡ own → arc_to site own ≡ Some arc
+        → IsArc it.servers arc × (arc.site ≡ site)
     by_list None e found = absurd (cc)
-    by_list (Some arcs) e found = found_so (IsArc it.servers) site arcs arc (all_at (AreArcs it.servers) it.arcs row arcs is.arcs e).each found
+    by_list (Some arcs) e found =
+        found_so (IsArc it.servers) site arcs arc (all_at (AreArcs it.servers) it.arcs row arcs is.arcs e).each found
 
-cell_is : (it : Instance) (one : UseLine) → IsInstance it → is_allowed (network_of it) one.row one.site ≡ true → IsCellOf it one.row (cell_of it one)
+cell_is : (it : Instance) (one : UseLine) → IsInstance it → is_allowed (network_of it) one.row one.site ≡ true
+    → IsCellOf it one.row (cell_of it one)
 cell_is it one is allowed =
     let has = has_arc it one.row one.site allowed in
     let own = own_arc it one.row one.site has.arc is has.is_arc in
-    let server = all_at (IsServer it.sites (length it.hosts)) it.servers has.arc.server own.0.server is.servers.each own.0.is_server in
+    let server =
+    all_at (IsServer it.sites (length it.hosts)) it.servers has.arc.server own.0.server is.servers.each
+    own.0.is_server in
     let number : (cell_of it one).server ≡ has.arc.server = ap number_of has.is_arc in
     record {
-      site = rw (sym own.1 ∙ own.0.same_site) (slice_get_within it.sites own.0.server.site server.place.site server.place.is_site);
+      site =
+          rw (sym own.1 ∙ own.0.same_site)
+          (slice_get_within it.sites own.0.server.site server.place.site server.place.is_site);
       arc = has.arc;
       is_arc = has.is_arc;
       server = sym number;
@@ -205,9 +232,12 @@ cell_is it one is allowed =
 abbrev Goes : Instance → UseLine → Type 0
 Goes it one = is_allowed (network_of it) one.row one.site ≡ true
 
-each_is : (it : Instance) (row : ℕ) (uses : List UseLine) → IsInstance it → AllByRecursion (Goes it) uses → AllByRecursion (IsCellOf it row) (cells_of it row uses)
+each_is : (it : Instance) (row : ℕ) (uses : List UseLine) → IsInstance it → AllByRecursion (Goes it) uses
+    → AllByRecursion (IsCellOf it row) (cells_of it row uses)
 each_is it row uses is goes =
-    cells_so it row (Goes it) (IsCellOf it row) (λ one here allowed. subst (λ (r : ℕ). IsCellOf it r (cell_of it one)) here (cell_is it one is allowed)) uses goes
+    cells_so it row (Goes it) (IsCellOf it row)
+    (λ one here allowed. subst (λ (r : ℕ). IsCellOf it r (cell_of it one)) here (cell_is it one is allowed)) uses
+    goes
 
 -- ---- one use after the other
 
@@ -228,10 +258,16 @@ order_take (suc n) [] order = tt
 order_take (suc n) (one ∷ uses) order = (all_take (Before one) n uses order.0, order_take n uses order.1)
 
 are_given : (it : Instance) (uses : List UseLine) → AreUsesOf it uses → AreGiven it uses
-are_given it uses are = record { order = in_order uses are.order; counts = counted uses are.ranges; goes = recursion_from_All (Goes it) uses are.allowed }
+are_given it uses are =
+    record {
+      order = in_order uses are.order;
+      counts = counted uses are.ranges;
+      goes = recursion_from_All (Goes it) uses are.allowed;
+    }
 
 -- the row of a use is there
-pub use_there : (it : Instance) (uses : List UseLine) (k : ℕ) (one : UseLine) → IsInstance it → AreUsesOf it uses → slice_get uses k ≡ Some one → one.row < length it.rows
+pub use_there : (it : Instance) (uses : List UseLine) (k : ℕ) (one : UseLine) → IsInstance it → AreUsesOf it uses
+    → slice_get uses k ≡ Some one → one.row < length it.rows
 use_there it uses k one is are e =
     let goes = all_at (Goes it) uses k one (are_given it uses are).goes e in
     let inside = row_there one.site one.row it.arcs (has_arc it one.row one.site goes) in
@@ -240,20 +276,26 @@ use_there it uses k one is are e =
 own_more : (it : Instance) (uses : List UseLine) (k : ℕ) (one : UseLine) → slice_get uses k ≡ Some one
     → cells_of it one.row (take (k + 1) uses) ≡ cells_of it one.row (take k uses) ++ cell_of it one ∷ []
 own_more it uses k one e =
-    ap (λ (us : List UseLine). cells_of it one.row us) (take_next uses k one e) ∙ cells_more it one.row (take k uses) one ∙ rw (eq-eqb one.row one.row refl) refl
+    ap (λ (us : List UseLine). cells_of it one.row us) (take_next uses k one e)
+    ∙ cells_more it one.row (take k uses) one ∙ rw (eq-eqb one.row one.row refl) refl
 
 -- the part of a use's cell stands behind those of its row's earlier ones
 part_more : (part : ℕ → ℕ) (it : Instance) (uses : List UseLine) (k : ℕ) (one : UseLine) → slice_get uses k ≡ Some one
-    → parts_in part (cells_of it one.row (take (k + 1) uses)) ≡ parts_in part (cells_of it one.row (take k uses)) ++ with_first (with_part part (cell_of it one)) []
-part_more part it uses k one e = ap (parts_in part) (own_more it uses k one e) ∙ parts_more part (cells_of it one.row (take k uses)) (cell_of it one)
+    → parts_in part (cells_of it one.row (take (k + 1) uses)) ≡ parts_in part (cells_of it one.row (take k uses))
+    ++ with_first (with_part part (cell_of it one)) []
+part_more part it uses k one e =
+    ap (parts_in part) (own_more it uses k one e) ∙ parts_more part (cells_of it one.row (take k uses)) (cell_of it one)
 
 -- and comes after them
-pub cells_stay : (part : ℕ → ℕ) (it : Instance) (uses : List UseLine) (k : ℕ) (one : UseLine) → AreUsesOf it uses → slice_get uses k ≡ Some one
+pub cells_stay : (part : ℕ → ℕ) (it : Instance) (uses : List UseLine) (k : ℕ) (one : UseLine) → AreUsesOf it uses
+    → slice_get uses k ≡ Some one
     → AreCells (parts_in part (cells_of it one.row (take k uses)) ++ with_first (with_part part (cell_of it one)) [])
 cells_stay part it uses k one are e =
     let given = are_given it uses are in
     subst AreCells (part_more part it uses k one e)
-    (parts_are part (cells_of it one.row (take (k + 1) uses)) (are_cells it one.row (take (k + 1) uses) (order_take (k + 1) uses given.order) (all_take IsCounted (k + 1) uses given.counts)))
+    (parts_are part (cells_of it one.row (take (k + 1) uses))
+    (are_cells it one.row (take (k + 1) uses) (order_take (k + 1) uses given.order)
+    (all_take IsCounted (k + 1) uses given.counts)))
 
 pub shared_none : (part : ℕ → ℕ) (it : Instance) → AreSharesOf part it [] (replicate (length it.rows) [])
 shared_none part it = record { one_a_row = length-replicate (length it.rows) []; each = none_at_row (length it.rows) }
@@ -264,18 +306,25 @@ shared_none part it = record { one_a_row = length-replicate (length it.rows) [];
     none_at_row (suc n) (suc row) = none_at_row n row
 
 -- one use more: its cell is added to those of its row
-pub shared_more : (part : ℕ → ℕ) (it : Instance) (uses : List UseLine) (k : ℕ) (one : UseLine) (shares : List (List Cell)) (cells : List Cell) → slice_get uses k ≡ Some one
+pub shared_more : (part : ℕ → ℕ) (it : Instance) (uses : List UseLine) (k : ℕ) (one : UseLine)
+    (shares : List (List Cell)) (cells : List Cell) → slice_get uses k ≡ Some one
     → AreSharesOf part it (take k uses) shares → one.row < length it.rows
     → cells ≡ parts_in part (cells_of it one.row (take k uses)) ++ with_first (with_part part (cell_of it one)) []
     → AreSharesOf part it (take (k + 1) uses) (set shares one.row cells)
 shared_more part it uses k one shares cells e are inside new = record {
   one_a_row = length-set shares one.row cells ∙ are.one_a_row;
   each = λ row. elim (cases_eq one.row row) [
-    | inl here ↦ rw (← here) (get_or-set_same shares one.row cells [] (omega (arith, are.one_a_row)) ∙ new ∙ sym (part_more part it uses k one e))
+    | inl here ↦
+        rw (← here)
+        (get_or-set_same shares one.row cells [] (omega (arith, are.one_a_row)) ∙ new
+        ∙ sym (part_more part it uses k one e))
     | inr other ↦
         get_or-set_other shares one.row row cells [] (λ same. other (sym same)) ∙ are.each row
         ∙ ap (parts_in part)
-        (sym (ap (λ (us : List UseLine). cells_of it row us) (take_next uses k one e) ∙ cells_more it row (take k uses) one ∙ rw (ne_eqb one.row row other) (append-nil (cells_of it row (take k uses)))))
+        (sym
+        (ap (λ (us : List UseLine). cells_of it row us) (take_next uses k one e)
+        ∙ cells_more it row (take k uses) one
+        ∙ rw (ne_eqb one.row row other) (append-nil (cells_of it row (take k uses)))))
   ];
 }
 
@@ -291,20 +340,27 @@ module _ (portion : Portion) (it : Instance) (uses : List UseLine) (shares : Lis
         one_a_row = shared.one_a_row;
         each = λ row.
             rw (shared.each row)
-            (parts_of_row (part_of portion) it row (cells_of it row uses) (record { each = each_is it row uses is given.goes; are = are_cells it row uses given.order given.counts }));
+            (parts_of_row (part_of portion) it row (cells_of it row uses)
+            (record {
+              each = each_is it row uses is given.goes;
+              are = are_cells it row uses given.order given.counts;
+            }));
       }
 
   pub table_held : IsSame (left_of (holding it shares)) (portion_of portion (table uses))
   table_held row site =
       let given = are_given it uses are in
       ap (λ (cells : List Cell). left_at cells site) (shared.each row)
-      ∙ part_left (part_of portion) (part_none portion) site (cells_of it row uses) (are_cells it row uses given.order given.counts)
+      ∙ part_left (part_of portion) (part_none portion) site (cells_of it row uses)
+      (are_cells it row uses given.order given.counts)
       ∙ ap (part_of portion) (left_is it row site uses given.order)
 
   -- each cell has no more than a row's count may be
   pub all_bounded : 0 < portion.fronts → portion.unit ≡ 1 → AllByRecursion AreBounded shares
   all_bounded some one =
       all_from AreBounded shares (λ row cells e.
-      let same : cells ≡ parts_in (part_of portion) (cells_of it row uses) = sym (get_or_from_slice_get shares row cells [] e) ∙ shared.each row in
+      let same : cells ≡ parts_in (part_of portion) (cells_of it row uses) =
+      sym (get_or_from_slice_get shares row cells [] e) ∙ shared.each row in
       rw same (parts_bounded portion (cells_of it row uses) some one
-      (cells_so it row IsCounted (λ (cell : Cell). cell.left ≤ GREATEST_COUNT) (λ u here counts. counts.1) uses (counted uses are.ranges))))
+      (cells_so it row IsCounted (λ (cell : Cell). cell.left ≤ GREATEST_COUNT) (λ u here counts. counts.1) uses
+      (counted uses are.ranges))))

@@ -1,8 +1,10 @@
 -- Spreads, and what is left of them when their first elements are taken.
-use Rattle.std.proofs.Common.{◌≡◌, ◌≢◌, ◌<◌, ◌≤◌, ◌+◌, ◌-◌, ◌∙◌, ◌++◌, ◌==◌, ℕ, zero, suc, List, [], ◌∷◌, count_by, length, take, drop, replicate, cond, Some, arith, refl, sym, ap, eq-eqb}
+use Rattle.std.proofs.Common.{◌≡◌, ◌≢◌, ◌<◌, ◌≤◌, ◌+◌, ◌-◌, ◌∙◌, ◌++◌, ◌==◌, ℕ, zero, suc, List, [], ◌∷◌, count_by}
+use Rattle.std.proofs.Common.{length, take, drop, replicate, cond, Some, arith, refl, sym, ap, eq-eqb}
 use Rattle.std.proofs.Common.{inl, inr}
 use Rattle.std.proofs.lemmas.Bool.{ne_eqb, cases_lt}
-use Rattle.std.proofs.lemmas.List.{drop-append-le, drop-drop, drop_at, drop-replicate, length-replicate, take-append-le, take-replicate}
+use Rattle.std.proofs.lemmas.List.{drop-append-le, drop-drop, drop_at, drop-replicate, length-replicate, take-append-le}
+use Rattle.std.proofs.lemmas.List.{take-replicate}
 use Rattle.std.proofs.lemmas.List.Folds.{sum_by-replicate}
 use Rattle.std.proofs.lemmas.List.Sums.{sum_by-append, sum_by-cons}
 use Rattle.std.proofs.Math.Seq.{drop-nil, take-append-add}
@@ -31,7 +33,8 @@ times_other k s t other = sum_by-replicate (λ (own : ℕ). cond (own == t) 1 0)
 pub same_spread : (n s : ℕ) (x y : ℕ → ℕ) → ((t : ℕ) → s ≤ t → x t ≡ y t) → spread_from n s x ≡ spread_from n s y
 same_spread zero s x y same = refl
 same_spread (suc n) s x y same =
-    rw (same s (omega arith)) (ap (λ (rest : List ℕ). replicate (y s) s ++ rest) (same_spread n (s + 1) x y (λ t h. same t (omega arith))))
+    rw (same s (omega arith))
+    (ap (λ (rest : List ℕ). replicate (y s) s ++ rest) (same_spread n (s + 1) x y (λ t h. same t (omega arith))))
 
 -- before its first site nothing is in a spread
 none_before : (n s t : ℕ) (x : ℕ → ℕ) → t < s → times t (spread_from n s x) ≡ 0
@@ -70,31 +73,40 @@ left_here : (n s k : ℕ) (x : ℕ → ℕ) → k ≤ x s
 left_here n s k x few =
     let later = spread_from n (s + 1) x in
     let inside : k ≤ length (replicate (x s) s) = rw (length-replicate (x s) s) few in
-    let taken : take k (replicate (x s) s ++ later) ≡ replicate k s = take-append-le k (replicate (x s) s) later inside ∙ take-replicate k (x s) s few in
+    let taken : take k (replicate (x s) s ++ later) ≡ replicate k s =
+    take-append-le k (replicate (x s) s) later inside ∙ take-replicate k (x s) s few in
     let dropped : drop k (replicate (x s) s ++ later) ≡ replicate (x s - k) s ++ later =
-    drop-append-le k (replicate (x s) s) later inside ∙ ap (λ (front : List ℕ). front ++ later) (drop-replicate k (x s) s) in
+    drop-append-le k (replicate (x s) s) later inside
+    ∙ ap (λ (front : List ℕ). front ++ later) (drop-replicate k (x s) s) in
     let rest : spread_from n (s + 1) (λ t. x t - times t (replicate k s)) ≡ later =
-    same_spread n (s + 1) (λ t. x t - times t (replicate k s)) x (λ t h. rw (times_other k s t (λ e. omega (arith, e))) (omega arith)) in
+    same_spread n (s + 1) (λ t. x t - times t (replicate k s)) x
+    (λ t h. rw (times_other k s t (λ e. omega (arith, e))) (omega arith)) in
     rw (taken, dropped, times_same k s, rest) refl
 
 -- what is left when the first site is used up
-left_later : (n s j : ℕ) (x : ℕ → ℕ) → spread_from n (s + 1) (λ t. x t - times t (take j (spread_from n (s + 1) x))) ≡ drop j (spread_from n (s + 1) x)
-    → spread_from (suc n) s (λ t. x t - times t (take (x s + j) (spread_from (suc n) s x))) ≡ drop (x s + j) (spread_from (suc n) s x)
+left_later : (n s j : ℕ) (x : ℕ → ℕ)
+    → spread_from n (s + 1) (λ t. x t - times t (take j (spread_from n (s + 1) x))) ≡ drop j (spread_from n (s + 1) x)
+    → spread_from (suc n) s (λ t. x t - times t (take (x s + j) (spread_from (suc n) s x)))
+    ≡ drop (x s + j) (spread_from (suc n) s x)
 left_later n s j x others =
     let first = replicate (x s) s in
     let later = spread_from n (s + 1) x in
     let long : length first ≡ x s = length-replicate (x s) s in
-    let taken : take (x s + j) (first ++ later) ≡ first ++ take j later = ap (λ (k : ℕ). take (k + j) (first ++ later)) (sym long) ∙ take-append-add first later j in
+    let taken : take (x s + j) (first ++ later) ≡ first ++ take j later =
+    ap (λ (k : ℕ). take (k + j) (first ++ later)) (sym long) ∙ take-append-add first later j in
     let dropped : drop (x s + j) (first ++ later) ≡ drop j later =
     sym (drop-drop j (x s) (first ++ later)) ∙ ap (λ (rest : List ℕ). drop j rest) (drop_at first later (x s) long) in
-    let none : x s - times s (first ++ take j later) ≡ 0 = omega (arith, times_append s first (take j later), times_same (x s) s) in
-    let rest : spread_from n (s + 1) (λ t. x t - times t (first ++ take j later)) ≡ spread_from n (s + 1) (λ t. x t - times t (take j later)) =
+    let none : x s - times s (first ++ take j later) ≡ 0 =
+    omega (arith, times_append s first (take j later), times_same (x s) s) in
+    let rest : spread_from n (s + 1) (λ t. x t - times t (first ++ take j later))
+    ≡ spread_from n (s + 1) (λ t. x t - times t (take j later)) =
     same_spread n (s + 1) (λ t. x t - times t (first ++ take j later)) (λ t. x t - times t (take j later))
     (λ t h. rw (times_append t first (take j later), times_other (x s) s t (λ e. omega (arith, e))) (omega arith)) in
     rw (taken, dropped, none, rest, others) refl
 
 -- what is left of a spread when its first elements are taken: the elements behind them
-pub spread_left : (n s k : ℕ) (x : ℕ → ℕ) → spread_from n s (λ t. x t - times t (take k (spread_from n s x))) ≡ drop k (spread_from n s x)
+pub spread_left : (n s k : ℕ) (x : ℕ → ℕ)
+    → spread_from n s (λ t. x t - times t (take k (spread_from n s x))) ≡ drop k (spread_from n s x)
 spread_left zero s k x = sym (drop-nil k)
 spread_left (suc n) s k x = elim (cases_lt (x s) k) [
   | inl many ↦

@@ -1,5 +1,6 @@
 -- Where fronts stand among the cells of a row, and what they take of them.
-use Rattle.std.proofs.Common.{◌≡◌, ◌≢◌, ◌<◌, ◌≤◌, ◌+◌, ◌-◌, ◌*◌, ◌∙◌, ℕ, zero, suc, List, [], ◌∷◌, drop, length, slice_index, Some, option_map, arith, refl, sym, ap}
+use Rattle.std.proofs.Common.{◌≡◌, ◌≢◌, ◌<◌, ◌≤◌, ◌+◌, ◌-◌, ◌*◌, ◌∙◌, ℕ, zero, suc, List, [], ◌∷◌, drop, length}
+use Rattle.std.proofs.Common.{slice_index, Some, option_map, arith, refl, sym, ap}
 use Rattle.std.proofs.Common.{inl, inr}
 use Rattle.std.specs.List.{slice_get}
 use Rattle.std.proofs.lemmas.Bool.{cases_eq, cases_lt, le-ltb, lt-ltb, ne_eqb}
@@ -9,7 +10,8 @@ use Rattle.hsp_text.specs.declared.limits.TheConstants.{MOST_SITES}
 use Rattle.hsp_instance.proofs.Lists.{drop_at}
 use Rattle.hsp_dispatch.specs.Fronts.{share}
 use Rattle.hsp_dispatch.specs.Shares.{AreCells, cells_at, first_of, without_first}
-use Rattle.hsp_dispatch.specs.Standings.{AreBounded, IsSole, all_sums, cells_left, left_among, left_from, place_of, shares_in, shares_sum, sums_of}
+use Rattle.hsp_dispatch.specs.Standings.{AreBounded, IsSole, all_sums, cells_left, left_among, left_from, place_of}
+use Rattle.hsp_dispatch.specs.Standings.{shares_in, shares_sum, sums_of}
 use Rattle.hsp_dispatch.specs.declared.front_share.Standing.{Standing}
 use Rattle.hsp_dispatch.specs.declared.share.Cell.{Cell}
 use Rattle.hsp_dispatch.proofs.FrontShares.{share_le}
@@ -27,29 +29,41 @@ few_cells (suc most) s (cell ∷ cells) are within =
 -- ---- what is left in all
 
 -- no front has more in cells than they have
-sum_within : (fronts front : ℕ) (cells : List Cell) → 0 < fronts → AreBounded cells → shares_sum fronts front cells ≤ length cells * 1000000
+sum_within : (fronts front : ℕ) (cells : List Cell) → 0 < fronts → AreBounded cells
+    → shares_sum fronts front cells ≤ length cells * 1000000
 sum_within fronts front [] some bounded = omega arith
 sum_within fronts front (cell ∷ cells) some bounded =
-    omega (arith, share_le fronts front cell.left some, bounded.0, sum_within fronts front cells some bounded.1, suc-mul (length cells) 1000000)
+    omega (
+      arith,
+      share_le fronts front cell.left some,
+      bounded.0,
+      sum_within fronts front cells some bounded.1,
+      suc-mul (length cells) 1000000,
+    )
 
-pub sum_fits : (fronts front : ℕ) (cells : List Cell) → 0 < fronts → AreBounded cells → length cells ≤ MOST_SITES → shares_sum fronts front cells ≤ 4294967295
+pub sum_fits : (fronts front : ℕ) (cells : List Cell) → 0 < fronts → AreBounded cells → length cells ≤ MOST_SITES
+    → shares_sum fronts front cells ≤ 4294967295
 sum_fits fronts front cells some bounded few = omega (arith, sum_within fronts front cells some bounded, few)
 
 pub sum_from : (fronts front k : ℕ) (cells : List Cell) (cell : Cell) → slice_get cells k ≡ Some cell
-    → shares_sum fronts front (drop k cells) ≡ share fronts front cell.left + shares_sum fronts front (drop (k + 1) cells)
+    → shares_sum fronts front (drop k cells)
+    ≡ share fronts front cell.left + shares_sum fronts front (drop (k + 1) cells)
 sum_from fronts front k cells cell e = ap (shares_sum fronts front) (drop_at cells k cell e)
 
 -- who has nothing left, and who has all
 left_none : (fronts front : ℕ) (cells : List Cell) → left_among fronts front 0 cells ≡ []
 left_none fronts front [] = refl
-left_none fronts front (cell ∷ cells) = rw (le-ltb (shares_sum fronts front cells) 0 (omega arith)) (left_none fronts front cells)
+left_none fronts front (cell ∷ cells) =
+    rw (le-ltb (shares_sum fronts front cells) 0 (omega arith)) (left_none fronts front cells)
 
-pub left_whole : (fronts front left : ℕ) (cells : List Cell) → left ≡ shares_sum fronts front cells → left_among fronts front left cells ≡ shares_in fronts front cells
+pub left_whole : (fronts front left : ℕ) (cells : List Cell) → left ≡ shares_sum fronts front cells
+    → left_among fronts front left cells ≡ shares_in fronts front cells
 left_whole fronts front left [] whole = refl
 left_whole fronts front left (cell ∷ cells) whole = grind (arith, left_whole fronts front left cells)
 
 -- who takes one has one less in all
-pub left_taken : (fronts front left : ℕ) (cells : List Cell) → without_first (left_among fronts front left cells) ≡ left_among fronts front (left - 1) cells
+pub left_taken : (fronts front left : ℕ) (cells : List Cell)
+    → without_first (left_among fronts front left cells) ≡ left_among fronts front (left - 1) cells
 left_taken fronts front left [] = refl
 left_taken fronts front left (cell ∷ cells) =
     let whole = left_whole fronts front (left - 1) cells in
@@ -67,14 +81,17 @@ none_left fronts front left cells none = rw none (left_none fronts front cells)
 
 -- ---- where a front stands
 
-less_behind : (fronts front k : ℕ) (cells : List Cell) → shares_sum fronts front (drop k cells) ≤ shares_sum fronts front cells
+less_behind : (fronts front k : ℕ) (cells : List Cell)
+    → shares_sum fronts front (drop k cells) ≤ shares_sum fronts front cells
 less_behind fronts front zero cells = omega arith
 less_behind fronts front (suc k) [] = omega arith
 less_behind fronts front (suc k) (cell ∷ cells) = omega (arith, less_behind fronts front k cells)
 
 -- it stands at the cell whose share, with those behind it, is as many as it has left, where those behind it are fewer
-stands_at : (fronts front left here k : ℕ) (cells : List Cell) → here ≢ 0 → here + shares_sum fronts front (drop (k + 1) cells) ≡ left
-    → (k ≢ 0 → left ≤ shares_sum fronts front (drop k cells)) → left_from fronts front here (drop k cells) ≡ left_among fronts front left cells
+stands_at : (fronts front left here k : ℕ) (cells : List Cell) → here ≢ 0
+    → here + shares_sum fronts front (drop (k + 1) cells) ≡ left
+    → (k ≢ 0 → left ≤ shares_sum fronts front (drop k cells))
+    → left_from fronts front here (drop k cells) ≡ left_among fronts front left cells
 stands_at fronts front left here zero [] some all as_many = refl
 stands_at fronts front left here zero (cell ∷ later) some all as_many = grind arith
 stands_at fronts front left here (suc k) [] some all as_many = refl
@@ -85,8 +102,10 @@ stands_at fronts front left here (suc k) (cell ∷ later) some all as_many =
     (stands_at fronts front left here k later some (rw next at all) (λ first. few))
 
 pub stands : (fronts front left here k : ℕ) (cells : List Cell) (standing : Standing) → (left ≢ 0 → here ≢ 0)
-    → here + shares_sum fronts front (drop (k + 1) cells) ≡ left → (k ≢ 0 → left ≤ shares_sum fronts front (drop k cells))
-    → standing.cell ≡ k → standing.left ≡ here → cells_left fronts front cells standing ≡ left_among fronts front left cells
+    → here + shares_sum fronts front (drop (k + 1) cells) ≡ left
+    → (k ≢ 0 → left ≤ shares_sum fronts front (drop k cells))
+    → standing.cell ≡ k → standing.left ≡ here
+    → cells_left fronts front cells standing ≡ left_among fronts front left cells
 stands fronts front left here k cells standing some all as_many at own = elim (cases_eq here 0) [
   | inl nothing ↦
       let none : left ≡ 0 = elim (cases_eq left 0) [ inl none ↦ none | inr more ↦ absurd (some more nothing) ] in
@@ -105,17 +124,21 @@ place_within fronts front row many own inside =
 sums_long : (fronts many : ℕ) (cells : List Cell) → length (sums_of fronts many cells) ≡ many
 sums_long fronts zero cells = refl
 sums_long fronts (suc many) cells =
-    length-append (sums_of fronts many cells) (shares_sum fronts many cells ∷ []) ∙ omega (arith, sums_long fronts many cells)
+    length-append (sums_of fronts many cells) (shares_sum fronts many cells ∷ [])
+    ∙ omega (arith, sums_long fronts many cells)
 
-sums_get : (fronts many front : ℕ) (cells : List Cell) → front < many → slice_index (sums_of fronts many cells) front ≡ shares_sum fronts front cells
+sums_get : (fronts many front : ℕ) (cells : List Cell) → front < many
+    → slice_index (sums_of fronts many cells) front ≡ shares_sum fronts front cells
 sums_get fronts zero front cells inside = absurd (omega (arith, inside))
 sums_get fronts (suc many) front cells inside = elim (cases_lt front many) [
   | inl before ↦
-      get_or_append_left (sums_of fronts many cells) (shares_sum fronts many cells ∷ []) 0 front (omega (arith, sums_long fronts many cells, before))
+      get_or_append_left (sums_of fronts many cells) (shares_sum fronts many cells ∷ []) 0 front
+      (omega (arith, sums_long fronts many cells, before))
       ∙ sums_get fronts many front cells before
   | inr last ↦
       let same : front ≡ many = omega (arith, inside, last) in
-      rw same (get_or_push (sums_of fronts many cells) (shares_sum fronts many cells) 0 many (sums_long fronts many cells))
+      rw same
+      (get_or_push (sums_of fronts many cells) (shares_sum fronts many cells) 0 many (sums_long fronts many cells))
 ]
 
 -- what fronts have at first: the sums of their shares
@@ -125,10 +148,12 @@ sums_at fronts front row [] inside there = absurd (omega arith)
 sums_at fronts front zero (cells ∷ rows) inside there =
     let place : 0 * fronts + front ≡ front = omega arith in
     ap (λ (n : ℕ). slice_index (all_sums fronts (cells ∷ rows)) n) place
-    ∙ get_or_append_left (sums_of fronts fronts cells) (all_sums fronts rows) 0 front (omega (arith, sums_long fronts fronts cells, inside))
+    ∙ get_or_append_left (sums_of fronts fronts cells) (all_sums fronts rows) 0 front
+    (omega (arith, sums_long fronts fronts cells, inside))
     ∙ sums_get fronts fronts front cells inside
 sums_at fronts front (suc row) (cells ∷ rows) inside there =
-    let place : suc row * fronts + front ≡ length (sums_of fronts fronts cells) + (row * fronts + front) = omega (arith, sums_long fronts fronts cells, suc-mul row fronts) in
+    let place : suc row * fronts + front ≡ length (sums_of fronts fronts cells) + (row * fronts + front) =
+    omega (arith, sums_long fronts fronts cells, suc-mul row fronts) in
     ap (λ (n : ℕ). slice_index (all_sums fronts (cells ∷ rows)) n) place
     ∙ get_or-append-add (sums_of fronts fronts cells) (all_sums fronts rows) (row * fronts + front) 0
     ∙ sums_at fronts front row rows inside (omega (arith, there))

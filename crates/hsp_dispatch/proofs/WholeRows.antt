@@ -1,5 +1,6 @@
 -- What a feasible plan sends of a row to all sites is the whole number of the row.
-use Rattle.std.proofs.Common.{◌≡◌, ◌≢◌, ◌<◌, ◌+◌, ◌*◌, ◌∙◌, ◌==◌, ℕ, zero, suc, List, [], ◌∷◌, length, map, sum_by, Some, if◌then◌else◌, slice_index, arith, refl, sym, ap}
+use Rattle.std.proofs.Common.{◌≡◌, ◌≢◌, ◌<◌, ◌+◌, ◌*◌, ◌∙◌, ◌==◌, ℕ, zero, suc, List, [], ◌∷◌, length, map, sum_by}
+use Rattle.std.proofs.Common.{Some, if◌then◌else◌, slice_index, arith, refl, sym, ap}
 use Rattle.std.proofs.Common.{inl, inr}
 use Rattle.std.specs.List.{AllByRecursion, slice_get}
 use Rattle.std.proofs.lemmas.Bool.{cases_Bool}
@@ -30,7 +31,8 @@ use Rattle.hsp_dispatch.proofs.SharedOut.{has_arc}
 abbrev given_to : Plan → ℕ → NetworkArc → ℕ
 given_to x row a = if a.row == row then x a.row a.site else 0
 
-own_list : (x : Plan) (row : ℕ) (arcs : List Arc) → sum_by (given_to x row) (map (arc_of row) arcs) ≡ sum_by (λ (arc : Arc). x row arc.site) arcs
+own_list : (x : Plan) (row : ℕ) (arcs : List Arc)
+    → sum_by (given_to x row) (map (arc_of row) arcs) ≡ sum_by (λ (arc : Arc). x row arc.site) arcs
 own_list x row [] = refl
 own_list x row (arc ∷ arcs) =
     let all = sum_by-cons (given_to x row) (arc_of row arc) (map (arc_of row) arcs) in
@@ -42,20 +44,23 @@ other_list x row i (arc ∷ arcs) apart =
     let all = sum_by-cons (given_to x row) (arc_of i arc) (map (arc_of i) arcs) in
     grind (arith, apart, all, other_list x row i arcs apart)
 
-later_lists : (x : Plan) (row i : ℕ) (lists : List (List Arc)) → row < i → sum_by (given_to x row) (arcs_from i lists) ≡ 0
+later_lists : (x : Plan) (row i : ℕ) (lists : List (List Arc)) → row < i
+    → sum_by (given_to x row) (arcs_from i lists) ≡ 0
 later_lists x row i [] before = refl
 later_lists x row i (arcs ∷ lists) before =
     let all = sum_by-append (given_to x row) (map (arc_of i) arcs) (arcs_from (i + 1) lists) in
     let own = other_list x row i arcs (λ same. omega (arith, same, before)) in
     omega (arith, all, own, later_lists x row (i + 1) lists (omega (arith, before)))
 
-over_own : (x : Plan) (row i k : ℕ) (lists : List (List Arc)) (own : List Arc) → row ≡ i + k → slice_get lists k ≡ Some own
+over_own : (x : Plan) (row i k : ℕ) (lists : List (List Arc)) (own : List Arc) → row ≡ i + k
+    → slice_get lists k ≡ Some own
     → sum_by (given_to x row) (arcs_from i lists) ≡ sum_by (λ (arc : Arc). x row arc.site) own
 over_own x row i k [] own is at = absurd (cc)
 over_own x row i zero (arcs ∷ lists) own is at =
     let same : arcs ≡ own = cc in
     let here : i ≡ row = omega (arith, is) in
-    let first : sum_by (given_to x row) (map (arc_of i) arcs) ≡ sum_by (λ (arc : Arc). x row arc.site) own = rw (here, same) (own_list x row own) in
+    let first : sum_by (given_to x row) (map (arc_of i) arcs) ≡ sum_by (λ (arc : Arc). x row arc.site) own =
+    rw (here, same) (own_list x row own) in
     let others = later_lists x row (i + 1) lists (omega (arith, here)) in
     sum_by-append (given_to x row) (map (arc_of i) arcs) (arcs_from (i + 1) lists) ∙ omega (arith, first, others)
 over_own x row i (suc k) (arcs ∷ lists) own is at =
@@ -69,13 +74,15 @@ over_own x row i (suc k) (arcs ∷ lists) own is at =
 abbrev count_to : ℕ → List Arc → ℕ
 count_to site arcs = sum_by (λ (arc : Arc). if arc.site == site then 1 else 0) arcs
 
-none_to : (site : ℕ) (arcs : List Arc) → AllByRecursion (λ (later : Arc). site < later.site) arcs → count_to site arcs ≡ 0
+none_to : (site : ℕ) (arcs : List Arc) → AllByRecursion (λ (later : Arc). site < later.site) arcs
+    → count_to site arcs ≡ 0
 none_to site [] later = refl
 none_to site (arc ∷ arcs) later =
     let all = sum_by-cons (λ (a : Arc). if a.site == site then 1 else 0) arc arcs in
     grind (arith, later.0, all, none_to site arcs later.1)
 
-one_to : (site : ℕ) (arcs : List Arc) (arc : Arc) → IsAscending arcs → arc_to site (Some arcs) ≡ Some arc → count_to site arcs ≡ 1
+one_to : (site : ℕ) (arcs : List Arc) (arc : Arc) → IsAscending arcs → arc_to site (Some arcs) ≡ Some arc
+    → count_to site arcs ≡ 1
 one_to site [] arc up found = absurd (cc)
 one_to site (first ∷ arcs) arc up found =
     let all = sum_by-cons (λ (a : Arc). if a.site == site then 1 else 0) first arcs in
@@ -84,19 +91,25 @@ one_to site (first ∷ arcs) arc up found =
 
 -- ---- the sum over all sites
 
-sites_inside : (it : Instance) (arcs : List Arc) → IsInstance it → AllByRecursion (IsArc it.servers) arcs → AllByRecursion (λ (arc : Arc). arc.site < length it.sites) arcs
+sites_inside : (it : Instance) (arcs : List Arc) → IsInstance it → AllByRecursion (IsArc it.servers) arcs
+    → AllByRecursion (λ (arc : Arc). arc.site < length it.sites) arcs
 sites_inside it [] is each = tt
 sites_inside it (arc ∷ arcs) is each =
     let own = each.0 in
-    let server = all_at (IsServer it.sites (length it.hosts)) it.servers arc.server own.server is.servers.each own.is_server in
-    (rw own.same_site (slice_get_within it.sites own.server.site server.place.site server.place.is_site), sites_inside it arcs is each.1)
+    let server =
+    all_at (IsServer it.sites (length it.hosts)) it.servers arc.server own.server is.servers.each own.is_server in (
+      rw own.same_site (slice_get_within it.sites own.server.site server.place.site server.place.is_site),
+      sites_inside it arcs is each.1,
+    )
 
-by_sites : (it : Instance) (x : Plan) (row : ℕ) (arcs : List Arc) → IsInstance it → Feasible (network_of it) x → AreArcs it.servers arcs → slice_get it.arcs row ≡ Some arcs
+by_sites : (it : Instance) (x : Plan) (row : ℕ) (arcs : List Arc) → IsInstance it → Feasible (network_of it) x
+    → AreArcs it.servers arcs → slice_get it.arcs row ≡ Some arcs
     → sum_by (λ (arc : Arc). x row arc.site) arcs ≡ sum_below (length it.sites) (λ site. x row site)
 by_sites it x row arcs is feasible are at =
     sum_by_same_all (λ (arc : Arc). x row arc.site) (λ (arc : Arc). x row arc.site * 1) arcs (λ i d l. omega arith)
     ∙ by_key (λ (arc : Arc). arc.site) (λ (arc : Arc). 1) (λ site. x row site) (length it.sites) arcs
-    (λ i d l. All-from_recursion (λ (arc : Arc). arc.site < length it.sites) arcs (sites_inside it arcs is are.each) i d l)
+    (λ i d l.
+    All-from_recursion (λ (arc : Arc). arc.site < length it.sites) arcs (sites_inside it arcs is are.each) i d l)
     ∙ sum_below_same (length it.sites) (λ site. x row site * count_to site arcs) (λ site. x row site) each_site
   where
     each_site : (site : ℕ) → site < length it.sites → x row site * count_to site arcs ≡ x row site
@@ -109,7 +122,8 @@ by_sites it x row arcs is feasible are at =
     ]
 
 -- the sites together get the number of the row
-pub whole_row : (it : Instance) (x : Plan) (row : ℕ) (own : Row) → IsInstance it → Feasible (network_of it) x → slice_get it.rows row ≡ Some own
+pub whole_row : (it : Instance) (x : Plan) (row : ℕ) (own : Row) → IsInstance it → Feasible (network_of it) x
+    → slice_get it.rows row ≡ Some own
     → sum_below (length it.sites) (λ site. x row site) ≡ own.count
 whole_row it x row own is feasible at =
     let inside : row < length it.rows = slice_get_within it.rows row own at in
@@ -117,8 +131,10 @@ whole_row it x row own is feasible at =
     let are = all_at (AreArcs it.servers) it.arcs row list.0 is.arcs list.1 in
     let met = feasible.flow.met row (rw (length-map it.rows (λ (r : Row). r.count)) inside) in
     let asked : slice_index (map (λ (r : Row). r.count) it.rows) row ≡ own.count =
-    get_or-map (λ (r : Row). r.count) it.rows row own 0 inside ∙ ap (λ (r : Row). r.count) (get_or_from_slice_get it.rows row own own at) in
-    sym (by_sites it x row list.0 is feasible are list.1) ∙ sym (over_own x row 0 row it.arcs list.0 (omega arith) list.1) ∙ met ∙ asked
+    get_or-map (λ (r : Row). r.count) it.rows row own 0 inside
+    ∙ ap (λ (r : Row). r.count) (get_or_from_slice_get it.rows row own own at) in
+    sym (by_sites it x row list.0 is feasible are list.1)
+    ∙ sym (over_own x row 0 row it.arcs list.0 (omega arith) list.1) ∙ met ∙ asked
 
 pub is_served_whole : IsServedWhole
 is_served_whole it x earlier entry row own is feasible at found spent =

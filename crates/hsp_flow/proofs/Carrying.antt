@@ -12,7 +12,8 @@ use Rattle.hsp_transport.specs.Cut.{capacity_of, demand_of}
 use Rattle.hsp_transport.specs.Flow.{IsFeasible}
 use Rattle.hsp_transport.specs.Prices.{HasPrices}
 use Rattle.hsp_transport.specs.Sums.{sum_below}
-use Rattle.hsp_transport.proofs.Alike.{capacity_alike, cost_alike, demand_alike, feasible_alike, feasible_back, prices_alike, prices_back}
+use Rattle.hsp_transport.proofs.Alike.{capacity_alike, cost_alike, demand_alike, feasible_alike, feasible_back}
+use Rattle.hsp_transport.proofs.Alike.{prices_alike, prices_back}
 use Rattle.hsp_flow.specs.Ordered.{AreOrdered}
 use Rattle.hsp_flow.specs.Planning.{cost_of, network_over, row_of, server_of, transport_over, uses_of}
 use Rattle.hsp_flow.proofs.Bridging.{arc, none_planned, planned_is}
@@ -28,39 +29,58 @@ module _ (it : Instance) (demands : List ℕ) (arcs : List NetworkArc) where
 
   -- a set of rows by the checker, and of sources by the planner
   module _ (s t : ℕ → Bool) (same : (i : ℕ) → s i ≡ t i) where
-    pub demand_is : demand_of (transport (network_over it demands arcs)) s ≡ demand_of (numbered (transport_over it demands arcs)) t
-    demand_is = demand_alike (transport (network_over it demands arcs)) no_arc _ many _ _ _ (column row_of) (column server_of) (column cost_of) s t same
+    pub demand_is : demand_of (transport (network_over it demands arcs)) s
+        ≡ demand_of (numbered (transport_over it demands arcs)) t
+    demand_is =
+        demand_alike (transport (network_over it demands arcs)) no_arc _ many _ _ _ (column row_of) (column server_of)
+        (column cost_of) s t same
 
-    pub capacity_is : capacity_of (transport (network_over it demands arcs)) s ≡ capacity_of (numbered (transport_over it demands arcs)) t
-    capacity_is = capacity_alike (transport (network_over it demands arcs)) no_arc _ many _ _ _ (column row_of) (column server_of) (column cost_of) s t same
+    pub capacity_is : capacity_of (transport (network_over it demands arcs)) s
+        ≡ capacity_of (numbered (transport_over it demands arcs)) t
+    capacity_is =
+        capacity_alike (transport (network_over it demands arcs)) no_arc _ many _ _ _ (column row_of) (column server_of)
+        (column cost_of) s t same
 
   -- a plan that gives each arc its flow
-  module _ (x : Plan) (flows : List ℕ) (flow_is : (k : ℕ) → k < length arcs → planned x (arc arcs k) ≡ slice_index flows k) where
-    pub flow_feasible : Feasible (network_over it demands arcs) x → IsFeasible (numbered (transport_over it demands arcs)) (λ k. slice_index flows k)
+  module _ (x : Plan) (flows : List ℕ)
+      (flow_is : (k : ℕ) → k < length arcs → planned x (arc arcs k) ≡ slice_index flows k) where
+    pub flow_feasible : Feasible (network_over it demands arcs) x
+        → IsFeasible (numbered (transport_over it demands arcs)) (λ k. slice_index flows k)
     flow_feasible feasible =
-        feasible_back (transport (network_over it demands arcs)) no_arc _ many _ _ _ (column row_of) (column server_of) (column cost_of) (planned x) _ flow_is feasible.flow
+        feasible_back (transport (network_over it demands arcs)) no_arc _ many _ _ _ (column row_of) (column server_of)
+        (column cost_of) (planned x) _ flow_is feasible.flow
 
-    pub flow_prices : (u p q : List ℕ) → Prices (network_over it demands arcs) x u p q → HasPrices (numbered (transport_over it demands arcs)) (λ k. slice_index flows k) u p q
+    pub flow_prices : (u p q : List ℕ) → Prices (network_over it demands arcs) x u p q
+        → HasPrices (numbered (transport_over it demands arcs)) (λ k. slice_index flows k) u p q
     flow_prices u p q prices =
-        prices_back (transport (network_over it demands arcs)) no_arc _ many _ _ _ (column row_of) (column server_of) (column cost_of) (planned x) _ flow_is u p q prices
+        prices_back (transport (network_over it demands arcs)) no_arc _ many _ _ _ (column row_of) (column server_of)
+        (column cost_of) (planned x) _ flow_is u p q prices
 
   -- the plan of a flow
   module _ (ordered : AreOrdered arcs) (flows : List ℕ) (all : length flows ≡ length arcs) where
     pub plan_is : (k : ℕ) → k < length arcs → planned (table (uses_of arcs flows)) (arc arcs k) ≡ slice_index flows k
     plan_is = planned_is arcs flows all ordered
 
-    pub feasible_is : IsFeasible (numbered (transport_over it demands arcs)) (λ k. slice_index flows k) → Feasible (network_over it demands arcs) (table (uses_of arcs flows))
+    pub feasible_is : IsFeasible (numbered (transport_over it demands arcs)) (λ k. slice_index flows k)
+        → Feasible (network_over it demands arcs) (table (uses_of arcs flows))
     feasible_is feasible = record {
       allowed = none_planned arcs flows all;
-      flow = feasible_alike (transport (network_over it demands arcs)) no_arc _ many _ _ _ (column row_of) (column server_of) (column cost_of) (planned (table (uses_of arcs flows))) _ plan_is
+      flow =
+          feasible_alike (transport (network_over it demands arcs)) no_arc _ many _ _ _ (column row_of)
+          (column server_of) (column cost_of) (planned (table (uses_of arcs flows))) _ plan_is
           feasible;
     }
 
-    pub prices_are : (u p q : List ℕ) → HasPrices (numbered (transport_over it demands arcs)) (λ k. slice_index flows k) u p q
+    pub prices_are : (u p q : List ℕ)
+        → HasPrices (numbered (transport_over it demands arcs)) (λ k. slice_index flows k) u p q
         → Prices (network_over it demands arcs) (table (uses_of arcs flows)) u p q
     prices_are u p q prices =
-        prices_alike (transport (network_over it demands arcs)) no_arc _ many _ _ _ (column row_of) (column server_of) (column cost_of) (planned (table (uses_of arcs flows))) _ plan_is u p q prices
+        prices_alike (transport (network_over it demands arcs)) no_arc _ many _ _ _ (column row_of) (column server_of)
+        (column cost_of) (planned (table (uses_of arcs flows))) _ plan_is u p q prices
 
     -- what the plan costs, by the columns
-    pub cost_is : total (network_over it demands arcs) (table (uses_of arcs flows)) ≡ sum_below (length arcs) (λ k. slice_index (map cost_of arcs) k * slice_index flows k)
-    cost_is = cost_alike (transport (network_over it demands arcs)) no_arc _ refl _ _ _ (column row_of) (column server_of) (column cost_of) (planned (table (uses_of arcs flows))) _ plan_is
+    pub cost_is : total (network_over it demands arcs) (table (uses_of arcs flows))
+        ≡ sum_below (length arcs) (λ k. slice_index (map cost_of arcs) k * slice_index flows k)
+    cost_is =
+        cost_alike (transport (network_over it demands arcs)) no_arc _ refl _ _ _ (column row_of) (column server_of)
+        (column cost_of) (planned (table (uses_of arcs flows))) _ plan_is

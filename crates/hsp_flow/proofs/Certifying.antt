@@ -1,5 +1,6 @@
 -- A flow with prices through an instance's network is a valid certificate's plan.
-use Rattle.std.proofs.Common.{◌≡◌, ℕ, zero, suc, ◌*◌, ◌<◌, ◌≤◌, ◌∙◌, Bool, true, false, List, [], ◌∷◌, length, slice_index, refl, sym, inl, inr, arith, eq-eqb, ne_eqb}
+use Rattle.std.proofs.Common.{◌≡◌, ℕ, zero, suc, ◌*◌, ◌<◌, ◌≤◌, ◌∙◌, Bool, true, false, List, [], ◌∷◌, length}
+use Rattle.std.proofs.Common.{slice_index, refl, sym, inl, inr, arith, eq-eqb, ne_eqb}
 use Rattle.std.specs.Prelude.{◌||◌}
 use Rattle.std.specs.List.{AllByRecursion, list_any}
 use Rattle.std.proofs.lemmas.List.Elements.{All-from_get_or, All-from_recursion, recursion_from_All}
@@ -25,20 +26,26 @@ use Rattle.hsp_flow.proofs.Ordering.{no_arc, each_weaker, all_ordered}
 use Rattle.hsp_flow.proofs.Bridging.{arc, leads}
 
 pub instance_ordered : (it : Instance) → IsInstance it → AreOrdered (arcs_from 0 it.arcs)
-instance_ordered it is = all_ordered 0 it.arcs (each_weaker (AreArcs it.servers) IsAscending it.arcs (λ arcs a. a.ascending) is.arcs)
+instance_ordered it is =
+    all_ordered 0 it.arcs (each_weaker (AreArcs it.servers) IsAscending it.arcs (λ arcs a. a.ascending) is.arcs)
 
 -- each arc joins its row and its site
-pub allowed_at : (arcs : List NetworkArc) (k : ℕ) → k < length arcs → list_any (leads (arc arcs k).row (arc arcs k).site) arcs ≡ true
+pub allowed_at : (arcs : List NetworkArc) (k : ℕ) → k < length arcs
+    → list_any (leads (arc arcs k).row (arc arcs k).site) arcs ≡ true
 allowed_at [] k l = absurd (omega arith)
-allowed_at (a ∷ arcs) zero l = let here : leads a.row a.site a ≡ true = and_from _ _ (eq-eqb a.row a.row refl) (eq-eqb a.site a.site refl) in rw here refl
+allowed_at (a ∷ arcs) zero l =
+    let here : leads a.row a.site a ≡ true = and_from _ _ (eq-eqb a.row a.row refl) (eq-eqb a.site a.site refl) in
+    rw here refl
 allowed_at (a ∷ arcs) (suc k) l = behind (leads (arc arcs k).row (arc arcs k).site a) (allowed_at arcs k (omega arith))
   where
-    behind : (b : Bool) → list_any (leads (arc arcs k).row (arc arcs k).site) arcs ≡ true → (b || list_any (leads (arc arcs k).row (arc arcs k).site) arcs) ≡ true
+    behind : (b : Bool) → list_any (leads (arc arcs k).row (arc arcs k).site) arcs ≡ true
+        → (b || list_any (leads (arc arcs k).row (arc arcs k).site) arcs) ≡ true
     behind true h = refl
     behind false h = h
 
 -- what holds of the ends of each arc holds of each use
-pub of_uses : (P : ℕ → ℕ → Type 0) (arcs : List NetworkArc) (flows : List ℕ) → AllByRecursion (λ a. P a.row a.site) arcs → AllByRecursion (λ (u : UseLine). P u.row u.site) (uses_of arcs flows)
+pub of_uses : (P : ℕ → ℕ → Type 0) (arcs : List NetworkArc) (flows : List ℕ) → AllByRecursion (λ a. P a.row a.site) arcs
+    → AllByRecursion (λ (u : UseLine). P u.row u.site) (uses_of arcs flows)
 of_uses P [] flows h = tt
 of_uses P (a ∷ arcs) [] h = tt
 of_uses P (a ∷ arcs) (flow ∷ flows) h = elim (cases_eq flow 0) [
@@ -54,17 +61,28 @@ module _ (it : Instance) (is : IsInstance it) (plan : PricedFlow) (met : IsMet (
   all = met.many.flows ∙ length-map (arcs_from 0 it.arcs) row_of
 
   pub plan_feasible : Feasible (network_of it) plan_of_flow
-  plan_feasible = feasible_is it (demands_in it) (arcs_from 0 it.arcs) (instance_ordered it is) plan.flows.items all met.balanced.feasible
+  plan_feasible =
+      feasible_is it (demands_in it) (arcs_from 0 it.arcs) (instance_ordered it is) plan.flows.items all
+      met.balanced.feasible
 
-  plan_prices : Prices (network_of it) plan_of_flow plan.source_prices.items plan.server_prices.items plan.host_prices.items
-  plan_prices = prices_are it (demands_in it) (arcs_from 0 it.arcs) (instance_ordered it is) plan.flows.items all _ _ _ met.balanced.prices
+  plan_prices : Prices (network_of it) plan_of_flow plan.source_prices.items plan.server_prices.items
+      plan.host_prices.items
+  plan_prices =
+      prices_are it (demands_in it) (arcs_from 0 it.arcs) (instance_ordered it is) plan.flows.items all _ _ _
+      met.balanced.prices
 
   -- what the plan costs, by the columns
-  pub cost_is : total (network_of it) plan_of_flow ≡ sum_below (length (arcs_from 0 it.arcs)) (λ k. slice_index (transport_of it).costs k * slice_index plan.flows.items k)
+  pub cost_is : total (network_of it) plan_of_flow
+      ≡ sum_below (length (arcs_from 0 it.arcs))
+      (λ k. slice_index (transport_of it).costs k * slice_index plan.flows.items k)
   cost_is = cost_by it (demands_in it) (arcs_from 0 it.arcs) (instance_ordered it is) plan.flows.items all
 
-  pub plan_valid : (most : ℕ) → most ≤ 1000000000000 → HasLowPrices plan.source_prices.items plan.server_prices.items plan.host_prices.items most →
-      (cost : ℕ) → cost ≡ sum_below (length (arcs_from 0 it.arcs)) (λ k. slice_index (transport_of it).costs k * slice_index plan.flows.items k) →
+  pub plan_valid : (most : ℕ) → most ≤ 1000000000000
+      → HasLowPrices plan.source_prices.items plan.server_prices.items plan.host_prices.items most →
+      (cost : ℕ)
+      → cost
+      ≡ sum_below (length (arcs_from 0 it.arcs))
+      (λ k. slice_index (transport_of it).costs k * slice_index plan.flows.items k) →
       IsValidPlan (network_of it) (record {
         cost = cost;
         uses = uses_of (arcs_from 0 it.arcs) plan.flows.items;
@@ -73,9 +91,13 @@ module _ (it : Instance) (is : IsInstance it) (plan : PricedFlow) (met : IsMet (
         host_prices = plan.host_prices.items;
       })
   plan_valid most low bounded cost sum = record {
-    allowed = All-from_recursion (λ (u : UseLine). is_allowed (network_of it) u.row u.site ≡ true) (uses_of (arcs_from 0 it.arcs) plan.flows.items)
+    allowed =
+        All-from_recursion (λ (u : UseLine). is_allowed (network_of it) u.row u.site ≡ true)
+        (uses_of (arcs_from 0 it.arcs) plan.flows.items)
         (of_uses (λ i s. is_allowed (network_of it) i s ≡ true) (arcs_from 0 it.arcs) plan.flows.items
-        (recursion_from_All _ _ (All-from_get_or (λ (a : NetworkArc). is_allowed (network_of it) a.row a.site ≡ true) (arcs_from 0 it.arcs) no_arc (λ k l. allowed_at (arcs_from 0 it.arcs) k l))));
+        (recursion_from_All _ _
+        (All-from_get_or (λ (a : NetworkArc). is_allowed (network_of it) a.row a.site ≡ true) (arcs_from 0 it.arcs)
+        no_arc (λ k l. allowed_at (arcs_from 0 it.arcs) k l))));
     feasible = plan_feasible;
     cost = sum ∙ sym cost_is;
     prices = plan_prices;

@@ -1,5 +1,6 @@
 -- The groups of rows are kinds of the sources of their network.
-use Rattle.std.proofs.Common.{◌≡◌, ℕ, suc, ◌<◌, ◌≤◌, ◌==◌, ◌∙◌, List, [], ◌∷◌, length, map, slice_index, slice_index_or, refl, ap, sym, subst, arith, ne_eqb}
+use Rattle.std.proofs.Common.{◌≡◌, ℕ, suc, ◌<◌, ◌≤◌, ◌==◌, ◌∙◌, List, [], ◌∷◌, length, map, slice_index, slice_index_or}
+use Rattle.std.proofs.Common.{refl, ap, sym, subst, arith, ne_eqb}
 use Rattle.std.specs.Prelude.{Some, slice_get, if◌then◌else◌}
 use Rattle.std.specs.List.{AllByRecursion, range_with_len}
 use Rattle.std.proofs.lemmas.List.{length-map, get_or-map}
@@ -17,7 +18,8 @@ use Rattle.hsp_check.specs.Instance.{arcs_from, demands_in, network_of}
 use Rattle.hsp_check.specs.Network.{site_of, transport}
 use Rattle.hsp_check.proofs.InstanceNetwork.{is_network}
 use Rattle.hsp_check.proofs.RowLinks.{link, links_of_row, rows_below}
-use Rattle.hsp_flow.specs.Grouped.{AreRowsOfGroups, GroupsAreKinds, arcs_at, asked_by, demands_by, group_of, grouped, lists_of}
+use Rattle.hsp_flow.specs.Grouped.{AreRowsOfGroups, GroupsAreKinds, arcs_at, asked_by, demands_by, group_of, grouped}
+use Rattle.hsp_flow.specs.Grouped.{lists_of}
 use Rattle.hsp_flow.proofs.Limits.{fits_at}
 use Rattle.hsp_flow.proofs.Ordering.{each_at, no_arc}
 
@@ -45,7 +47,8 @@ module _ (it : Instance) (groups : Groups) (is : IsInstance it) (are : AreGroups
   group_is i l = slice_get-get_or groups.of_rows i groups.count (omega (arith, l, are.one_a_row))
 
   pub group_below : (i : ℕ) → i < length it.rows → group_of groups i < groups.count
-  group_below i l = each_at (λ group. group < groups.count) groups.of_rows i groups.count (omega (arith, l, are.one_a_row)) are.below
+  group_below i l =
+      each_at (λ group. group < groups.count) groups.of_rows i groups.count (omega (arith, l, are.one_a_row)) are.below
 
   -- a row stands in each group
   pub group_seen : (k : ℕ) → k < groups.count → (i : ℕ) × (i < length it.rows) × (group_of groups i ≡ k)
@@ -54,10 +57,12 @@ module _ (it : Instance) (groups : Groups) (is : IsInstance it) (are : AreGroups
       (seen.0, seen.1, get_or_from_slice_get groups.of_rows seen.0 k groups.count seen.2)
 
   -- rows of one group have the same arcs
-  pub arcs_alike : (a b : ℕ) → a < length it.rows → b < length it.rows → group_of groups a ≡ group_of groups b → arcs_at it a ≡ arcs_at it b
+  pub arcs_alike : (a b : ℕ) → a < length it.rows → b < length it.rows → group_of groups a ≡ group_of groups b
+      → arcs_at it a ≡ arcs_at it b
   arcs_alike a b l m same =
       let alike = (are.alike a b l m).0 (group_is a l ∙ ap (λ g. Some g) same ∙ sym (group_is b m)) in
-      sym (unwrap_or-slice_get it.arcs a []) ∙ ap (λ arcs. unwrap_or arcs []) alike.arcs ∙ unwrap_or-slice_get it.arcs b []
+      sym (unwrap_or-slice_get it.arcs a []) ∙ ap (λ arcs. unwrap_or arcs []) alike.arcs
+      ∙ unwrap_or-slice_get it.arcs b []
 
   pub demands_many : length (demands_by it groups) ≡ groups.count
   demands_many = length-map (range_with_len 0 groups.count) (asked_by it groups) ∙ length-range_with_len 0 groups.count
@@ -65,7 +70,8 @@ module _ (it : Instance) (groups : Groups) (is : IsInstance it) (are : AreGroups
   pub demand_at : (k : ℕ) → k < groups.count → slice_index (demands_by it groups) k ≡ asked_by it groups k
   demand_at k l =
       let there : k < length (range_with_len 0 groups.count) = omega (arith, l, length-range_with_len 0 groups.count) in
-      let number : slice_index_or (range_with_len 0 groups.count) k 0 ≡ k = omega (arith, get_or-range_with_len 0 groups.count k 0 l) in
+      let number : slice_index_or (range_with_len 0 groups.count) k 0 ≡ k =
+      omega (arith, get_or-range_with_len 0 groups.count k 0 l) in
       get_or-map (asked_by it groups) (range_with_len 0 groups.count) k 0 0 there ∙ ap (asked_by it groups) number
 
   module _ (rows : List ℕ) (own : AreRowsOfGroups it groups rows) where
@@ -77,7 +83,8 @@ module _ (it : Instance) (groups : Groups) (is : IsInstance it) (are : AreGroups
     list_at k l = get_or-map (arcs_at it) rows k 0 [] (omega (arith, l, own.many))
 
     -- and those of any row of the group
-    pub list_of_row : (i : ℕ) → i < length it.rows → slice_index_or (lists_of it rows) (group_of groups i) [] ≡ arcs_at it i
+    pub list_of_row : (i : ℕ) → i < length it.rows
+        → slice_index_or (lists_of it rows) (group_of groups i) [] ≡ arcs_at it i
     list_of_row i l =
         let k = group_of groups i in
         let below = group_below i l in
@@ -107,7 +114,8 @@ module _ (it : Instance) (groups : Groups) (is : IsInstance it) (are : AreGroups
     pub lists_are : AllByRecursion (AreArcs it.servers) (lists_of it rows)
     lists_are = each_row rows own.there
       where
-        each_row : (rows : List ℕ) → ((k : ℕ) → k < length rows → slice_index rows k < length it.rows) → AllByRecursion (AreArcs it.servers) (map (arcs_at it) rows)
+        each_row : (rows : List ℕ) → ((k : ℕ) → k < length rows → slice_index rows k < length it.rows)
+            → AllByRecursion (AreArcs it.servers) (map (arcs_at it) rows)
         each_row [] there = tt
         each_row (row ∷ rows) there = (
           each_at (AreArcs it.servers) it.arcs row [] (omega (arith, there 0 (omega arith), is.one_list_a_row)) is.arcs,
@@ -116,9 +124,16 @@ module _ (it : Instance) (groups : Groups) (is : IsInstance it) (are : AreGroups
 
     pub grouped_is : IsNetwork (transport (grouped it groups rows))
     grouped_is = record {
-      sources = rows_below (lists_of it rows) 0 (length (demands_by it groups)) (omega (arith, lists_many, demands_many));
-      servers = All-from_get_or (λ a. a.server < length (network_of it).capacities) (arcs_from 0 (lists_of it rows)) no_arc
-          (λ k l. omega (arith, (fits_at it is (lists_of it rows) lists_are k l).server, length-map it.servers (λ s. s.capacity)));
+      sources =
+          rows_below (lists_of it rows) 0 (length (demands_by it groups)) (omega (arith, lists_many, demands_many));
+      servers =
+          All-from_get_or (λ a. a.server < length (network_of it).capacities) (arcs_from 0 (lists_of it rows)) no_arc
+          (λ k l.
+          omega (
+            arith,
+            (fits_at it is (lists_of it rows) lists_are k l).server,
+            length-map it.servers (λ s. s.capacity),
+          ));
       hosts = (is_network it is).hosts;
     }
 
@@ -126,7 +141,8 @@ module _ (it : Instance) (groups : Groups) (is : IsInstance it) (are : AreGroups
     grouped_one k s l =
         let inside : k < length (lists_of it rows) = omega (arith, l, demands_many, lists_many) in
         let up = (each_at (AreArcs it.servers) (lists_of it rows) k [] inside lists_are).ascending in
-        subst (λ links. links_to links s ≤ 1) (sym (links_of_row (grouped it groups rows) (lists_of it rows) k)) (one_link (slice_index_or (lists_of it rows) k []) s up)
+        subst (λ links. links_to links s ≤ 1) (sym (links_of_row (grouped it groups rows) (lists_of it rows) k))
+        (one_link (slice_index_or (lists_of it rows) k []) s up)
 
 pub groups_are_kinds : GroupsAreKinds
 groups_are_kinds it groups rows is are own = are_kinds it groups is are rows own

@@ -14,11 +14,14 @@ module _ (lists : List (List Arc)) (k : ℕ) (arcs : List Arc) (read : slice_get
   grown : arcs_from 0 (take k lists) ++ map (arc_of k) arcs ≡ arcs_from 0 (take (k + 1) lists)
   grown = arcs_read lists k arcs (arcs_from 0 (take k lists)) read refl
 
-  column_more : (part : NetworkArc → ℕ) (old new : List ℕ) → old ≡ map part (arcs_from 0 (take k lists)) → new ≡ old ++ map part (map (arc_of k) arcs) → new ≡ map part (arcs_from 0 (take (k + 1) lists))
+  column_more : (part : NetworkArc → ℕ) (old new : List ℕ) → old ≡ map part (arcs_from 0 (take k lists))
+      → new ≡ old ++ map part (map (arc_of k) arcs) → new ≡ map part (arcs_from 0 (take (k + 1) lists))
   column_more part old new is more =
-      more ∙ ap (λ xs. xs ++ map part (map (arc_of k) arcs)) is ∙ sym (map-append part (arcs_from 0 (take k lists)) (map (arc_of k) arcs)) ∙ ap (map part) grown
+      more ∙ ap (λ xs. xs ++ map part (map (arc_of k) arcs)) is
+      ∙ sym (map-append part (arcs_from 0 (take k lists)) (map (arc_of k) arcs)) ∙ ap (map part) grown
 
-  pub columns_more : (old new : ArcColumns) → AreColumns (arcs_from 0 (take k lists)) old → Extends old (map (arc_of k) arcs) new → AreColumns (arcs_from 0 (take (k + 1) lists)) new
+  pub columns_more : (old new : ArcColumns) → AreColumns (arcs_from 0 (take k lists)) old
+      → Extends old (map (arc_of k) arcs) new → AreColumns (arcs_from 0 (take (k + 1) lists)) new
   columns_more old new is more = record {
     sources = column_more row_of old.sources.items new.sources.items is.sources more.sources;
     servers = column_more server_of old.servers.items new.servers.items is.servers more.servers;

@@ -1,5 +1,6 @@
 -- A short set of a network's sources is a valid certificate's short set of rows.
-use Rattle.std.proofs.Common.{◌≡◌, ℕ, zero, suc, ◌+◌, ◌<◌, ◌==◌, ◌∙◌, Bool, true, false, List, [], ◌∷◌, length, slice_index_or, refl, ap, sym, inl, inr, arith, eq-eqb, ne_eqb, zero-add}
+use Rattle.std.proofs.Common.{◌≡◌, ℕ, zero, suc, ◌+◌, ◌<◌, ◌==◌, ◌∙◌, Bool, true, false, List, [], ◌∷◌, length}
+use Rattle.std.proofs.Common.{slice_index_or, refl, ap, sym, inl, inr, arith, eq-eqb, ne_eqb, zero-add}
 use Rattle.std.specs.Prelude.{◌&&◌, ◌||◌}
 use Rattle.std.specs.List.{AllByRecursion, list_any}
 use Rattle.std.proofs.lemmas.List.Elements.{All-from_recursion}
@@ -18,7 +19,8 @@ use Rattle.hsp_flow.proofs.Ordering.{each_weaker}
 
 -- whether a number is among the flagged ones, by the first flag
 in_flags : (i k : ℕ) (flag : Bool) (flags : List Bool) →
-    list_any (λ r. r == i) (flagged_from k (flag ∷ flags)) ≡ ((flag && k == i) || list_any (λ r. r == i) (flagged_from (k + 1) flags))
+    list_any (λ r. r == i) (flagged_from k (flag ∷ flags))
+    ≡ ((flag && k == i) || list_any (λ r. r == i) (flagged_from (k + 1) flags))
 in_flags i k true flags = refl
 in_flags i k false flags = refl
 
@@ -34,10 +36,12 @@ not_later : (k : ℕ) (flags : List Bool) (i : ℕ) → i < k → list_any (λ r
 not_later k [] i l = refl
 not_later k (flag ∷ flags) i l =
     let rest = list_any (λ r. r == i) (flagged_from (k + 1) flags) in
-    in_flags i k flag flags ∙ ap (λ b. (flag && b) || rest) (ne_eqb k i (λ e. absurd (omega arith))) ∙ no_flag flag rest ∙ not_later (k + 1) flags i (omega arith)
+    in_flags i k flag flags ∙ ap (λ b. (flag && b) || rest) (ne_eqb k i (λ e. absurd (omega arith))) ∙ no_flag flag rest
+    ∙ not_later (k + 1) flags i (omega arith)
 
 -- a row is among the flagged ones where its flag is set
-flagged_is : (j : ℕ) (flags : List Bool) (i : ℕ) → list_any (λ r. r == j + i) (flagged_from j flags) ≡ slice_index_or flags i false
+flagged_is : (j : ℕ) (flags : List Bool) (i : ℕ)
+    → list_any (λ r. r == j + i) (flagged_from j flags) ≡ slice_index_or flags i false
 flagged_is j [] i = refl
 flagged_is j (flag ∷ flags) zero =
     let rest = list_any (λ r. r == j + 0) (flagged_from (j + 1) flags) in
@@ -47,13 +51,15 @@ flagged_is j (flag ∷ flags) (suc i) =
     let same : j + suc i ≡ (j + 1) + i = omega arith in
     let rest = list_any (λ r. r == j + suc i) (flagged_from (j + 1) flags) in
     in_flags (j + suc i) j flag flags ∙ ap (λ b. (flag && b) || rest) (ne_eqb j (j + suc i) (λ e. absurd (omega arith)))
-    ∙ no_flag flag rest ∙ ap (λ n. list_any (λ r. r == n) (flagged_from (j + 1) flags)) same ∙ flagged_is (j + 1) flags i
+    ∙ no_flag flag rest ∙ ap (λ n. list_any (λ r. r == n) (flagged_from (j + 1) flags)) same
+    ∙ flagged_is (j + 1) flags i
 
 flags_within : (j : ℕ) (flags : List Bool) → AllByRecursion (λ r. r < j + length flags) (flagged_from j flags)
 flags_within j [] = tt
 flags_within j (flag ∷ flags) =
     let more : AllByRecursion (λ r. r < j + suc (length flags)) (flagged_from (j + 1) flags) =
-    each_weaker (λ r. r < j + 1 + length flags) _ (flagged_from (j + 1) flags) (λ r l. omega arith) (flags_within (j + 1) flags) in
+    each_weaker (λ r. r < j + 1 + length flags) _ (flagged_from (j + 1) flags) (λ r l. omega arith)
+    (flags_within (j + 1) flags) in
     elim (cases_Bool flag) [
       | inl set ↦ rw set (omega arith, more)
       | inr unset ↦ rw unset more
@@ -63,12 +69,19 @@ module _ (it : Instance) (set : List Bool) (many : length set ≡ length it.rows
   chosen_is : (i : ℕ) → is_one_of (flagged_from 0 set) i ≡ flag_at set i
   chosen_is i = rw (zero-add i) at (flagged_is 0 set i)
 
-  pub set_valid : (demand capacity : ℕ) → demand ≡ demand_of (numbered (transport_of it)) (flag_at set) → capacity ≡ capacity_of (numbered (transport_of it)) (flag_at set) →
-      IsShort (numbered (transport_of it)) (flag_at set) → IsValidSet (network_of it) (record { rows = flagged_from 0 set; demand = demand; capacity = capacity })
+  pub set_valid : (demand capacity : ℕ) → demand ≡ demand_of (numbered (transport_of it)) (flag_at set)
+      → capacity ≡ capacity_of (numbered (transport_of it)) (flag_at set) →
+      IsShort (numbered (transport_of it)) (flag_at set)
+      → IsValidSet (network_of it) (record { rows = flagged_from 0 set; demand = demand; capacity = capacity })
   set_valid demand capacity d c short = record {
     there = All-from_recursion (λ r. r < length (transport_of it).demands) (flagged_from 0 set)
-        (each_weaker (λ r. r < 0 + length set) (λ r. r < length (transport_of it).demands) (flagged_from 0 set) (λ r l. omega (arith, l, many, length-map it.rows (λ (x : Row). x.count))) (flags_within 0 set));
-    is_short = rw (demand_is it (demands_in it) (arcs_from 0 it.arcs) _ _ chosen_is, capacity_is it (demands_in it) (arcs_from 0 it.arcs) _ _ chosen_is) short;
+        (each_weaker (λ r. r < 0 + length set) (λ r. r < length (transport_of it).demands) (flagged_from 0 set)
+        (λ r l. omega (arith, l, many, length-map it.rows (λ (x : Row). x.count))) (flags_within 0 set));
+    is_short =
+        rw (
+          demand_is it (demands_in it) (arcs_from 0 it.arcs) _ _ chosen_is,
+          capacity_is it (demands_in it) (arcs_from 0 it.arcs) _ _ chosen_is,
+        ) short;
     demand = d ∙ sym (demand_is it (demands_in it) (arcs_from 0 it.arcs) _ _ chosen_is);
     capacity = c ∙ sym (capacity_is it (demands_in it) (arcs_from 0 it.arcs) _ _ chosen_is);
   }

@@ -18,17 +18,24 @@ record Shows (it : Instance) (claim : Claim) : Type 0 where
 
 valid_shows : (it : Instance) → IsInstance it → (claim : Claim) → IsValid (network_of it) claim → Shows it claim
 valid_shows it is (best c) valid =
-    let shown = prices_show_best (network_of it) (table c.uses) c.row_prices c.server_prices c.host_prices (is_network it is) valid.feasible valid.prices in
+    let shown =
+    prices_show_best (network_of it) (table c.uses) c.row_prices c.server_prices c.host_prices (is_network it is)
+    valid.feasible valid.prices in
     record { best = shown.0; prices = rw valid.cost shown.1; none = tt }
 valid_shows it is (short c) valid =
-    record { best = tt; prices = tt; none = short_shows_none (network_of it) (is_one_of c.rows) (is_network it is) valid.is_short }
+    record {
+      best = tt;
+      prices = tt;
+      none = short_shows_none (network_of it) (is_one_of c.rows) (is_network it is) valid.is_short;
+    }
 
 module _ {E : Type 0} (it : Instance) (is : IsInstance it) where
   pub has_best : (made : Result Claim E) → IfOk made (IsValid (network_of it)) → IfOk made (HasBestPlan (network_of it))
   has_best (Ok claim) valid = (valid_shows it is claim valid).best
   has_best (Err e) valid = tt
 
-  pub has_sums : (made : Result Claim E) → IfOk made (IsValid (network_of it)) → IfOk made (HasEqualSums (network_of it))
+  pub has_sums : (made : Result Claim E) → IfOk made (IsValid (network_of it))
+      → IfOk made (HasEqualSums (network_of it))
   has_sums (Ok claim) valid = (valid_shows it is claim valid).prices
   has_sums (Err e) valid = tt
 

@@ -41,24 +41,13 @@ impl ArcColumns {
     }
 }
 
-// How many arcs all rows have together.
-fn arc_count(instance: &Instance) -> usize
-    ensures { result ≡ length (arcs_from 0 instance.now.arcs) }
-{
-    let mut count: usize = 0;
-    for row in 0..instance.rows() {
-        count += instance.arcs(row).len();
-    }
-    count
-}
-
 /// The columns of the arcs of all rows in turn.
 pub(crate) fn row_columns(alloc: Global, instance: &Instance) -> Result<ArcColumns, AllocError>
     ensures columns { IfOk result (AreColumns (arcs_from 0 instance.now.arcs)) }
     // The instance is within its limits.
     ensures within { IfOk result (λ _. IsInstance instance.now) }
 {
-    let mut columns = ArcColumns::with_room(alloc, arc_count(instance))?;
+    let mut columns = ArcColumns::with_room(alloc, instance.arc_count())?;
     for row in 0..instance.rows() {
         columns.push_row(row, instance.arcs(row))?;
     }

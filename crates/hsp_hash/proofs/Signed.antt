@@ -1,5 +1,6 @@
 -- The absolute value of a word in two's complement.
-use Rattle.std.proofs.Common.{◌≡◌, ◌<◌, ◌^◌, ◌+◌, ◌∙◌, ℕ, inl, inr, ap, refl, arith, to_z, of_z, w32, List, length, take, drop, length-drop, slice_index, ◌%◌, ℤ}
+use Rattle.std.proofs.Common.{◌≡◌, ◌<◌, ◌^◌, ◌+◌, ◌∙◌, ℕ, inl, inr, ap, refl, arith, to_z, of_z, w32, List, length}
+use Rattle.std.proofs.Common.{take, drop, length-drop, slice_index, ◌%◌, ℤ}
 use Rattle.std.specs.Prelude.{unsigned_abs}
 use Rattle.std.proofs.lemmas.Bool.{cases_lt, lt-ltb, le-ltb}
 use Rattle.std.proofs.lemmas.Int.{of_z-to_z}
@@ -19,11 +20,16 @@ absolute_again : (v : ℕ) → v < 2 ^ 32 → unsigned_abs (to_z w32 (of_z w32 (
 absolute_again v h = rw (of_z-to_z w32 v h) (absolute v h)
 
 -- the place, by what reading the word and its absolute value give
-pub place_is : (octets : List ℕ) (number : ℤ) (size servers : ℕ) → length octets ≡ 16 → ((k : ℕ) → slice_index octets k < 256) →
-    number ≡ to_z w32 (big_number 4 (take 4 (drop 12 octets))) → size ≡ unsigned_abs (to_z w32 (of_z w32 number)) → size % servers ≡ place_of_digest octets servers
+pub place_is : (octets : List ℕ) (number : ℤ) (size servers : ℕ) → length octets ≡ 16
+    → ((k : ℕ) → slice_index octets k < 256) →
+    number ≡ to_z w32 (big_number 4 (take 4 (drop 12 octets))) → size ≡ unsigned_abs (to_z w32 (of_z w32 number))
+    → size % servers ≡ place_of_digest octets servers
 place_is octets number size servers long fits read is =
-    let last : take 4 (drop 12 octets) ≡ drop 12 octets = take_all 4 (drop 12 octets) (omega (arith, length-drop 12 octets, long)) in
-    let small : big_number 4 (drop 12 octets) < 256 ^ 4 = big_from-lt 0 4 (drop 12 octets) (λ k. rw (get_or-drop 12 octets k 0) (fits (12 + k))) in
+    let last : take 4 (drop 12 octets) ≡ drop 12 octets =
+    take_all 4 (drop 12 octets) (omega (arith, length-drop 12 octets, long)) in
+    let small : big_number 4 (drop 12 octets) < 256 ^ 4 =
+    big_from-lt 0 4 (drop 12 octets) (λ k. rw (get_or-drop 12 octets k 0) (fits (12 + k))) in
     let word = rw last at read in
-    let value : size ≡ absolute_value (big_number 4 (drop 12 octets)) = rw word at is ∙ absolute_again (big_number 4 (drop 12 octets)) small in
+    let value : size ≡ absolute_value (big_number 4 (drop 12 octets)) =
+    rw word at is ∙ absolute_again (big_number 4 (drop 12 octets)) small in
     ap (λ v. v % servers) value

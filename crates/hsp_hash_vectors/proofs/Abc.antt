@@ -14,6 +14,7 @@ words = 2153996897 ∷ 0 ∷ 0 ∷ 0 ∷ 0 ∷ 0 ∷ 0 ∷ 0 ∷ 0 ∷ 0 ∷ 0 �
 abbrev start : List ℕ
 start = 1732584193 ∷ 4023233417 ∷ 2562383102 ∷ 271733878 ∷ []
 
+-- before the first step
 r0 : rounds start words 0 ≡ start
 unfolding rounds
 r0 = refl
@@ -275,34 +276,46 @@ r64 : rounds start words 64 ≡ 822795919 ∷ 3229755059 ∷ 3833903576 ∷ 1649
 r64 = step start words 63 (1931990532 ∷ 3833903576 ∷ 1649249458 ∷ 822795919 ∷ []) r63
 
 abbrev block : List ℕ
-block = 97 ∷ 98 ∷ 99 ∷ 128 ∷ 0 ∷ 0 ∷ 0 ∷ 0 ∷ 0 ∷ 0 ∷ 0 ∷ 0 ∷ 0 ∷ 0 ∷ 0 ∷ 0 ∷ 0 ∷ 0 ∷ 0 ∷ 0 ∷ 0 ∷ 0 ∷ 0 ∷ 0 ∷ 0 ∷ 0 ∷ 0 ∷ 0 ∷ 0 ∷ 0 ∷ 0 ∷ 0 ∷ 0 ∷ 0 ∷ 0 ∷ 0 ∷ 0 ∷ 0 ∷ 0 ∷ 0 ∷ 0 ∷ 0 ∷ 0 ∷ 0 ∷ 0 ∷ 0 ∷ 0 ∷ 0 ∷ 0 ∷ 0 ∷ 0 ∷ 0 ∷ 0 ∷ 0 ∷ 0 ∷ 0 ∷ 24 ∷ 0 ∷ 0 ∷ 0 ∷ 0 ∷ 0 ∷ 0 ∷ 0 ∷ []
+block = 97 ∷ 98 ∷ 99 ∷ 128 ∷ 0 ∷ 0 ∷ 0 ∷ 0 ∷ 0 ∷ 0 ∷ 0 ∷ 0 ∷ 0 ∷ 0 ∷ 0 ∷ 0 ∷ 0 ∷ 0 ∷ 0 ∷ 0 ∷ 0 ∷ 0 ∷ 0 ∷ 0 ∷ 0 ∷ 0 ∷ 0
+    ∷ 0 ∷ 0 ∷ 0 ∷ 0 ∷ 0 ∷ 0 ∷ 0 ∷ 0 ∷ 0 ∷ 0 ∷ 0 ∷ 0 ∷ 0 ∷ 0 ∷ 0 ∷ 0 ∷ 0 ∷ 0 ∷ 0 ∷ 0 ∷ 0 ∷ 0 ∷ 0 ∷ 0 ∷ 0 ∷ 0 ∷ 0 ∷ 0
+    ∷ 0 ∷ 24 ∷ 0 ∷ 0 ∷ 0 ∷ 0 ∷ 0 ∷ 0 ∷ 0 ∷ []
 
+-- the octets of the block are the words
 block_is : block_words block 16 ≡ words
 unfolding block_words
 block_is = refl
 
+-- the steps over the block, added to where they began
 one_block : compress start block ≡ 2555380112 ∷ 2958021180 ∷ 2101319382 ∷ 1920983336 ∷ []
 unfolding compress
 one_block = ap (λ u. add_state start (rounds start u 64)) block_is ∙ ap (add_state start) r64
 
+-- the text is one block
 hashed : hash_after block 1 ≡ 2555380112 ∷ 2958021180 ∷ 2101319382 ∷ 1920983336 ∷ []
 unfolding hash_after
 hashed = one_block
 
-octets : digest_bytes (2555380112 ∷ 2958021180 ∷ 2101319382 ∷ 1920983336 ∷ []) 4 ≡ 144 ∷ 1 ∷ 80 ∷ 152 ∷ 60 ∷ 210 ∷ 79 ∷ 176 ∷ 214 ∷ 150 ∷ 63 ∷ 125 ∷ 40 ∷ 225 ∷ 127 ∷ 114 ∷ []
+-- the octets of the words, of each the lowest first
+octets : digest_bytes (2555380112 ∷ 2958021180 ∷ 2101319382 ∷ 1920983336 ∷ []) 4
+    ≡ 144 ∷ 1 ∷ 80 ∷ 152 ∷ 60 ∷ 210 ∷ 79 ∷ 176 ∷ 214 ∷ 150 ∷ 63 ∷ 125 ∷ 40 ∷ 225 ∷ 127 ∷ 114 ∷ []
 unfolding digest_bytes
 octets = refl
 
+-- the digest of the text, as octets
 digest : md5 (codes "abc") ≡ 144 ∷ 1 ∷ 80 ∷ 152 ∷ 60 ∷ 210 ∷ 79 ∷ 176 ∷ 214 ∷ 150 ∷ 63 ∷ 125 ∷ 40 ∷ 225 ∷ 127 ∷ 114 ∷ []
 unfolding md5
 digest = ap (λ h. digest_bytes h 4) hashed ∙ octets
 
-digits_are : encode_lower (144 ∷ 1 ∷ 80 ∷ 152 ∷ 60 ∷ 210 ∷ 79 ∷ 176 ∷ 214 ∷ 150 ∷ 63 ∷ 125 ∷ 40 ∷ 225 ∷ 127 ∷ 114 ∷ []) ≡ codes "900150983cd24fb0d6963f7d28e17f72"
+-- those octets in hexadecimal digits
+digits_are : encode_lower (144 ∷ 1 ∷ 80 ∷ 152 ∷ 60 ∷ 210 ∷ 79 ∷ 176 ∷ 214 ∷ 150 ∷ 63 ∷ 125 ∷ 40 ∷ 225 ∷ 127 ∷ 114
+    ∷ []) ≡ codes "900150983cd24fb0d6963f7d28e17f72"
 unfolding encode_with
 digits_are = refl
 
+-- the text has the digest of the definitions
 pub digits : HasDigest (codes "abc") (codes "900150983cd24fb0d6963f7d28e17f72")
 digits = ap encode_lower digest ∙ digits_are
 
+-- its last four octets, as a number with a sign, have the absolute value of the definitions
 pub value : HasValue (codes "abc") 685866866
 value = ap (λ octets. absolute_value (big_number 4 (drop 12 octets))) digest ∙ refl

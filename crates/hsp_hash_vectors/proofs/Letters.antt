@@ -9,11 +9,13 @@ use Rattle.hsp_hash_vectors.specs.Vectors.{HasDigest, HasValue}
 use Rattle.hsp_hash_vectors.proofs.Steps.{step}
 
 abbrev words : List ℕ
-words = 1684234849 ∷ 1751606885 ∷ 1818978921 ∷ 1886350957 ∷ 1953722993 ∷ 2021095029 ∷ 8419961 ∷ 0 ∷ 0 ∷ 0 ∷ 0 ∷ 0 ∷ 0 ∷ 0 ∷ 208 ∷ 0 ∷ []
+words = 1684234849 ∷ 1751606885 ∷ 1818978921 ∷ 1886350957 ∷ 1953722993 ∷ 2021095029 ∷ 8419961 ∷ 0 ∷ 0 ∷ 0 ∷ 0 ∷ 0 ∷ 0
+    ∷ 0 ∷ 208 ∷ 0 ∷ []
 
 abbrev start : List ℕ
 start = 1732584193 ∷ 4023233417 ∷ 2562383102 ∷ 271733878 ∷ []
 
+-- before the first step
 r0 : rounds start words 0 ≡ start
 unfolding rounds
 r0 = refl
@@ -275,34 +277,47 @@ r64 : rounds start words 64 ≡ 1888410050 ∷ 286713560 ∷ 3549372031 ∷ 7328
 r64 = step start words 63 (1584122160 ∷ 3549372031 ∷ 732894036 ∷ 1888410050 ∷ []) r63
 
 abbrev block : List ℕ
-block = 97 ∷ 98 ∷ 99 ∷ 100 ∷ 101 ∷ 102 ∷ 103 ∷ 104 ∷ 105 ∷ 106 ∷ 107 ∷ 108 ∷ 109 ∷ 110 ∷ 111 ∷ 112 ∷ 113 ∷ 114 ∷ 115 ∷ 116 ∷ 117 ∷ 118 ∷ 119 ∷ 120 ∷ 121 ∷ 122 ∷ 128 ∷ 0 ∷ 0 ∷ 0 ∷ 0 ∷ 0 ∷ 0 ∷ 0 ∷ 0 ∷ 0 ∷ 0 ∷ 0 ∷ 0 ∷ 0 ∷ 0 ∷ 0 ∷ 0 ∷ 0 ∷ 0 ∷ 0 ∷ 0 ∷ 0 ∷ 0 ∷ 0 ∷ 0 ∷ 0 ∷ 0 ∷ 0 ∷ 0 ∷ 0 ∷ 208 ∷ 0 ∷ 0 ∷ 0 ∷ 0 ∷ 0 ∷ 0 ∷ 0 ∷ []
+block = 97 ∷ 98 ∷ 99 ∷ 100 ∷ 101 ∷ 102 ∷ 103 ∷ 104 ∷ 105 ∷ 106 ∷ 107 ∷ 108 ∷ 109 ∷ 110 ∷ 111 ∷ 112 ∷ 113 ∷ 114 ∷ 115
+    ∷ 116 ∷ 117 ∷ 118 ∷ 119 ∷ 120 ∷ 121 ∷ 122 ∷ 128 ∷ 0 ∷ 0 ∷ 0 ∷ 0 ∷ 0 ∷ 0 ∷ 0 ∷ 0 ∷ 0 ∷ 0 ∷ 0 ∷ 0 ∷ 0 ∷ 0 ∷ 0 ∷ 0
+    ∷ 0 ∷ 0 ∷ 0 ∷ 0 ∷ 0 ∷ 0 ∷ 0 ∷ 0 ∷ 0 ∷ 0 ∷ 0 ∷ 0 ∷ 0 ∷ 208 ∷ 0 ∷ 0 ∷ 0 ∷ 0 ∷ 0 ∷ 0 ∷ 0 ∷ []
 
+-- the octets of the block are the words
 block_is : block_words block 16 ≡ words
 unfolding block_words
 block_is = refl
 
+-- the steps over the block, added to where they began
 one_block : compress start block ≡ 3620994243 ∷ 14979681 ∷ 1816787837 ∷ 1004627914 ∷ []
 unfolding compress
 one_block = ap (λ u. add_state start (rounds start u 64)) block_is ∙ ap (add_state start) r64
 
+-- the text is one block
 hashed : hash_after block 1 ≡ 3620994243 ∷ 14979681 ∷ 1816787837 ∷ 1004627914 ∷ []
 unfolding hash_after
 hashed = one_block
 
-octets : digest_bytes (3620994243 ∷ 14979681 ∷ 1816787837 ∷ 1004627914 ∷ []) 4 ≡ 195 ∷ 252 ∷ 211 ∷ 215 ∷ 97 ∷ 146 ∷ 228 ∷ 0 ∷ 125 ∷ 251 ∷ 73 ∷ 108 ∷ 202 ∷ 103 ∷ 225 ∷ 59 ∷ []
+-- the octets of the words, of each the lowest first
+octets : digest_bytes (3620994243 ∷ 14979681 ∷ 1816787837 ∷ 1004627914 ∷ []) 4
+    ≡ 195 ∷ 252 ∷ 211 ∷ 215 ∷ 97 ∷ 146 ∷ 228 ∷ 0 ∷ 125 ∷ 251 ∷ 73 ∷ 108 ∷ 202 ∷ 103 ∷ 225 ∷ 59 ∷ []
 unfolding digest_bytes
 octets = refl
 
-digest : md5 (codes "abcdefghijklmnopqrstuvwxyz") ≡ 195 ∷ 252 ∷ 211 ∷ 215 ∷ 97 ∷ 146 ∷ 228 ∷ 0 ∷ 125 ∷ 251 ∷ 73 ∷ 108 ∷ 202 ∷ 103 ∷ 225 ∷ 59 ∷ []
+-- the digest of the text, as octets
+digest : md5 (codes "abcdefghijklmnopqrstuvwxyz")
+    ≡ 195 ∷ 252 ∷ 211 ∷ 215 ∷ 97 ∷ 146 ∷ 228 ∷ 0 ∷ 125 ∷ 251 ∷ 73 ∷ 108 ∷ 202 ∷ 103 ∷ 225 ∷ 59 ∷ []
 unfolding md5
 digest = ap (λ h. digest_bytes h 4) hashed ∙ octets
 
-digits_are : encode_lower (195 ∷ 252 ∷ 211 ∷ 215 ∷ 97 ∷ 146 ∷ 228 ∷ 0 ∷ 125 ∷ 251 ∷ 73 ∷ 108 ∷ 202 ∷ 103 ∷ 225 ∷ 59 ∷ []) ≡ codes "c3fcd3d76192e4007dfb496cca67e13b"
+-- those octets in hexadecimal digits
+digits_are : encode_lower (195 ∷ 252 ∷ 211 ∷ 215 ∷ 97 ∷ 146 ∷ 228 ∷ 0 ∷ 125 ∷ 251 ∷ 73 ∷ 108 ∷ 202 ∷ 103 ∷ 225 ∷ 59
+    ∷ []) ≡ codes "c3fcd3d76192e4007dfb496cca67e13b"
 unfolding encode_with
 digits_are = refl
 
+-- the text has the digest of the definitions
 pub digits : HasDigest (codes "abcdefghijklmnopqrstuvwxyz") (codes "c3fcd3d76192e4007dfb496cca67e13b")
 digits = ap encode_lower digest ∙ digits_are
 
+-- its last four octets, as a number with a sign, have the absolute value of the definitions
 pub value : HasValue (codes "abcdefghijklmnopqrstuvwxyz") 899161797
 value = ap (λ octets. absolute_value (big_number 4 (drop 12 octets))) digest ∙ refl

@@ -14,6 +14,7 @@ words = 1936942445 ∷ 543516513 ∷ 1701276004 ∷ 8418419 ∷ 0 ∷ 0 ∷ 0 �
 abbrev start : List ℕ
 start = 1732584193 ∷ 4023233417 ∷ 2562383102 ∷ 271733878 ∷ []
 
+-- before the first step
 r0 : rounds start words 0 ≡ start
 unfolding rounds
 r0 = refl
@@ -275,34 +276,47 @@ r64 : rounds start words 64 ≡ 371476728 ∷ 2647002099 ∷ 2557771092 ∷ 3224
 r64 = step start words 63 (1730003510 ∷ 2557771092 ∷ 3224345908 ∷ 371476728 ∷ []) r63
 
 abbrev block : List ℕ
-block = 109 ∷ 101 ∷ 115 ∷ 115 ∷ 97 ∷ 103 ∷ 101 ∷ 32 ∷ 100 ∷ 105 ∷ 103 ∷ 101 ∷ 115 ∷ 116 ∷ 128 ∷ 0 ∷ 0 ∷ 0 ∷ 0 ∷ 0 ∷ 0 ∷ 0 ∷ 0 ∷ 0 ∷ 0 ∷ 0 ∷ 0 ∷ 0 ∷ 0 ∷ 0 ∷ 0 ∷ 0 ∷ 0 ∷ 0 ∷ 0 ∷ 0 ∷ 0 ∷ 0 ∷ 0 ∷ 0 ∷ 0 ∷ 0 ∷ 0 ∷ 0 ∷ 0 ∷ 0 ∷ 0 ∷ 0 ∷ 0 ∷ 0 ∷ 0 ∷ 0 ∷ 0 ∷ 0 ∷ 0 ∷ 0 ∷ 112 ∷ 0 ∷ 0 ∷ 0 ∷ 0 ∷ 0 ∷ 0 ∷ 0 ∷ []
+block = 109 ∷ 101 ∷ 115 ∷ 115 ∷ 97 ∷ 103 ∷ 101 ∷ 32 ∷ 100 ∷ 105 ∷ 103 ∷ 101 ∷ 115 ∷ 116 ∷ 128 ∷ 0 ∷ 0 ∷ 0 ∷ 0 ∷ 0 ∷ 0
+    ∷ 0 ∷ 0 ∷ 0 ∷ 0 ∷ 0 ∷ 0 ∷ 0 ∷ 0 ∷ 0 ∷ 0 ∷ 0 ∷ 0 ∷ 0 ∷ 0 ∷ 0 ∷ 0 ∷ 0 ∷ 0 ∷ 0 ∷ 0 ∷ 0 ∷ 0 ∷ 0 ∷ 0 ∷ 0 ∷ 0 ∷ 0 ∷ 0
+    ∷ 0 ∷ 0 ∷ 0 ∷ 0 ∷ 0 ∷ 0 ∷ 0 ∷ 112 ∷ 0 ∷ 0 ∷ 0 ∷ 0 ∷ 0 ∷ 0 ∷ 0 ∷ []
 
+-- the octets of the block are the words
 block_is : block_words block 16 ≡ words
 unfolding block_words
 block_is = refl
 
+-- the steps over the block, added to where they began
 one_block : compress start block ≡ 2104060921 ∷ 2375268220 ∷ 825186898 ∷ 3496079786 ∷ []
 unfolding compress
 one_block = ap (λ u. add_state start (rounds start u 64)) block_is ∙ ap (add_state start) r64
 
+-- the text is one block
 hashed : hash_after block 1 ≡ 2104060921 ∷ 2375268220 ∷ 825186898 ∷ 3496079786 ∷ []
 unfolding hash_after
 hashed = one_block
 
-octets : digest_bytes (2104060921 ∷ 2375268220 ∷ 825186898 ∷ 3496079786 ∷ []) 4 ≡ 249 ∷ 107 ∷ 105 ∷ 125 ∷ 124 ∷ 183 ∷ 147 ∷ 141 ∷ 82 ∷ 90 ∷ 47 ∷ 49 ∷ 170 ∷ 241 ∷ 97 ∷ 208 ∷ []
+-- the octets of the words, of each the lowest first
+octets : digest_bytes (2104060921 ∷ 2375268220 ∷ 825186898 ∷ 3496079786 ∷ []) 4
+    ≡ 249 ∷ 107 ∷ 105 ∷ 125 ∷ 124 ∷ 183 ∷ 147 ∷ 141 ∷ 82 ∷ 90 ∷ 47 ∷ 49 ∷ 170 ∷ 241 ∷ 97 ∷ 208 ∷ []
 unfolding digest_bytes
 octets = refl
 
-digest : md5 (codes "message digest") ≡ 249 ∷ 107 ∷ 105 ∷ 125 ∷ 124 ∷ 183 ∷ 147 ∷ 141 ∷ 82 ∷ 90 ∷ 47 ∷ 49 ∷ 170 ∷ 241 ∷ 97 ∷ 208 ∷ []
+-- the digest of the text, as octets
+digest : md5 (codes "message digest")
+    ≡ 249 ∷ 107 ∷ 105 ∷ 125 ∷ 124 ∷ 183 ∷ 147 ∷ 141 ∷ 82 ∷ 90 ∷ 47 ∷ 49 ∷ 170 ∷ 241 ∷ 97 ∷ 208 ∷ []
 unfolding md5
 digest = ap (λ h. digest_bytes h 4) hashed ∙ octets
 
-digits_are : encode_lower (249 ∷ 107 ∷ 105 ∷ 125 ∷ 124 ∷ 183 ∷ 147 ∷ 141 ∷ 82 ∷ 90 ∷ 47 ∷ 49 ∷ 170 ∷ 241 ∷ 97 ∷ 208 ∷ []) ≡ codes "f96b697d7cb7938d525a2f31aaf161d0"
+-- those octets in hexadecimal digits
+digits_are : encode_lower (249 ∷ 107 ∷ 105 ∷ 125 ∷ 124 ∷ 183 ∷ 147 ∷ 141 ∷ 82 ∷ 90 ∷ 47 ∷ 49 ∷ 170 ∷ 241 ∷ 97 ∷ 208
+    ∷ []) ≡ codes "f96b697d7cb7938d525a2f31aaf161d0"
 unfolding encode_with
 digits_are = refl
 
+-- the text has the digest of the definitions
 pub digits : HasDigest (codes "message digest") (codes "f96b697d7cb7938d525a2f31aaf161d0")
 digits = ap encode_lower digest ∙ digits_are
 
+-- its last four octets, as a number with a sign, have the absolute value of the definitions
 pub value : HasValue (codes "message digest") 1427021360
 value = ap (λ octets. absolute_value (big_number 4 (drop 12 octets))) digest ∙ refl

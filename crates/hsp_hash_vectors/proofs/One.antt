@@ -14,6 +14,7 @@ words = 32817 ∷ 0 ∷ 0 ∷ 0 ∷ 0 ∷ 0 ∷ 0 ∷ 0 ∷ 0 ∷ 0 ∷ 0 ∷ 0 
 abbrev start : List ℕ
 start = 1732584193 ∷ 4023233417 ∷ 2562383102 ∷ 271733878 ∷ []
 
+-- before the first step
 r0 : rounds start words 0 ≡ start
 unfolding rounds
 r0 = refl
@@ -275,34 +276,46 @@ r64 : rounds start words 64 ≡ 3506284483 ∷ 2455113239 ∷ 26603279 ∷ 23374
 r64 = step start words 63 (1890292015 ∷ 26603279 ∷ 2337415417 ∷ 3506284483 ∷ []) r63
 
 abbrev block : List ℕ
-block = 49 ∷ 128 ∷ 0 ∷ 0 ∷ 0 ∷ 0 ∷ 0 ∷ 0 ∷ 0 ∷ 0 ∷ 0 ∷ 0 ∷ 0 ∷ 0 ∷ 0 ∷ 0 ∷ 0 ∷ 0 ∷ 0 ∷ 0 ∷ 0 ∷ 0 ∷ 0 ∷ 0 ∷ 0 ∷ 0 ∷ 0 ∷ 0 ∷ 0 ∷ 0 ∷ 0 ∷ 0 ∷ 0 ∷ 0 ∷ 0 ∷ 0 ∷ 0 ∷ 0 ∷ 0 ∷ 0 ∷ 0 ∷ 0 ∷ 0 ∷ 0 ∷ 0 ∷ 0 ∷ 0 ∷ 0 ∷ 0 ∷ 0 ∷ 0 ∷ 0 ∷ 0 ∷ 0 ∷ 0 ∷ 0 ∷ 8 ∷ 0 ∷ 0 ∷ 0 ∷ 0 ∷ 0 ∷ 0 ∷ 0 ∷ []
+block = 49 ∷ 128 ∷ 0 ∷ 0 ∷ 0 ∷ 0 ∷ 0 ∷ 0 ∷ 0 ∷ 0 ∷ 0 ∷ 0 ∷ 0 ∷ 0 ∷ 0 ∷ 0 ∷ 0 ∷ 0 ∷ 0 ∷ 0 ∷ 0 ∷ 0 ∷ 0 ∷ 0 ∷ 0 ∷ 0 ∷ 0
+    ∷ 0 ∷ 0 ∷ 0 ∷ 0 ∷ 0 ∷ 0 ∷ 0 ∷ 0 ∷ 0 ∷ 0 ∷ 0 ∷ 0 ∷ 0 ∷ 0 ∷ 0 ∷ 0 ∷ 0 ∷ 0 ∷ 0 ∷ 0 ∷ 0 ∷ 0 ∷ 0 ∷ 0 ∷ 0 ∷ 0 ∷ 0 ∷ 0
+    ∷ 0 ∷ 8 ∷ 0 ∷ 0 ∷ 0 ∷ 0 ∷ 0 ∷ 0 ∷ 0 ∷ []
 
+-- the octets of the block are the words
 block_is : block_words block 16 ≡ words
 unfolding block_words
 block_is = refl
 
+-- the steps over the block, added to where they began
 one_block : compress start block ≡ 943901380 ∷ 2183379360 ∷ 2588986381 ∷ 2609149295 ∷ []
 unfolding compress
 one_block = ap (λ u. add_state start (rounds start u 64)) block_is ∙ ap (add_state start) r64
 
+-- the text is one block
 hashed : hash_after block 1 ≡ 943901380 ∷ 2183379360 ∷ 2588986381 ∷ 2609149295 ∷ []
 unfolding hash_after
 hashed = one_block
 
-octets : digest_bytes (943901380 ∷ 2183379360 ∷ 2588986381 ∷ 2609149295 ∷ []) 4 ≡ 196 ∷ 202 ∷ 66 ∷ 56 ∷ 160 ∷ 185 ∷ 35 ∷ 130 ∷ 13 ∷ 204 ∷ 80 ∷ 154 ∷ 111 ∷ 117 ∷ 132 ∷ 155 ∷ []
+-- the octets of the words, of each the lowest first
+octets : digest_bytes (943901380 ∷ 2183379360 ∷ 2588986381 ∷ 2609149295 ∷ []) 4
+    ≡ 196 ∷ 202 ∷ 66 ∷ 56 ∷ 160 ∷ 185 ∷ 35 ∷ 130 ∷ 13 ∷ 204 ∷ 80 ∷ 154 ∷ 111 ∷ 117 ∷ 132 ∷ 155 ∷ []
 unfolding digest_bytes
 octets = refl
 
+-- the digest of the text, as octets
 digest : md5 (codes "1") ≡ 196 ∷ 202 ∷ 66 ∷ 56 ∷ 160 ∷ 185 ∷ 35 ∷ 130 ∷ 13 ∷ 204 ∷ 80 ∷ 154 ∷ 111 ∷ 117 ∷ 132 ∷ 155 ∷ []
 unfolding md5
 digest = ap (λ h. digest_bytes h 4) hashed ∙ octets
 
-digits_are : encode_lower (196 ∷ 202 ∷ 66 ∷ 56 ∷ 160 ∷ 185 ∷ 35 ∷ 130 ∷ 13 ∷ 204 ∷ 80 ∷ 154 ∷ 111 ∷ 117 ∷ 132 ∷ 155 ∷ []) ≡ codes "c4ca4238a0b923820dcc509a6f75849b"
+-- those octets in hexadecimal digits
+digits_are : encode_lower (196 ∷ 202 ∷ 66 ∷ 56 ∷ 160 ∷ 185 ∷ 35 ∷ 130 ∷ 13 ∷ 204 ∷ 80 ∷ 154 ∷ 111 ∷ 117 ∷ 132 ∷ 155
+    ∷ []) ≡ codes "c4ca4238a0b923820dcc509a6f75849b"
 unfolding encode_with
 digits_are = refl
 
+-- the text has the digest of the definitions
 pub digits : HasDigest (codes "1") (codes "c4ca4238a0b923820dcc509a6f75849b")
 digits = ap encode_lower digest ∙ digits_are
 
+-- its last four octets, as a number with a sign, have the absolute value of the definitions
 pub value : HasValue (codes "1") 1869972635
 value = ap (λ octets. absolute_value (big_number 4 (drop 12 octets))) digest ∙ refl

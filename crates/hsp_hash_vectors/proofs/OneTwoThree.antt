@@ -14,6 +14,7 @@ words = 2150838833 ∷ 0 ∷ 0 ∷ 0 ∷ 0 ∷ 0 ∷ 0 ∷ 0 ∷ 0 ∷ 0 ∷ 0 �
 abbrev start : List ℕ
 start = 1732584193 ∷ 4023233417 ∷ 2562383102 ∷ 271733878 ∷ []
 
+-- before the first step
 r0 : rounds start words 0 ≡ start
 unfolding rounds
 r0 = refl
@@ -275,34 +276,46 @@ r64 : rounds start words 64 ≡ 4218685727 ∷ 1798942243 ∷ 2085383832 ∷ 161
 r64 = step start words 63 (1637768087 ∷ 2085383832 ∷ 1612238519 ∷ 4218685727 ∷ []) r63
 
 abbrev block : List ℕ
-block = 49 ∷ 50 ∷ 51 ∷ 128 ∷ 0 ∷ 0 ∷ 0 ∷ 0 ∷ 0 ∷ 0 ∷ 0 ∷ 0 ∷ 0 ∷ 0 ∷ 0 ∷ 0 ∷ 0 ∷ 0 ∷ 0 ∷ 0 ∷ 0 ∷ 0 ∷ 0 ∷ 0 ∷ 0 ∷ 0 ∷ 0 ∷ 0 ∷ 0 ∷ 0 ∷ 0 ∷ 0 ∷ 0 ∷ 0 ∷ 0 ∷ 0 ∷ 0 ∷ 0 ∷ 0 ∷ 0 ∷ 0 ∷ 0 ∷ 0 ∷ 0 ∷ 0 ∷ 0 ∷ 0 ∷ 0 ∷ 0 ∷ 0 ∷ 0 ∷ 0 ∷ 0 ∷ 0 ∷ 0 ∷ 0 ∷ 24 ∷ 0 ∷ 0 ∷ 0 ∷ 0 ∷ 0 ∷ 0 ∷ 0 ∷ []
+block = 49 ∷ 50 ∷ 51 ∷ 128 ∷ 0 ∷ 0 ∷ 0 ∷ 0 ∷ 0 ∷ 0 ∷ 0 ∷ 0 ∷ 0 ∷ 0 ∷ 0 ∷ 0 ∷ 0 ∷ 0 ∷ 0 ∷ 0 ∷ 0 ∷ 0 ∷ 0 ∷ 0 ∷ 0 ∷ 0 ∷ 0
+    ∷ 0 ∷ 0 ∷ 0 ∷ 0 ∷ 0 ∷ 0 ∷ 0 ∷ 0 ∷ 0 ∷ 0 ∷ 0 ∷ 0 ∷ 0 ∷ 0 ∷ 0 ∷ 0 ∷ 0 ∷ 0 ∷ 0 ∷ 0 ∷ 0 ∷ 0 ∷ 0 ∷ 0 ∷ 0 ∷ 0 ∷ 0 ∷ 0
+    ∷ 0 ∷ 24 ∷ 0 ∷ 0 ∷ 0 ∷ 0 ∷ 0 ∷ 0 ∷ 0 ∷ []
 
+-- the octets of the block are the words
 block_is : block_words block 16 ≡ words
 unfolding block_words
 block_is = refl
 
+-- the steps over the block, added to where they began
 one_block : compress start block ≡ 1656302624 ∷ 1527208364 ∷ 352799638 ∷ 1883972397 ∷ []
 unfolding compress
 one_block = ap (λ u. add_state start (rounds start u 64)) block_is ∙ ap (add_state start) r64
 
+-- the text is one block
 hashed : hash_after block 1 ≡ 1656302624 ∷ 1527208364 ∷ 352799638 ∷ 1883972397 ∷ []
 unfolding hash_after
 hashed = one_block
 
-octets : digest_bytes (1656302624 ∷ 1527208364 ∷ 352799638 ∷ 1883972397 ∷ []) 4 ≡ 32 ∷ 44 ∷ 185 ∷ 98 ∷ 172 ∷ 89 ∷ 7 ∷ 91 ∷ 150 ∷ 75 ∷ 7 ∷ 21 ∷ 45 ∷ 35 ∷ 75 ∷ 112 ∷ []
+-- the octets of the words, of each the lowest first
+octets : digest_bytes (1656302624 ∷ 1527208364 ∷ 352799638 ∷ 1883972397 ∷ []) 4
+    ≡ 32 ∷ 44 ∷ 185 ∷ 98 ∷ 172 ∷ 89 ∷ 7 ∷ 91 ∷ 150 ∷ 75 ∷ 7 ∷ 21 ∷ 45 ∷ 35 ∷ 75 ∷ 112 ∷ []
 unfolding digest_bytes
 octets = refl
 
+-- the digest of the text, as octets
 digest : md5 (codes "123") ≡ 32 ∷ 44 ∷ 185 ∷ 98 ∷ 172 ∷ 89 ∷ 7 ∷ 91 ∷ 150 ∷ 75 ∷ 7 ∷ 21 ∷ 45 ∷ 35 ∷ 75 ∷ 112 ∷ []
 unfolding md5
 digest = ap (λ h. digest_bytes h 4) hashed ∙ octets
 
-digits_are : encode_lower (32 ∷ 44 ∷ 185 ∷ 98 ∷ 172 ∷ 89 ∷ 7 ∷ 91 ∷ 150 ∷ 75 ∷ 7 ∷ 21 ∷ 45 ∷ 35 ∷ 75 ∷ 112 ∷ []) ≡ codes "202cb962ac59075b964b07152d234b70"
+-- those octets in hexadecimal digits
+digits_are : encode_lower (32 ∷ 44 ∷ 185 ∷ 98 ∷ 172 ∷ 89 ∷ 7 ∷ 91 ∷ 150 ∷ 75 ∷ 7 ∷ 21 ∷ 45 ∷ 35 ∷ 75 ∷ 112 ∷ [])
+    ≡ codes "202cb962ac59075b964b07152d234b70"
 unfolding encode_with
 digits_are = refl
 
+-- the text has the digest of the definitions
 pub digits : HasDigest (codes "123") (codes "202cb962ac59075b964b07152d234b70")
 digits = ap encode_lower digest ∙ digits_are
 
+-- its last four octets, as a number with a sign, have the absolute value of the definitions
 pub value : HasValue (codes "123") 757287792
 value = ap (λ octets. absolute_value (big_number 4 (drop 12 octets))) digest ∙ refl

@@ -14,6 +14,7 @@ words = 8400945 ∷ 0 ∷ 0 ∷ 0 ∷ 0 ∷ 0 ∷ 0 ∷ 0 ∷ 0 ∷ 0 ∷ 0 ∷ 
 abbrev start : List ℕ
 start = 1732584193 ∷ 4023233417 ∷ 2562383102 ∷ 271733878 ∷ []
 
+-- before the first step
 r0 : rounds start words 0 ≡ start
 unfolding rounds
 r0 = refl
@@ -275,34 +276,46 @@ r64 : rounds start words 64 ≡ 16758482 ∷ 1769273465 ∷ 1300070519 ∷ 28036
 r64 = step start words 63 (3765270314 ∷ 1300070519 ∷ 280366939 ∷ 16758482 ∷ []) r63
 
 abbrev block : List ℕ
-block = 49 ∷ 48 ∷ 128 ∷ 0 ∷ 0 ∷ 0 ∷ 0 ∷ 0 ∷ 0 ∷ 0 ∷ 0 ∷ 0 ∷ 0 ∷ 0 ∷ 0 ∷ 0 ∷ 0 ∷ 0 ∷ 0 ∷ 0 ∷ 0 ∷ 0 ∷ 0 ∷ 0 ∷ 0 ∷ 0 ∷ 0 ∷ 0 ∷ 0 ∷ 0 ∷ 0 ∷ 0 ∷ 0 ∷ 0 ∷ 0 ∷ 0 ∷ 0 ∷ 0 ∷ 0 ∷ 0 ∷ 0 ∷ 0 ∷ 0 ∷ 0 ∷ 0 ∷ 0 ∷ 0 ∷ 0 ∷ 0 ∷ 0 ∷ 0 ∷ 0 ∷ 0 ∷ 0 ∷ 0 ∷ 0 ∷ 16 ∷ 0 ∷ 0 ∷ 0 ∷ 0 ∷ 0 ∷ 0 ∷ 0 ∷ []
+block = 49 ∷ 48 ∷ 128 ∷ 0 ∷ 0 ∷ 0 ∷ 0 ∷ 0 ∷ 0 ∷ 0 ∷ 0 ∷ 0 ∷ 0 ∷ 0 ∷ 0 ∷ 0 ∷ 0 ∷ 0 ∷ 0 ∷ 0 ∷ 0 ∷ 0 ∷ 0 ∷ 0 ∷ 0 ∷ 0 ∷ 0
+    ∷ 0 ∷ 0 ∷ 0 ∷ 0 ∷ 0 ∷ 0 ∷ 0 ∷ 0 ∷ 0 ∷ 0 ∷ 0 ∷ 0 ∷ 0 ∷ 0 ∷ 0 ∷ 0 ∷ 0 ∷ 0 ∷ 0 ∷ 0 ∷ 0 ∷ 0 ∷ 0 ∷ 0 ∷ 0 ∷ 0 ∷ 0 ∷ 0
+    ∷ 0 ∷ 16 ∷ 0 ∷ 0 ∷ 0 ∷ 0 ∷ 0 ∷ 0 ∷ 0 ∷ []
 
+-- the octets of the block are the words
 block_is : block_words block 16 ≡ words
 unfolding block_words
 block_is = refl
 
+-- the steps over the block, added to where they began
 one_block : compress start block ≡ 1749342675 ∷ 1497539586 ∷ 3862453621 ∷ 552100817 ∷ []
 unfolding compress
 one_block = ap (λ u. add_state start (rounds start u 64)) block_is ∙ ap (add_state start) r64
 
+-- the text is one block
 hashed : hash_after block 1 ≡ 1749342675 ∷ 1497539586 ∷ 3862453621 ∷ 552100817 ∷ []
 unfolding hash_after
 hashed = one_block
 
-octets : digest_bytes (1749342675 ∷ 1497539586 ∷ 3862453621 ∷ 552100817 ∷ []) 4 ≡ 211 ∷ 217 ∷ 68 ∷ 104 ∷ 2 ∷ 164 ∷ 66 ∷ 89 ∷ 117 ∷ 93 ∷ 56 ∷ 230 ∷ 209 ∷ 99 ∷ 232 ∷ 32 ∷ []
+-- the octets of the words, of each the lowest first
+octets : digest_bytes (1749342675 ∷ 1497539586 ∷ 3862453621 ∷ 552100817 ∷ []) 4
+    ≡ 211 ∷ 217 ∷ 68 ∷ 104 ∷ 2 ∷ 164 ∷ 66 ∷ 89 ∷ 117 ∷ 93 ∷ 56 ∷ 230 ∷ 209 ∷ 99 ∷ 232 ∷ 32 ∷ []
 unfolding digest_bytes
 octets = refl
 
+-- the digest of the text, as octets
 digest : md5 (codes "10") ≡ 211 ∷ 217 ∷ 68 ∷ 104 ∷ 2 ∷ 164 ∷ 66 ∷ 89 ∷ 117 ∷ 93 ∷ 56 ∷ 230 ∷ 209 ∷ 99 ∷ 232 ∷ 32 ∷ []
 unfolding md5
 digest = ap (λ h. digest_bytes h 4) hashed ∙ octets
 
-digits_are : encode_lower (211 ∷ 217 ∷ 68 ∷ 104 ∷ 2 ∷ 164 ∷ 66 ∷ 89 ∷ 117 ∷ 93 ∷ 56 ∷ 230 ∷ 209 ∷ 99 ∷ 232 ∷ 32 ∷ []) ≡ codes "d3d9446802a44259755d38e6d163e820"
+-- those octets in hexadecimal digits
+digits_are : encode_lower (211 ∷ 217 ∷ 68 ∷ 104 ∷ 2 ∷ 164 ∷ 66 ∷ 89 ∷ 117 ∷ 93 ∷ 56 ∷ 230 ∷ 209 ∷ 99 ∷ 232 ∷ 32 ∷ [])
+    ≡ codes "d3d9446802a44259755d38e6d163e820"
 unfolding encode_with
 digits_are = refl
 
+-- the text has the digest of the definitions
 pub digits : HasDigest (codes "10") (codes "d3d9446802a44259755d38e6d163e820")
 digits = ap encode_lower digest ∙ digits_are
 
+-- its last four octets, as a number with a sign, have the absolute value of the definitions
 pub value : HasValue (codes "10") 781981664
 value = ap (λ octets. absolute_value (big_number 4 (drop 12 octets))) digest ∙ refl

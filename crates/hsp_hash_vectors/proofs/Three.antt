@@ -14,6 +14,7 @@ words = 32819 ∷ 0 ∷ 0 ∷ 0 ∷ 0 ∷ 0 ∷ 0 ∷ 0 ∷ 0 ∷ 0 ∷ 0 ∷ 0 
 abbrev start : List ℕ
 start = 1732584193 ∷ 4023233417 ∷ 2562383102 ∷ 271733878 ∷ []
 
+-- before the first step
 r0 : rounds start words 0 ≡ start
 unfolding rounds
 r0 = refl
@@ -275,34 +276,47 @@ r64 : rounds start words 64 ≡ 394504427 ∷ 253014210 ∷ 1087656746 ∷ 38173
 r64 = step start words 63 (200404639 ∷ 1087656746 ∷ 3817362300 ∷ 394504427 ∷ []) r63
 
 abbrev block : List ℕ
-block = 51 ∷ 128 ∷ 0 ∷ 0 ∷ 0 ∷ 0 ∷ 0 ∷ 0 ∷ 0 ∷ 0 ∷ 0 ∷ 0 ∷ 0 ∷ 0 ∷ 0 ∷ 0 ∷ 0 ∷ 0 ∷ 0 ∷ 0 ∷ 0 ∷ 0 ∷ 0 ∷ 0 ∷ 0 ∷ 0 ∷ 0 ∷ 0 ∷ 0 ∷ 0 ∷ 0 ∷ 0 ∷ 0 ∷ 0 ∷ 0 ∷ 0 ∷ 0 ∷ 0 ∷ 0 ∷ 0 ∷ 0 ∷ 0 ∷ 0 ∷ 0 ∷ 0 ∷ 0 ∷ 0 ∷ 0 ∷ 0 ∷ 0 ∷ 0 ∷ 0 ∷ 0 ∷ 0 ∷ 0 ∷ 0 ∷ 8 ∷ 0 ∷ 0 ∷ 0 ∷ 0 ∷ 0 ∷ 0 ∷ 0 ∷ []
+block = 51 ∷ 128 ∷ 0 ∷ 0 ∷ 0 ∷ 0 ∷ 0 ∷ 0 ∷ 0 ∷ 0 ∷ 0 ∷ 0 ∷ 0 ∷ 0 ∷ 0 ∷ 0 ∷ 0 ∷ 0 ∷ 0 ∷ 0 ∷ 0 ∷ 0 ∷ 0 ∷ 0 ∷ 0 ∷ 0 ∷ 0
+    ∷ 0 ∷ 0 ∷ 0 ∷ 0 ∷ 0 ∷ 0 ∷ 0 ∷ 0 ∷ 0 ∷ 0 ∷ 0 ∷ 0 ∷ 0 ∷ 0 ∷ 0 ∷ 0 ∷ 0 ∷ 0 ∷ 0 ∷ 0 ∷ 0 ∷ 0 ∷ 0 ∷ 0 ∷ 0 ∷ 0 ∷ 0 ∷ 0
+    ∷ 0 ∷ 8 ∷ 0 ∷ 0 ∷ 0 ∷ 0 ∷ 0 ∷ 0 ∷ 0 ∷ []
 
+-- the octets of the block are the words
 block_is : block_words block 16 ≡ words
 unfolding block_words
 block_is = refl
 
+-- the steps over the block, added to where they began
 one_block : compress start block ≡ 2127088620 ∷ 4276247627 ∷ 3650039848 ∷ 4089096178 ∷ []
 unfolding compress
 one_block = ap (λ u. add_state start (rounds start u 64)) block_is ∙ ap (add_state start) r64
 
+-- the text is one block
 hashed : hash_after block 1 ≡ 2127088620 ∷ 4276247627 ∷ 3650039848 ∷ 4089096178 ∷ []
 unfolding hash_after
 hashed = one_block
 
-octets : digest_bytes (2127088620 ∷ 4276247627 ∷ 3650039848 ∷ 4089096178 ∷ []) 4 ≡ 236 ∷ 203 ∷ 200 ∷ 126 ∷ 75 ∷ 92 ∷ 226 ∷ 254 ∷ 40 ∷ 48 ∷ 143 ∷ 217 ∷ 242 ∷ 167 ∷ 186 ∷ 243 ∷ []
+-- the octets of the words, of each the lowest first
+octets : digest_bytes (2127088620 ∷ 4276247627 ∷ 3650039848 ∷ 4089096178 ∷ []) 4
+    ≡ 236 ∷ 203 ∷ 200 ∷ 126 ∷ 75 ∷ 92 ∷ 226 ∷ 254 ∷ 40 ∷ 48 ∷ 143 ∷ 217 ∷ 242 ∷ 167 ∷ 186 ∷ 243 ∷ []
 unfolding digest_bytes
 octets = refl
 
-digest : md5 (codes "3") ≡ 236 ∷ 203 ∷ 200 ∷ 126 ∷ 75 ∷ 92 ∷ 226 ∷ 254 ∷ 40 ∷ 48 ∷ 143 ∷ 217 ∷ 242 ∷ 167 ∷ 186 ∷ 243 ∷ []
+-- the digest of the text, as octets
+digest : md5 (codes "3")
+    ≡ 236 ∷ 203 ∷ 200 ∷ 126 ∷ 75 ∷ 92 ∷ 226 ∷ 254 ∷ 40 ∷ 48 ∷ 143 ∷ 217 ∷ 242 ∷ 167 ∷ 186 ∷ 243 ∷ []
 unfolding md5
 digest = ap (λ h. digest_bytes h 4) hashed ∙ octets
 
-digits_are : encode_lower (236 ∷ 203 ∷ 200 ∷ 126 ∷ 75 ∷ 92 ∷ 226 ∷ 254 ∷ 40 ∷ 48 ∷ 143 ∷ 217 ∷ 242 ∷ 167 ∷ 186 ∷ 243 ∷ []) ≡ codes "eccbc87e4b5ce2fe28308fd9f2a7baf3"
+-- those octets in hexadecimal digits
+digits_are : encode_lower (236 ∷ 203 ∷ 200 ∷ 126 ∷ 75 ∷ 92 ∷ 226 ∷ 254 ∷ 40 ∷ 48 ∷ 143 ∷ 217 ∷ 242 ∷ 167 ∷ 186 ∷ 243
+    ∷ []) ≡ codes "eccbc87e4b5ce2fe28308fd9f2a7baf3"
 unfolding encode_with
 digits_are = refl
 
+-- the text has the digest of the definitions
 pub digits : HasDigest (codes "3") (codes "eccbc87e4b5ce2fe28308fd9f2a7baf3")
 digits = ap encode_lower digest ∙ digits_are
 
+-- its last four octets, as a number with a sign, have the absolute value of the definitions
 pub value : HasValue (codes "3") 223888653
 value = ap (λ octets. absolute_value (big_number 4 (drop 12 octets))) digest ∙ refl

@@ -14,6 +14,7 @@ words = 32818 ∷ 0 ∷ 0 ∷ 0 ∷ 0 ∷ 0 ∷ 0 ∷ 0 ∷ 0 ∷ 0 ∷ 0 ∷ 0 
 abbrev start : List ℕ
 start = 1732584193 ∷ 4023233417 ∷ 2562383102 ∷ 271733878 ∷ []
 
+-- before the first step
 r0 : rounds start words 0 ≡ start
 unfolding rounds
 r0 = refl
@@ -275,34 +276,46 @@ r64 : rounds start words 64 ≡ 640482247 ∷ 1935778068 ∷ 4039387505 ∷ 4752
 r64 = step start words 63 (447830868 ∷ 4039387505 ∷ 475250774 ∷ 640482247 ∷ []) r63
 
 abbrev block : List ℕ
-block = 50 ∷ 128 ∷ 0 ∷ 0 ∷ 0 ∷ 0 ∷ 0 ∷ 0 ∷ 0 ∷ 0 ∷ 0 ∷ 0 ∷ 0 ∷ 0 ∷ 0 ∷ 0 ∷ 0 ∷ 0 ∷ 0 ∷ 0 ∷ 0 ∷ 0 ∷ 0 ∷ 0 ∷ 0 ∷ 0 ∷ 0 ∷ 0 ∷ 0 ∷ 0 ∷ 0 ∷ 0 ∷ 0 ∷ 0 ∷ 0 ∷ 0 ∷ 0 ∷ 0 ∷ 0 ∷ 0 ∷ 0 ∷ 0 ∷ 0 ∷ 0 ∷ 0 ∷ 0 ∷ 0 ∷ 0 ∷ 0 ∷ 0 ∷ 0 ∷ 0 ∷ 0 ∷ 0 ∷ 0 ∷ 0 ∷ 8 ∷ 0 ∷ 0 ∷ 0 ∷ 0 ∷ 0 ∷ 0 ∷ 0 ∷ []
+block = 50 ∷ 128 ∷ 0 ∷ 0 ∷ 0 ∷ 0 ∷ 0 ∷ 0 ∷ 0 ∷ 0 ∷ 0 ∷ 0 ∷ 0 ∷ 0 ∷ 0 ∷ 0 ∷ 0 ∷ 0 ∷ 0 ∷ 0 ∷ 0 ∷ 0 ∷ 0 ∷ 0 ∷ 0 ∷ 0 ∷ 0
+    ∷ 0 ∷ 0 ∷ 0 ∷ 0 ∷ 0 ∷ 0 ∷ 0 ∷ 0 ∷ 0 ∷ 0 ∷ 0 ∷ 0 ∷ 0 ∷ 0 ∷ 0 ∷ 0 ∷ 0 ∷ 0 ∷ 0 ∷ 0 ∷ 0 ∷ 0 ∷ 0 ∷ 0 ∷ 0 ∷ 0 ∷ 0 ∷ 0
+    ∷ 0 ∷ 8 ∷ 0 ∷ 0 ∷ 0 ∷ 0 ∷ 0 ∷ 0 ∷ 0 ∷ []
 
+-- the octets of the block are the words
 block_is : block_words block 16 ≡ words
 unfolding block_words
 block_is = refl
 
+-- the steps over the block, added to where they began
 one_block : compress start block ≡ 2373066440 ∷ 1664044189 ∷ 2306803311 ∷ 746984652 ∷ []
 unfolding compress
 one_block = ap (λ u. add_state start (rounds start u 64)) block_is ∙ ap (add_state start) r64
 
+-- the text is one block
 hashed : hash_after block 1 ≡ 2373066440 ∷ 1664044189 ∷ 2306803311 ∷ 746984652 ∷ []
 unfolding hash_after
 hashed = one_block
 
-octets : digest_bytes (2373066440 ∷ 1664044189 ∷ 2306803311 ∷ 746984652 ∷ []) 4 ≡ 200 ∷ 30 ∷ 114 ∷ 141 ∷ 157 ∷ 76 ∷ 47 ∷ 99 ∷ 111 ∷ 6 ∷ 127 ∷ 137 ∷ 204 ∷ 20 ∷ 134 ∷ 44 ∷ []
+-- the octets of the words, of each the lowest first
+octets : digest_bytes (2373066440 ∷ 1664044189 ∷ 2306803311 ∷ 746984652 ∷ []) 4
+    ≡ 200 ∷ 30 ∷ 114 ∷ 141 ∷ 157 ∷ 76 ∷ 47 ∷ 99 ∷ 111 ∷ 6 ∷ 127 ∷ 137 ∷ 204 ∷ 20 ∷ 134 ∷ 44 ∷ []
 unfolding digest_bytes
 octets = refl
 
+-- the digest of the text, as octets
 digest : md5 (codes "2") ≡ 200 ∷ 30 ∷ 114 ∷ 141 ∷ 157 ∷ 76 ∷ 47 ∷ 99 ∷ 111 ∷ 6 ∷ 127 ∷ 137 ∷ 204 ∷ 20 ∷ 134 ∷ 44 ∷ []
 unfolding md5
 digest = ap (λ h. digest_bytes h 4) hashed ∙ octets
 
-digits_are : encode_lower (200 ∷ 30 ∷ 114 ∷ 141 ∷ 157 ∷ 76 ∷ 47 ∷ 99 ∷ 111 ∷ 6 ∷ 127 ∷ 137 ∷ 204 ∷ 20 ∷ 134 ∷ 44 ∷ []) ≡ codes "c81e728d9d4c2f636f067f89cc14862c"
+-- those octets in hexadecimal digits
+digits_are : encode_lower (200 ∷ 30 ∷ 114 ∷ 141 ∷ 157 ∷ 76 ∷ 47 ∷ 99 ∷ 111 ∷ 6 ∷ 127 ∷ 137 ∷ 204 ∷ 20 ∷ 134 ∷ 44 ∷ [])
+    ≡ codes "c81e728d9d4c2f636f067f89cc14862c"
 unfolding encode_with
 digits_are = refl
 
+-- the text has the digest of the definitions
 pub digits : HasDigest (codes "2") (codes "c81e728d9d4c2f636f067f89cc14862c")
 digits = ap encode_lower digest ∙ digits_are
 
+-- its last four octets, as a number with a sign, have the absolute value of the definitions
 pub value : HasValue (codes "2") 871070164
 value = ap (λ octets. absolute_value (big_number 4 (drop 12 octets))) digest ∙ refl

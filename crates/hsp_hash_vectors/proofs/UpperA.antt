@@ -14,6 +14,7 @@ words = 32833 ∷ 0 ∷ 0 ∷ 0 ∷ 0 ∷ 0 ∷ 0 ∷ 0 ∷ 0 ∷ 0 ∷ 0 ∷ 0 
 abbrev start : List ℕ
 start = 1732584193 ∷ 4023233417 ∷ 2562383102 ∷ 271733878 ∷ []
 
+-- before the first step
 r0 : rounds start words 0 ≡ start
 unfolding rounds
 r0 = refl
@@ -275,34 +276,46 @@ r64 : rounds start words 64 ≡ 152937086 ∷ 3091332190 ∷ 511343644 ∷ 42862
 r64 = step start words 63 (1761941272 ∷ 511343644 ∷ 428627896 ∷ 152937086 ∷ []) r63
 
 abbrev block : List ℕ
-block = 65 ∷ 128 ∷ 0 ∷ 0 ∷ 0 ∷ 0 ∷ 0 ∷ 0 ∷ 0 ∷ 0 ∷ 0 ∷ 0 ∷ 0 ∷ 0 ∷ 0 ∷ 0 ∷ 0 ∷ 0 ∷ 0 ∷ 0 ∷ 0 ∷ 0 ∷ 0 ∷ 0 ∷ 0 ∷ 0 ∷ 0 ∷ 0 ∷ 0 ∷ 0 ∷ 0 ∷ 0 ∷ 0 ∷ 0 ∷ 0 ∷ 0 ∷ 0 ∷ 0 ∷ 0 ∷ 0 ∷ 0 ∷ 0 ∷ 0 ∷ 0 ∷ 0 ∷ 0 ∷ 0 ∷ 0 ∷ 0 ∷ 0 ∷ 0 ∷ 0 ∷ 0 ∷ 0 ∷ 0 ∷ 0 ∷ 8 ∷ 0 ∷ 0 ∷ 0 ∷ 0 ∷ 0 ∷ 0 ∷ 0 ∷ []
+block = 65 ∷ 128 ∷ 0 ∷ 0 ∷ 0 ∷ 0 ∷ 0 ∷ 0 ∷ 0 ∷ 0 ∷ 0 ∷ 0 ∷ 0 ∷ 0 ∷ 0 ∷ 0 ∷ 0 ∷ 0 ∷ 0 ∷ 0 ∷ 0 ∷ 0 ∷ 0 ∷ 0 ∷ 0 ∷ 0 ∷ 0
+    ∷ 0 ∷ 0 ∷ 0 ∷ 0 ∷ 0 ∷ 0 ∷ 0 ∷ 0 ∷ 0 ∷ 0 ∷ 0 ∷ 0 ∷ 0 ∷ 0 ∷ 0 ∷ 0 ∷ 0 ∷ 0 ∷ 0 ∷ 0 ∷ 0 ∷ 0 ∷ 0 ∷ 0 ∷ 0 ∷ 0 ∷ 0 ∷ 0
+    ∷ 0 ∷ 8 ∷ 0 ∷ 0 ∷ 0 ∷ 0 ∷ 0 ∷ 0 ∷ 0 ∷ []
 
+-- the octets of the block are the words
 block_is : block_words block 16 ≡ words
 unfolding block_words
 block_is = refl
 
+-- the steps over the block, added to where they began
 one_block : compress start block ≡ 1885521279 ∷ 2819598311 ∷ 3073726746 ∷ 700361774 ∷ []
 unfolding compress
 one_block = ap (λ u. add_state start (rounds start u 64)) block_is ∙ ap (add_state start) r64
 
+-- the text is one block
 hashed : hash_after block 1 ≡ 1885521279 ∷ 2819598311 ∷ 3073726746 ∷ 700361774 ∷ []
 unfolding hash_after
 hashed = one_block
 
-octets : digest_bytes (1885521279 ∷ 2819598311 ∷ 3073726746 ∷ 700361774 ∷ []) 4 ≡ 127 ∷ 197 ∷ 98 ∷ 112 ∷ 231 ∷ 167 ∷ 15 ∷ 168 ∷ 26 ∷ 89 ∷ 53 ∷ 183 ∷ 46 ∷ 172 ∷ 190 ∷ 41 ∷ []
+-- the octets of the words, of each the lowest first
+octets : digest_bytes (1885521279 ∷ 2819598311 ∷ 3073726746 ∷ 700361774 ∷ []) 4
+    ≡ 127 ∷ 197 ∷ 98 ∷ 112 ∷ 231 ∷ 167 ∷ 15 ∷ 168 ∷ 26 ∷ 89 ∷ 53 ∷ 183 ∷ 46 ∷ 172 ∷ 190 ∷ 41 ∷ []
 unfolding digest_bytes
 octets = refl
 
+-- the digest of the text, as octets
 digest : md5 (codes "A") ≡ 127 ∷ 197 ∷ 98 ∷ 112 ∷ 231 ∷ 167 ∷ 15 ∷ 168 ∷ 26 ∷ 89 ∷ 53 ∷ 183 ∷ 46 ∷ 172 ∷ 190 ∷ 41 ∷ []
 unfolding md5
 digest = ap (λ h. digest_bytes h 4) hashed ∙ octets
 
-digits_are : encode_lower (127 ∷ 197 ∷ 98 ∷ 112 ∷ 231 ∷ 167 ∷ 15 ∷ 168 ∷ 26 ∷ 89 ∷ 53 ∷ 183 ∷ 46 ∷ 172 ∷ 190 ∷ 41 ∷ []) ≡ codes "7fc56270e7a70fa81a5935b72eacbe29"
+-- those octets in hexadecimal digits
+digits_are : encode_lower (127 ∷ 197 ∷ 98 ∷ 112 ∷ 231 ∷ 167 ∷ 15 ∷ 168 ∷ 26 ∷ 89 ∷ 53 ∷ 183 ∷ 46 ∷ 172 ∷ 190 ∷ 41
+    ∷ []) ≡ codes "7fc56270e7a70fa81a5935b72eacbe29"
 unfolding encode_with
 digits_are = refl
 
+-- the text has the digest of the definitions
 pub digits : HasDigest (codes "A") (codes "7fc56270e7a70fa81a5935b72eacbe29")
 digits = ap encode_lower digest ∙ digits_are
 
+-- its last four octets, as a number with a sign, have the absolute value of the definitions
 pub value : HasValue (codes "A") 783072809
 value = ap (λ octets. absolute_value (big_number 4 (drop 12 octets))) digest ∙ refl

@@ -14,6 +14,7 @@ words = 32816 ∷ 0 ∷ 0 ∷ 0 ∷ 0 ∷ 0 ∷ 0 ∷ 0 ∷ 0 ∷ 0 ∷ 0 ∷ 0 
 abbrev start : List ℕ
 start = 1732584193 ∷ 4023233417 ∷ 2562383102 ∷ 271733878 ∷ []
 
+-- before the first step
 r0 : rounds start words 0 ≡ start
 unfolding rounds
 r0 = refl
@@ -275,34 +276,47 @@ r64 : rounds start words 64 ≡ 484158158 ∷ 4288162316 ∷ 1629817448 ∷ 3392
 r64 = step start words 63 (2220811368 ∷ 1629817448 ∷ 3392287619 ∷ 484158158 ∷ []) r63
 
 abbrev block : List ℕ
-block = 48 ∷ 128 ∷ 0 ∷ 0 ∷ 0 ∷ 0 ∷ 0 ∷ 0 ∷ 0 ∷ 0 ∷ 0 ∷ 0 ∷ 0 ∷ 0 ∷ 0 ∷ 0 ∷ 0 ∷ 0 ∷ 0 ∷ 0 ∷ 0 ∷ 0 ∷ 0 ∷ 0 ∷ 0 ∷ 0 ∷ 0 ∷ 0 ∷ 0 ∷ 0 ∷ 0 ∷ 0 ∷ 0 ∷ 0 ∷ 0 ∷ 0 ∷ 0 ∷ 0 ∷ 0 ∷ 0 ∷ 0 ∷ 0 ∷ 0 ∷ 0 ∷ 0 ∷ 0 ∷ 0 ∷ 0 ∷ 0 ∷ 0 ∷ 0 ∷ 0 ∷ 0 ∷ 0 ∷ 0 ∷ 0 ∷ 8 ∷ 0 ∷ 0 ∷ 0 ∷ 0 ∷ 0 ∷ 0 ∷ 0 ∷ []
+block = 48 ∷ 128 ∷ 0 ∷ 0 ∷ 0 ∷ 0 ∷ 0 ∷ 0 ∷ 0 ∷ 0 ∷ 0 ∷ 0 ∷ 0 ∷ 0 ∷ 0 ∷ 0 ∷ 0 ∷ 0 ∷ 0 ∷ 0 ∷ 0 ∷ 0 ∷ 0 ∷ 0 ∷ 0 ∷ 0 ∷ 0
+    ∷ 0 ∷ 0 ∷ 0 ∷ 0 ∷ 0 ∷ 0 ∷ 0 ∷ 0 ∷ 0 ∷ 0 ∷ 0 ∷ 0 ∷ 0 ∷ 0 ∷ 0 ∷ 0 ∷ 0 ∷ 0 ∷ 0 ∷ 0 ∷ 0 ∷ 0 ∷ 0 ∷ 0 ∷ 0 ∷ 0 ∷ 0 ∷ 0
+    ∷ 0 ∷ 8 ∷ 0 ∷ 0 ∷ 0 ∷ 0 ∷ 0 ∷ 0 ∷ 0 ∷ []
 
+-- the octets of the block are the words
 block_is : block_words block 16 ≡ words
 unfolding block_words
 block_is = refl
 
+-- the steps over the block, added to where they began
 one_block : compress start block ≡ 2216742351 ∷ 4016428437 ∷ 4192200550 ∷ 3664021497 ∷ []
 unfolding compress
 one_block = ap (λ u. add_state start (rounds start u 64)) block_is ∙ ap (add_state start) r64
 
+-- the text is one block
 hashed : hash_after block 1 ≡ 2216742351 ∷ 4016428437 ∷ 4192200550 ∷ 3664021497 ∷ []
 unfolding hash_after
 hashed = one_block
 
-octets : digest_bytes (2216742351 ∷ 4016428437 ∷ 4192200550 ∷ 3664021497 ∷ []) 4 ≡ 207 ∷ 205 ∷ 32 ∷ 132 ∷ 149 ∷ 213 ∷ 101 ∷ 239 ∷ 102 ∷ 231 ∷ 223 ∷ 249 ∷ 249 ∷ 135 ∷ 100 ∷ 218 ∷ []
+-- the octets of the words, of each the lowest first
+octets : digest_bytes (2216742351 ∷ 4016428437 ∷ 4192200550 ∷ 3664021497 ∷ []) 4
+    ≡ 207 ∷ 205 ∷ 32 ∷ 132 ∷ 149 ∷ 213 ∷ 101 ∷ 239 ∷ 102 ∷ 231 ∷ 223 ∷ 249 ∷ 249 ∷ 135 ∷ 100 ∷ 218 ∷ []
 unfolding digest_bytes
 octets = refl
 
-digest : md5 (codes "0") ≡ 207 ∷ 205 ∷ 32 ∷ 132 ∷ 149 ∷ 213 ∷ 101 ∷ 239 ∷ 102 ∷ 231 ∷ 223 ∷ 249 ∷ 249 ∷ 135 ∷ 100 ∷ 218 ∷ []
+-- the digest of the text, as octets
+digest : md5 (codes "0")
+    ≡ 207 ∷ 205 ∷ 32 ∷ 132 ∷ 149 ∷ 213 ∷ 101 ∷ 239 ∷ 102 ∷ 231 ∷ 223 ∷ 249 ∷ 249 ∷ 135 ∷ 100 ∷ 218 ∷ []
 unfolding md5
 digest = ap (λ h. digest_bytes h 4) hashed ∙ octets
 
-digits_are : encode_lower (207 ∷ 205 ∷ 32 ∷ 132 ∷ 149 ∷ 213 ∷ 101 ∷ 239 ∷ 102 ∷ 231 ∷ 223 ∷ 249 ∷ 249 ∷ 135 ∷ 100 ∷ 218 ∷ []) ≡ codes "cfcd208495d565ef66e7dff9f98764da"
+-- those octets in hexadecimal digits
+digits_are : encode_lower (207 ∷ 205 ∷ 32 ∷ 132 ∷ 149 ∷ 213 ∷ 101 ∷ 239 ∷ 102 ∷ 231 ∷ 223 ∷ 249 ∷ 249 ∷ 135 ∷ 100
+    ∷ 218 ∷ []) ≡ codes "cfcd208495d565ef66e7dff9f98764da"
 unfolding encode_with
 digits_are = refl
 
+-- the text has the digest of the definitions
 pub digits : HasDigest (codes "0") (codes "cfcd208495d565ef66e7dff9f98764da")
 digits = ap encode_lower digest ∙ digits_are
 
+-- its last four octets, as a number with a sign, have the absolute value of the definitions
 pub value : HasValue (codes "0") 108567334
 value = ap (λ octets. absolute_value (big_number 4 (drop 12 octets))) digest ∙ refl

@@ -7,18 +7,21 @@ use Rattle.hsp_record.specs.Values.{values_format}
 use Rattle.hsp_text.specs.Answers.{fault_as}
 use Rattle.hsp_instance.specs.Building as building
 use Rattle.hsp_instance.proofs.OneAnswer.{IsOne, then_one}
-use Rattle.hsp_headline.specs.Instance.{BuildsInstance, ReadsCapacitiesOn, ReadsCostsOn, ReadsValuesOn, ReadsDemandOn, ReadsCapacities, ReadsCosts, ReadsDemand}
+use Rattle.hsp_headline.specs.Instance.{BuildsInstance, ReadsCapacitiesOn, ReadsCostsOn, ReadsValuesOn, ReadsDemandOn}
+use Rattle.hsp_headline.specs.Instance.{ReadsCapacities, ReadsCosts, ReadsDemand}
 use Rattle.hsp_headline.specs.Laws.{GivesNothingElse, GivesOneAnswer}
 use Rattle.hsp_headline.specs.Readings.{AreListed, ReadsSettings, ReadsValues, some_list}
 use Rattle.hsp_faults.specs.declared.fault.Fault.TheVariants.{Build, Values}
 use Rattle.hsp_headline.proofs.PageRead.{accepts_the_defined}
 
 listed_one : formats.HasOneAnswer values_format → (octets : List ℕ) → IsOne (AreListed octets)
-listed_one one octets a b is also = is.3 ∙ ap (λ t. fault_as Values t) (one octets is.0 also.0 is.2 also.2 is.1 also.1) ∙ sym also.3
+listed_one one octets a b is also =
+    is.3 ∙ ap (λ t. fault_as Values t) (one octets is.0 also.0 is.2 also.2 is.1 also.1) ∙ sym also.3
 
 values_one : formats.HasOneAnswer values_format → (given : Option (List ℕ)) → IsOne (ReadsValues given)
 values_one one None a b is also = is ∙ sym also
-values_one one (Some octets) a b is also = is.2 ∙ ap some_list (listed_one one octets is.0 also.0 is.1 also.1) ∙ sym also.2
+values_one one (Some octets) a b is also =
+    is.2 ∙ ap some_list (listed_one one octets is.0 also.0 is.1 also.1) ∙ sym also.2
 
 built_one : building.HasOneAnswer → (read : building.Inputs) → IsOne (BuildsInstance read)
 built_one once read a b is also = is.2 ∙ ap (λ t. fault_as Build t) (once read is.0 also.0 is.1 also.1) ∙ sym also.2
@@ -26,12 +29,20 @@ built_one once read a b is also = is.2 ∙ ap (λ t. fault_as Build t) (once rea
 pub gives_one_answer : formats.HasOneAnswer values_format → building.HasOneAnswer → GivesOneAnswer
 gives_one_answer one once inputs =
     then_one (ReadsSettings inputs.settings.items) (ReadsValuesOn inputs) (λ a b is also. is ∙ sym also) (λ settings.
-    then_one (ReadsValues (option_map (λ v. v.items) inputs.values)) (ReadsDemandOn inputs settings) (values_one one (option_map (λ v. v.items) inputs.values)) (λ values.
-    then_one (ReadsDemand inputs.demand.items) (ReadsCostsOn inputs settings values) (λ a b is also. is ∙ sym also) (λ demand.
-    then_one (ReadsCosts inputs.costs.items) (ReadsCapacitiesOn inputs settings values demand) (λ a b is also. is ∙ sym also) (λ costs.
-    then_one (ReadsCapacities inputs.capacity.items) (λ capacities. BuildsInstance (record { settings = settings; values = values; demand = demand; costs = costs; capacities = capacities }))
+    then_one (ReadsValues (option_map (λ v. v.items) inputs.values)) (ReadsDemandOn inputs settings)
+    (values_one one (option_map (λ v. v.items) inputs.values)) (λ values.
+    then_one (ReadsDemand inputs.demand.items) (ReadsCostsOn inputs settings values) (λ a b is also. is ∙ sym also)
+    (λ demand.
+    then_one (ReadsCosts inputs.costs.items) (ReadsCapacitiesOn inputs settings values demand)
+    (λ a b is also. is ∙ sym also) (λ costs.
+    then_one (ReadsCapacities inputs.capacity.items)
+    (λ capacities.
+    BuildsInstance
+    (record { settings = settings; values = values; demand = demand; costs = costs; capacities = capacities }))
     (λ a b is also. is ∙ sym also) (λ capacities.
-    built_one once (record { settings = settings; values = values; demand = demand; costs = costs; capacities = capacities }))))))
+    built_one once
+    (record { settings = settings; values = values; demand = demand; costs = costs; capacities = capacities }))))))
 
 pub gives_nothing_else : ReadingsAreHandles → GivesOneAnswer → GivesNothingElse
-gives_nothing_else handles once inputs it answer page other = once inputs answer (Ok it) other (accepts_the_defined handles inputs it page)
+gives_nothing_else handles once inputs it answer page other =
+    once inputs answer (Ok it) other (accepts_the_defined handles inputs it page)

@@ -21,16 +21,19 @@ use Rattle.hsp_headline.proofs.Page.{Holds, is_defined, is_read, is_within}
 pub stated_well : {A E : Type 0} (part : E → Fault) (r : Result A E) (x : A) → Ok x ≡ fault_as part r → r ≡ Ok x
 stated_well part r x e = grind arith
 
-pub listed : (octets : List ℕ) (values : List HandleValue) → AreListed octets (Ok values) → Means values_format octets (Ok values)
+pub listed : (octets : List ℕ) (values : List HandleValue) → AreListed octets (Ok values)
+    → Means values_format octets (Ok values)
 listed octets values are = let same = stated_well Values are.0 values are.3 in rw same at are.1
 
-values_are : (given : Option (List ℕ)) (values : Option (List HandleValue)) → ReadsValues given (Ok values) → stated.AreValues given values
+values_are : (given : Option (List ℕ)) (values : Option (List HandleValue)) → ReadsValues given (Ok values)
+    → stated.AreValues given values
 values_are None values are = let none : values ≡ None = cc (are) in rw none tt
 values_are (Some octets) values (Ok own, is, e) =
     let same : values ≡ Some own = cc (e) in rw same (listed octets own is)
 values_are (Some octets) values (Err fault, is, e) = cc (e)
 
-values_are_read : (given : Option (List ℕ)) (values : Option (List HandleValue)) → stated.AreValues given values → ReadsValues given (Ok values)
+values_are_read : (given : Option (List ℕ)) (values : Option (List HandleValue)) → stated.AreValues given values
+    → ReadsValues given (Ok values)
 values_are_read None None are = refl
 values_are_read None (Some values) are = absurd are
 values_are_read (Some octets) None are = absurd are
@@ -45,7 +48,14 @@ hold inputs it is =
     let demand = went_on _ _ it values.2 in
     let costs = went_on _ _ it demand.2 in
     let capacities = went_on _ _ it costs.2 in
-    let read : building.Inputs = record { settings = settings.0; values = values.0; demand = demand.0; costs = costs.0; capacities = capacities.0 } in (
+    let read : building.Inputs =
+    record {
+      settings = settings.0;
+      values = values.0;
+      demand = demand.0;
+      costs = costs.0;
+      capacities = capacities.0;
+    } in (
       read,
       record {
         settings = stated_well Settings _ settings.0 settings.1;
@@ -58,7 +68,8 @@ hold inputs it is =
     )
 
 pub gives_the_defined : ReadingsAreHandles → GivesTheDefined
-gives_the_defined handles inputs it is = let read = hold inputs it is in is_defined handles inputs read.0 it read.1 read.2
+gives_the_defined handles inputs it is =
+    let read = hold inputs it is in is_defined handles inputs read.0 it read.1 read.2
 
 pub accepts_the_defined : ReadingsAreHandles → AcceptsTheDefined
 accepts_the_defined handles inputs it page =

@@ -1,5 +1,6 @@
 -- Servers and arcs of the page are those that are built.
-use Rattle.std.proofs.Common.{◌≡◌, ◌≢◌, ◌∙◌, ◌<◌, ◌+◌, ◌-◌, ◌==◌, inl, inr, ℕ, suc, true, false, List, [], ◌∷◌, Option, Some, None, length, refl, ap, sym, arith}
+use Rattle.std.proofs.Common.{◌≡◌, ◌≢◌, ◌∙◌, ◌<◌, ◌+◌, ◌-◌, ◌==◌, inl, inr, ℕ, suc, true, false, List, [], ◌∷◌, Option}
+use Rattle.std.proofs.Common.{Some, None, length, refl, ap, sym, arith}
 use Rattle.std.proofs.lemmas.Bool.{and_parts, both_ways, cases_Bool, cases_lt}
 use Rattle.std.specs.Cmp.Lexicographic.{nat_list_eq_equiv}
 use Rattle.std.proofs.lemmas.Slice.Eq.{bytes_eq-Decides}
@@ -24,7 +25,8 @@ are_equal a = (Decides-eqb a a).1 refl
 -- ---- capacities and costs
 
 pub capacity_rows : (name : List ℕ) (id : ℕ)
-    → AreOf (is_capacity_of name id) same_capacity (λ row. row.capacity) (λ c. record { site = name; server_id = id; capacity = c })
+    → AreOf (is_capacity_of name id) same_capacity (λ row. row.capacity)
+    (λ c. record { site = name; server_id = id; capacity = c })
 capacity_rows name id = record {
   is = λ row e.
       let tests = and_parts (bytes_eq row.site name) (row.server_id == id) e in
@@ -34,7 +36,9 @@ capacity_rows name id = record {
   alike = λ m n. rw (are_same name, are_equal id) refl;
 }
 
-pub cost_rows : (region name : List ℕ) → AreOf (is_cost_of region name) same_cost (λ row. row.cost) (λ c. record { region = region; site = name; cost = c })
+pub cost_rows : (region name : List ℕ)
+    → AreOf (is_cost_of region name) same_cost (λ row. row.cost)
+    (λ c. record { region = region; site = name; cost = c })
 cost_rows region name = record {
   is = λ row e.
       let tests = and_parts (bytes_eq row.region region) (bytes_eq row.site name) e in
@@ -53,16 +57,22 @@ stands_from address n [] m e = grind arith
 stands_from address n (host ∷ hosts) m e =
     elim (cases_Bool (bytes_eq host.address address)) [
       | inl is ↦ (0, grind (arith, is), (host, refl, (bytes_eq-Decides host.address address).0 is))
-      | inr other ↦ let later = stands_from address (n + 1) hosts m (rw other at e) in (suc later.0, omega (arith, later.1), later.2)
+      | inr other ↦ let later =
+          stands_from address (n + 1) hosts m (rw other at e) in (suc later.0, omega (arith, later.1), later.2)
     ]
 
-none_from : (address : List ℕ) (n : ℕ) (hosts : List Host) → position_from (is_at address) n hosts ≡ None → AllByRecursion (λ (host : Host). host.address ≢ address) hosts
+none_from : (address : List ℕ) (n : ℕ) (hosts : List Host) → position_from (is_at address) n hosts ≡ None
+    → AllByRecursion (λ (host : Host). host.address ≢ address) hosts
 none_from address n [] e = tt
 none_from address n (host ∷ hosts) e =
-    let other : (bytes_eq host.address address ≡ false) × (position_from (is_at address) (n + 1) hosts ≡ None) = grind arith in
-    (λ same. both_ways (bytes_eq host.address address) other.0 ((bytes_eq-Decides host.address address).1 same), none_from address (n + 1) hosts other.1)
+    let other : (bytes_eq host.address address ≡ false) × (position_from (is_at address) (n + 1) hosts ≡ None) =
+    grind arith in (
+      λ same. both_ways (bytes_eq host.address address) other.0 ((bytes_eq-Decides host.address address).1 same),
+      none_from address (n + 1) hosts other.1,
+    )
 
-pub stands : (hosts : List Host) (address : List ℕ) (host : Option ℕ) → position_from (is_at address) 0 hosts ≡ host → StandsOn hosts address host
+pub stands : (hosts : List Host) (address : List ℕ) (host : Option ℕ) → position_from (is_at address) 0 hosts ≡ host
+    → StandsOn hosts address host
 stands hosts address None e = none_from address 0 hosts e
 stands hosts address (Some n) e =
     let at = stands_from address 0 hosts n e in
@@ -70,12 +80,16 @@ stands hosts address (Some n) e =
     (at.2.0, rw same at at.2.1, at.2.2)
 
 -- an address has one host
-pub one_host : (hosts : List Host) (address : List ℕ) (a b : Option ℕ) → IsDistinct same_address hosts → StandsOn hosts address a → StandsOn hosts address b → a ≡ b
+pub one_host : (hosts : List Host) (address : List ℕ) (a b : Option ℕ) → IsDistinct same_address hosts
+    → StandsOn hosts address a → StandsOn hosts address b → a ≡ b
 one_host hosts address None None apart p q = refl
-one_host hosts address None (Some n) apart p q = absurd (all_at (λ (host : Host). host.address ≢ address) hosts n q.0 p q.1 q.2)
-one_host hosts address (Some n) None apart p q = absurd (all_at (λ (host : Host). host.address ≢ address) hosts n p.0 q p.1 p.2)
+one_host hosts address None (Some n) apart p q =
+    absurd (all_at (λ (host : Host). host.address ≢ address) hosts n q.0 p q.1 q.2)
+one_host hosts address (Some n) None apart p q =
+    absurd (all_at (λ (host : Host). host.address ≢ address) hosts n p.0 q p.1 p.2)
 one_host hosts address (Some n) (Some m) apart p q = ap (λ k. Some k)
-    (one_place same_address (λ x y e. nat_list_eq_equiv.symm y.address x.address ∙ e) hosts n m p.0 q.0 apart p.1 q.1 (rw (p.2, q.2) (are_same address)))
+    (one_place same_address (λ x y e. nat_list_eq_equiv.symm y.address x.address ∙ e) hosts n m p.0 q.0 apart p.1 q.1
+    (rw (p.2, q.2) (are_same address)))
 
 -- ---- servers
 
@@ -88,8 +102,10 @@ servers_are inputs it has = record {
   count = has.server_count;
   each = λ n place site own at here.
       let one = has.servers n place site own at here in
-      let server : Server = record { site = n; place = place; id = own.id; capacity = one.server.capacity; host = one.server.host } in
-      let same : one.server ≡ server = by_parts one.server n place own.id one.is_of.site one.is_of.place one.is_of.id in (
+      let server : Server =
+      record { site = n; place = place; id = own.id; capacity = one.server.capacity; host = one.server.host } in
+      let same : one.server ≡ server =
+      by_parts one.server n place own.id one.is_of.site one.is_of.place one.is_of.id in (
         one.server.capacity,
         one.server.host,
         one.is_server ∙ ap (λ (s : Server). Some s) same,
@@ -100,7 +116,9 @@ servers_are inputs it has = record {
 
 -- each number below that of all servers is that of one of them
 pub number_of : (sites : List Site) (i : ℕ) → i < servers_of sites
-    → (n : ℕ) × (place : ℕ) × ((site : Site) × (own : SiteServer) × (slice_get sites n ≡ Some site) × (slice_get site.servers place ≡ Some own) × (number_at sites n place ≡ i))
+    → (n : ℕ) × (place : ℕ)
+    × ((site : Site) × (own : SiteServer) × (slice_get sites n ≡ Some site)
+    × (slice_get site.servers place ≡ Some own) × (number_at sites n place ≡ i))
 number_of [] i less = absurd (omega arith)
 number_of (site ∷ sites) i less = elim (cases_lt i (length site.servers)) [
   | inl here ↦ let own = there site.servers i here in (0, i, (site, own.0, refl, own.1, omega arith))

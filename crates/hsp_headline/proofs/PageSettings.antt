@@ -13,34 +13,63 @@ use Rattle.hsp_headline.specs.Stated.{EachStates, StatesHost}
 
 -- ---- keys
 
-same_tests : (f g : List ℕ → Bool) → ((key : List ℕ) → f key ≡ g key) → (keys : List (List ℕ)) → list_all f keys ≡ list_all g keys
+same_tests : (f g : List ℕ → Bool) → ((key : List ℕ) → f key ≡ g key) → (keys : List (List ℕ))
+    → list_all f keys ≡ list_all g keys
 same_tests f g same keys = ap (λ test. list_all test keys) (λ i key. same key i)
 
-pub site_keys : (members : Members) → list_all (λ key. list_any (bytes_eq key) (codes "name" ∷ codes "record" ∷ codes "index" ∷ [])) (keys_in members) ≡ list_all is_site_key (keys_in members)
+pub site_keys : (members : Members)
+    → list_all (λ key. list_any (bytes_eq key) (codes "name" ∷ codes "record" ∷ codes "index" ∷ [])) (keys_in members)
+    ≡ list_all is_site_key (keys_in members)
 site_keys members = same_tests _ is_site_key (λ key. grind arith) (keys_in members)
 
-host_keys : (members : Members) → list_all (λ key. list_any (bytes_eq key) (codes "address" ∷ codes "limit" ∷ [])) (keys_in members) ≡ list_all is_host_key (keys_in members)
+host_keys : (members : Members)
+    → list_all (λ key. list_any (bytes_eq key) (codes "address" ∷ codes "limit" ∷ [])) (keys_in members)
+    ≡ list_all is_host_key (keys_in members)
 host_keys members = same_tests _ is_host_key (λ key. grind arith) (keys_in members)
 
-pub root_keys : (members : Members) → list_all (λ key. list_any (bytes_eq key) (codes "site" ∷ codes "host" ∷ [])) (keys_in members) ≡ list_all is_root_key (keys_in members)
+pub root_keys : (members : Members)
+    → list_all (λ key. list_any (bytes_eq key) (codes "site" ∷ codes "host" ∷ [])) (keys_in members)
+    ≡ list_all is_root_key (keys_in members)
 root_keys members = same_tests _ is_root_key (λ key. grind arith) (keys_in members)
 
 -- ---- hosts
 
-pub host_is : (n : ℕ) (value : Data) (host : HostEntry) → host_at n value ≡ Ok host → (members : Members) × (value ≡ toml.table members) × StatesHost members (host_of_entry host)
+pub host_is : (n : ℕ) (value : Data) (host : HostEntry) → host_at n value ≡ Ok host
+    → (members : Members) × (value ≡ toml.table members) × StatesHost members (host_of_entry host)
 host_is n value host e =
-    let (ms, is, tells) = lists.host_is n value host e in
-    (ms, is, record { keys = host_keys ms ∙ tells.keys; digits = tells.digits; address = tells.address; decoded = tells.decoded; limit = tells.limit; limited = tells.limited })
+    let (ms, is, tells) = lists.host_is n value host e in (
+      ms,
+      is,
+      record {
+        keys = host_keys ms ∙ tells.keys;
+        digits = tells.digits;
+        address = tells.address;
+        decoded = tells.decoded;
+        limit = tells.limit;
+        limited = tells.limited;
+      },
+    )
 
-pub host_is_read : (n : ℕ) (members : Members) (host : HostEntry) → StatesHost members (host_of_entry host) → host_at n (toml.table members) ≡ Ok host
+pub host_is_read : (n : ℕ) (members : Members) (host : HostEntry) → StatesHost members (host_of_entry host)
+    → host_at n (toml.table members) ≡ Ok host
 host_is_read n ms host tells = lists.host_is_read n ms host
-    (record { keys = sym (host_keys ms) ∙ tells.keys; digits = tells.digits; address = tells.address; decoded = tells.decoded; limit = tells.limit; limited = tells.limited })
+    (record {
+      keys = sym (host_keys ms) ∙ tells.keys;
+      digits = tells.digits;
+      address = tells.address;
+      decoded = tells.decoded;
+      limit = tells.limit;
+      limited = tells.limited;
+    })
 
 -- ---- arrays
 
-module _ {Row Own : Type 0} (row_in : ℕ → Data → Result Row TableFault) (own : Row → Own) (States : Members → Own → Type 0) where
-  pub told : ((n : ℕ) (value : Data) (row : Row) → row_in n value ≡ Ok row → (members : Members) × (value ≡ toml.table members) × States members (own row))
-      → (n : ℕ) (items : Items) (rows : List Row) → SpellInTurn row_in n (elements_in items) rows → EachStates States items (map own rows)
+module _ {Row Own : Type 0} (row_in : ℕ → Data → Result Row TableFault) (own : Row → Own)
+    (States : Members → Own → Type 0) where
+  pub told : ((n : ℕ) (value : Data) (row : Row) → row_in n value ≡ Ok row
+      → (members : Members) × (value ≡ toml.table members) × States members (own row))
+      → (n : ℕ) (items : Items) (rows : List Row) → SpellInTurn row_in n (elements_in items) rows
+      → EachStates States items (map own rows)
   told is n toml.no_items [] spelled = tt
   told is n toml.no_items (row ∷ rows) spelled = absurd spelled
   told is n (toml.item value items) [] spelled = absurd spelled
@@ -48,9 +77,12 @@ module _ {Row Own : Type 0} (row_in : ℕ → Data → Result Row TableFault) (o
       let one = is n value row spelled.0 in
       (one.0, one.1, one.2, told is (n + 1) items rows spelled.1)
 
-  pub spelled : ((n : ℕ) (members : Members) (row : Row) → States members (own row) → row_in n (toml.table members) ≡ Ok row)
-      → (n : ℕ) (items : Items) (rows : List Row) → EachStates States items (map own rows) → SpellInTurn row_in n (elements_in items) rows
+  pub spelled : ((n : ℕ) (members : Members) (row : Row) → States members (own row)
+      → row_in n (toml.table members) ≡ Ok row)
+      → (n : ℕ) (items : Items) (rows : List Row) → EachStates States items (map own rows)
+      → SpellInTurn row_in n (elements_in items) rows
   spelled reads n toml.no_items [] tell = tt
   spelled reads n toml.no_items (row ∷ rows) tell = absurd tell
   spelled reads n (toml.item value items) [] tell = absurd tell
-  spelled reads n (toml.item value items) (row ∷ rows) tell = (rw tell.1 (reads n tell.0 row tell.2), spelled reads (n + 1) items rows tell.3)
+  spelled reads n (toml.item value items) (row ∷ rows) tell =
+      (rw tell.1 (reads n tell.0 row tell.2), spelled reads (n + 1) items rows tell.3)

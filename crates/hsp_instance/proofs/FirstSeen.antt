@@ -1,5 +1,6 @@
 -- Rows in groups: the kinds of the first rows, each once in first-seen order, and the number of each row's kind.
-use Rattle.std.proofs.Common.{◌≡◌, ◌∙◌, ◌⊎◌, inl, inr, ◌≤◌, ◌<◌, ◌+◌, ℕ, Bool, true, false, cond, List, [], ◌∷◌, ◌++◌, Some, get_or, length, option_map, refl, ap, sym, arith, add-zero, length-append}
+use Rattle.std.proofs.Common.{◌≡◌, ◌∙◌, ◌⊎◌, inl, inr, ◌≤◌, ◌<◌, ◌+◌, ℕ, Bool, true, false, cond, List, [], ◌∷◌, ◌++◌}
+use Rattle.std.proofs.Common.{Some, get_or, length, option_map, refl, ap, sym, arith, add-zero, length-append}
 use Rattle.std.proofs.lemmas.Bool.{cases_lt}
 use Rattle.std.proofs.lemmas.Bool.Decides.{nat_tests}
 use Rattle.std.proofs.lemmas.Option.{slice_get-get_or, slice_get_within}
@@ -40,10 +41,12 @@ same_kinds a b e =
     ((bytes_decides a.region.now b.region.now).0 is.0, (same_lists a.arcs.now b.arcs.now).0 is.1)
 
 kinds_same : (a b : Kind) → a.region.now ≡ b.region.now → a.arcs.now ≡ b.arcs.now → Kinds.it a b ≡ true
-kinds_same a b region arcs = rw ((bytes_decides a.region.now b.region.now).1 region, (same_lists a.arcs.now b.arcs.now).1 arcs) refl
+kinds_same a b region arcs =
+    rw ((bytes_decides a.region.now b.region.now).1 region, (same_lists a.arcs.now b.arcs.now).1 arcs) refl
 
 -- kinds that are equal stand at one place of a list that has each once
-same_place : (kinds : List Kind) (i j : ℕ) (a b : Kind) → IsDistinct Kinds.it kinds → slice_get kinds i ≡ Some a → slice_get kinds j ≡ Some b → Kinds.it a b ≡ true → i ≡ j
+same_place : (kinds : List Kind) (i j : ℕ) (a b : Kind) → IsDistinct Kinds.it kinds → slice_get kinds i ≡ Some a
+    → slice_get kinds j ≡ Some b → Kinds.it a b ≡ true → i ≡ j
 same_place = one_place Kinds.it (λ a b e. let is = same_kinds a b e in kinds_same b a (sym is.0) (sym is.1))
 
 -- a row of an instance is of the kind
@@ -56,9 +59,11 @@ pub record AreNumbered (it : Instance) (n : ℕ) (kinds : List Kind) (of_rows : 
   pub count : length of_rows ≡ n
   pub few : length kinds ≤ n
   pub unique : IsDistinct Kinds.it kinds
-  pub kind : (row group : ℕ) → slice_get of_rows row ≡ Some group → (kind : Kind) × (slice_get kinds group ≡ Some kind) × IsOf it row kind
+  pub kind : (row group : ℕ) → slice_get of_rows row ≡ Some group
+      → (kind : Kind) × (slice_get kinds group ≡ Some kind) × IsOf it row kind
   pub seen : (group : ℕ) → group < length kinds → IsSeenBefore of_rows n group
-  pub in_order : (row group lower : ℕ) → slice_get of_rows row ≡ Some group → lower < group → IsSeenBefore of_rows row lower
+  pub in_order : (row group lower : ℕ) → slice_get of_rows row ≡ Some group → lower < group
+      → IsSeenBefore of_rows row lower
 
 -- kinds among which one more is found or put at the end
 record Grown (kinds more : List Kind) (group : ℕ) : Type 0 where
@@ -67,11 +72,18 @@ record Grown (kinds more : List Kind) (group : ℕ) : Type 0 where
   kept : (i : ℕ) (kind : Kind) → slice_get kinds i ≡ Some kind → slice_get more i ≡ Some kind
   only : (i : ℕ) → i < length more → (i < length kinds) ⊎ (i ≡ group)
 
-grown_by : (kinds more : List Kind) (kind stored : Kind) (group : ℕ) (found : Bool) → more ≡ cond found kinds (kinds ++ kind ∷ []) → IsDistinct Kinds.it more → slice_get more group ≡ Some stored → Kinds.it kind stored ≡ true → Grown kinds more group
+grown_by : (kinds more : List Kind) (kind stored : Kind) (group : ℕ) (found : Bool)
+    → more ≡ cond found kinds (kinds ++ kind ∷ []) → IsDistinct Kinds.it more → slice_get more group ≡ Some stored
+    → Kinds.it kind stored ≡ true → Grown kinds more group
 grown_by kinds more kind stored group true e unique at same =
     let within = slice_get_within more group stored at in
     let long : length more ≡ length kinds = ap length e in
-    record { few = omega arith; within = omega arith; kept = λ i k there. rw e there; only = λ i less. inl (omega arith) }
+    record {
+      few = omega arith;
+      within = omega arith;
+      kept = λ i k there. rw e there;
+      only = λ i less. inl (omega arith);
+    }
 grown_by kinds more kind stored group false e unique at same =
     let long : length more ≡ length kinds + 1 = ap length e ∙ length-append kinds (kind ∷ []) in
     let end : slice_get more (length kinds) ≡ Some kind = rw e (rw add-zero at (back_at kinds (kind ∷ []) 0)) in
@@ -84,13 +96,16 @@ grown_by kinds more kind stored group false e unique at same =
     }
 
 -- one more row
-pub numbered_next : (it : Instance) (n : ℕ) (kinds more : List Kind) (of_rows : List ℕ) (kind stored : Kind) (group : ℕ) → AreNumbered it n kinds of_rows → IsOf it n kind
-    → more ≡ insert_key Kinds.it kinds kind → IsDistinct Kinds.it more → slice_get more group ≡ Some stored → Kinds.it kind stored ≡ true → AreNumbered it (n + 1) more (of_rows ++ group ∷ [])
+pub numbered_next : (it : Instance) (n : ℕ) (kinds more : List Kind) (of_rows : List ℕ) (kind stored : Kind) (group : ℕ)
+    → AreNumbered it n kinds of_rows → IsOf it n kind
+    → more ≡ insert_key Kinds.it kinds kind → IsDistinct Kinds.it more → slice_get more group ≡ Some stored
+    → Kinds.it kind stored ≡ true → AreNumbered it (n + 1) more (of_rows ++ group ∷ [])
 numbered_next it n kinds more of_rows kind stored group are is inserted unique at same =
     let grown = grown_by kinds more kind stored group (list_any (Kinds.it kind) kinds) inserted unique at same in
     let alike = same_kinds kind stored same in
     let mine : IsOf it n stored = record { region = is.region ∙ ap Some alike.0; arcs = is.arcs ∙ ap Some alike.1 } in
-    let end : slice_get (of_rows ++ group ∷ []) n ≡ Some group = rw (add-zero, are.count) at (back_at of_rows (group ∷ []) 0) in
+    let end : slice_get (of_rows ++ group ∷ []) n ≡ Some group =
+    rw (add-zero, are.count) at (back_at of_rows (group ∷ []) 0) in
     record {
       count = rw length-append (let so_far = are.count in omega arith);
       few = let so_far = are.few in let less = grown.few in omega arith;
@@ -104,16 +119,23 @@ numbered_next it n kinds more of_rows kind stored group are is inserted unique a
         | inr last ↦ (n, omega arith, rw last end)
       ];
       in_order = λ row g lower there less. elim (pushed_at of_rows group row g there) [
-        | inl before ↦ (let s = are.in_order row g lower before less in (s.0, s.1, front_at of_rows (group ∷ []) s.0 lower s.2))
-        | inr last ↦ (let here : row ≡ n = last.0 ∙ are.count in let below = grown.within in let s = are.seen lower (omega arith) in let first = s.1 in let before : s.0 < row = omega arith in (s.0, before, front_at of_rows (group ∷ []) s.0 lower s.2))
+        | inl before ↦
+            (let s = are.in_order row g lower before less in (s.0, s.1, front_at of_rows (group ∷ []) s.0 lower s.2))
+        | inr last ↦
+            (let here : row ≡ n = last.0 ∙ are.count in let below = grown.within in
+            let s = are.seen lower (omega arith) in let first = s.1 in let before : s.0 < row = omega arith in
+            (s.0, before, front_at of_rows (group ∷ []) s.0 lower s.2))
       ];
     }
 
 -- the numbers of all rows are groups
-pub are_groups : (it : Instance) (kinds : List Kind) (of_rows : List ℕ) → AreNumbered it (length it.rows) kinds of_rows → AreGroups it (record { count = length kinds; of_rows = of_rows })
+pub are_groups : (it : Instance) (kinds : List Kind) (of_rows : List ℕ) → AreNumbered it (length it.rows) kinds of_rows
+    → AreGroups it (record { count = length kinds; of_rows = of_rows })
 are_groups it kinds of_rows are = record {
   one_a_row = are.count;
-  below = all_from (λ (group : ℕ). group < length kinds) of_rows (λ row group at. let k = are.kind row group at in slice_get_within kinds group k.0 k.1);
+  below =
+      all_from (λ (group : ℕ). group < length kinds) of_rows (λ row group at. let k = are.kind row group at in
+      slice_get_within kinds group k.0 k.1);
   alike = λ a b a_is b_is.
       let count = are.count in
       let a_at = slice_get-get_or of_rows a 0 (omega arith) in
@@ -123,11 +145,18 @@ are_groups it kinds of_rows are = record {
         (λ (e : slice_get of_rows a ≡ slice_get of_rows b).
             let group : get_or of_rows a 0 ≡ get_or of_rows b 0 = cc (a_at, b_at) in
             let same : a_kind.0 ≡ b_kind.0 = cc (a_kind.1, b_kind.1) in
-            record { region = a_kind.2.region ∙ ap (λ (k : Kind). Some k.region.now) same ∙ sym b_kind.2.region; arcs = a_kind.2.arcs ∙ ap (λ (k : Kind). Some k.arcs.now) same ∙ sym b_kind.2.arcs }),
+            record {
+              region = a_kind.2.region ∙ ap (λ (k : Kind). Some k.region.now) same ∙ sym b_kind.2.region;
+              arcs = a_kind.2.arcs ∙ ap (λ (k : Kind). Some k.arcs.now) same ∙ sym b_kind.2.arcs;
+            }),
         (λ (alike : AreAlike it a b).
-            let region : a_kind.0.region.now ≡ b_kind.0.region.now = cc (a_kind.2.region, b_kind.2.region, alike.region) in
+            let region : a_kind.0.region.now ≡ b_kind.0.region.now =
+            cc (a_kind.2.region, b_kind.2.region, alike.region) in
             let arcs : a_kind.0.arcs.now ≡ b_kind.0.arcs.now = cc (a_kind.2.arcs, b_kind.2.arcs, alike.arcs) in
-            a_at ∙ ap Some (same_place kinds (get_or of_rows a 0) (get_or of_rows b 0) a_kind.0 b_kind.0 are.unique a_kind.1 b_kind.1 (kinds_same a_kind.0 b_kind.0 region arcs)) ∙ sym b_at),
+            a_at
+            ∙ ap Some
+            (same_place kinds (get_or of_rows a 0) (get_or of_rows b 0) a_kind.0 b_kind.0 are.unique a_kind.1
+            b_kind.1 (kinds_same a_kind.0 b_kind.0 region arcs)) ∙ sym b_at),
       );
   seen = are.seen;
   in_order = are.in_order;

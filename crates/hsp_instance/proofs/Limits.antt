@@ -1,5 +1,6 @@
 -- What is built is within the limits of an instance.
-use Rattle.std.proofs.Common.{◌≡◌, ◌∙◌, ◌≤◌, ◌+◌, ℕ, List, [], ◌∷◌, Option, Some, None, Ok, length, map, refl, ap, sym, arith, zero-add}
+use Rattle.std.proofs.Common.{◌≡◌, ◌∙◌, ◌≤◌, ◌+◌, ℕ, List, [], ◌∷◌, Option, Some, None, Ok, length, map, refl, ap, sym}
+use Rattle.std.proofs.Common.{arith, zero-add}
 use Rattle.std.specs.Prelude.{⊤}
 use Rattle.std.proofs.lemmas.List.{length-map}
 use Rattle.std.proofs.lemmas.Nat.{mod_below}
@@ -11,18 +12,28 @@ use Rattle.hsp_tables.specs.Demand.{AreDemand, DemandEntry, IsDemandEntry, same_
 use Rattle.hsp_tables.specs.InTurn.{AreKeyed}
 use Rattle.hsp_tables.specs.Settings.{AreSettings, HostEntry, IsHostEntry, same_address as same_host_address}
 use Rattle.hsp_text.specs.declared.limits.TheConstants.{GREATEST_COST, MOST_HOSTS}
-use Rattle.hsp_instance.specs.Building.{Inputs, arc_to, arcs_from, cost_of, host_of_entry, is_cost_of, row_of, servers_from}
-use Rattle.hsp_instance.specs.Instance.{AreArcs, AreHosts, AreRows, AreServers, AreSites, HasServer, Host, IsAddressed, IsArc, IsCounted, IsInstance, IsLimited, IsNamed, Row, Server, Site, same_address, same_keys}
+use Rattle.hsp_instance.specs.Building.{Inputs, arc_to, arcs_from, cost_of, host_of_entry, is_cost_of, row_of}
+use Rattle.hsp_instance.specs.Building.{servers_from}
+use Rattle.hsp_instance.specs.Instance.{AreArcs, AreHosts, AreRows, AreServers, AreSites, HasServer, Host, IsAddressed}
+use Rattle.hsp_instance.specs.Instance.{IsArc, IsCounted, IsInstance, IsLimited, IsNamed, Row, Server, Site}
+use Rattle.hsp_instance.specs.Instance.{same_address, same_keys}
 use Rattle.hsp_instance.proofs.ArcLists.{arcs_ascending, arcs_few}
-use Rattle.hsp_instance.proofs.Lists.{all_append, all_map, back_at, distinct_map, found_within, front_at, map_twice, there}
-use Rattle.hsp_instance.proofs.ServerLists.{AreFrom, are_from, from_at, from_count, from_number, from_servers, own_at, own_count}
+use Rattle.hsp_instance.proofs.Lists.{all_map, back_at, distinct_map, found_within, front_at, map_twice, there}
+use Rattle.hsp_instance.proofs.ServerLists.{AreFrom, are_from, from_at, from_count, from_number, from_servers, own_at}
+use Rattle.hsp_instance.proofs.ServerLists.{own_count}
+use Rattle.hsp_text.proofs.Lists.{all_append}
 
 -- a cost is within its limit
-cost_within : (rows : List CostEntry) (region name : List ℕ) (c : ℕ) → AllByRecursion IsCostEntry rows → cost_of rows region name ≡ Some c → c ≤ GREATEST_COST
-cost_within rows region name c all e = found_within IsCostEntry GREATEST_COST (λ (row : CostEntry). row.cost) (is_cost_of region name) rows c (λ row is. is.cost) all e
+cost_within : (rows : List CostEntry) (region name : List ℕ) (c : ℕ) → AllByRecursion IsCostEntry rows
+    → cost_of rows region name ≡ Some c → c ≤ GREATEST_COST
+cost_within rows region name c all e =
+    found_within IsCostEntry GREATEST_COST (λ (row : CostEntry). row.cost) (is_cost_of region name) rows c
+    (λ row is. is.cost) all e
 
 -- the servers of the sites are servers of an instance
-servers_are : (rows : List CapacityEntry) (hosts : List Host) → AllByRecursion IsCapacityEntry rows → (sites : List Site) (servers : List Server) → AreSites sites → AreFrom rows hosts 0 sites servers → AreServers sites (length hosts) servers
+servers_are : (rows : List CapacityEntry) (hosts : List Host) → AllByRecursion IsCapacityEntry rows
+    → (sites : List Site) (servers : List Server) → AreSites sites → AreFrom rows hosts 0 sites servers
+    → AreServers sites (length hosts) servers
 servers_are rows hosts each sites servers are from = record {
   few = rw (from_count rows hosts 0 sites servers from) are.servers;
   each = from_servers rows hosts each sites 0 sites servers (λ k. rw zero-add refl) from;
@@ -30,7 +41,12 @@ servers_are rows hosts each sites servers are from = record {
   at_place = λ n place site at within.
       let own = there site.servers place within in
       let found = from_at rows hosts 0 sites servers n place site own.0 from at own.1 in
-      record { server = found.0; is_server = found.1; same_site = rw zero-add at found.2.site; same_place = found.2.place };
+      record {
+        server = found.0;
+        is_server = found.1;
+        same_site = rw zero-add at found.2.site;
+        same_place = found.2.place;
+      };
   number = λ i server at.
       let found = from_number rows hosts 0 sites servers i server from at in
       let site : server.site ≡ found.0 = rw zero-add at found.1 in
@@ -38,11 +54,16 @@ servers_are rows hosts each sites servers are from = record {
 }
 
 -- each arc goes to a server of its site
-module _ (servers : List Server) (capacities : List CapacityEntry) (hosts : List Host) (table : List CostEntry) (each : AllByRecursion IsCostEntry table) (row : Row) where
-  arcs_are : (n first : ℕ) (sites : List Site) (mine : List Server) → AllByRecursion HasServer sites → AreFrom capacities hosts n sites mine
-      → ((k : ℕ) → slice_get servers (first + k) ≡ slice_get mine k) → AllByRecursion (IsArc servers) (arcs_from table row n first sites)
+module _ (servers : List Server) (capacities : List CapacityEntry) (hosts : List Host) (table : List CostEntry)
+    (each : AllByRecursion IsCostEntry table) (row : Row) where
+  arcs_are : (n first : ℕ) (sites : List Site) (mine : List Server) → AllByRecursion HasServer sites
+      → AreFrom capacities hosts n sites mine
+      → ((k : ℕ) → slice_get servers (first + k) ≡ slice_get mine k)
+      → AllByRecursion (IsArc servers) (arcs_from table row n first sites)
   arcs_are n first [] mine have are same = tt
-  arcs_are n first (site ∷ more) mine have are same = all_append (IsArc servers) (arc_to row.handle n first site (cost_of table row.region site.name)) _ (to (cost_of table row.region site.name) refl)
+  arcs_are n first (site ∷ more) mine have are same =
+      all_append (IsArc servers) (arc_to row.handle n first site (cost_of table row.region site.name)) _
+      (to (cost_of table row.region site.name) refl)
       (arcs_are (n + 1) (first + length site.servers) more are.1 have.1 are.4 rest)
     where
       count : length are.0 ≡ length site.servers
@@ -53,7 +74,8 @@ module _ (servers : List Server) (capacities : List CapacityEntry) (hosts : List
           let e : first + length site.servers + k ≡ first + (length are.0 + k) = let long = count in omega arith in
           rw e (same (length are.0 + k) ∙ ap (λ list. slice_get list (length are.0 + k)) are.2 ∙ back_at are.0 are.1 k)
 
-      to : (cost : Option ℕ) → cost_of table row.region site.name ≡ cost → AllByRecursion (IsArc servers) (arc_to row.handle n first site cost)
+      to : (cost : Option ℕ) → cost_of table row.region site.name ≡ cost
+          → AllByRecursion (IsArc servers) (arc_to row.handle n first site cost)
       to None is = tt
       to (Some c) is =
           let place = server_place site.option row.handle (length site.servers) in
@@ -74,12 +96,15 @@ rows_are demand are = record {
   few = rw length-map are.keyed.few;
   each = all_map IsDemandEntry IsCounted row_of demand (λ row is. is.count) are.keyed.each;
   apart = distinct_map same_demand same_keys row_of demand (λ x y. refl) are.keyed.apart;
-  named = all_map IsDemandEntry IsNamed row_of demand (λ row is. record { region = is.region; handle = is.handle }) are.keyed.each;
+  named =
+      all_map IsDemandEntry IsNamed row_of demand (λ row is. record { region = is.region; handle = is.handle })
+      are.keyed.each;
   regions = rw (map_twice row_of (λ (row : Row). row.region) demand) are.regions;
 }
 
 -- hosts of the settings are hosts of an instance
-hosts_are : (hosts : List HostEntry) → AreKeyed MOST_HOSTS IsHostEntry same_host_address hosts → AreHosts (map host_of_entry hosts)
+hosts_are : (hosts : List HostEntry) → AreKeyed MOST_HOSTS IsHostEntry same_host_address hosts
+    → AreHosts (map host_of_entry hosts)
 hosts_are hosts are = record {
   few = rw length-map are.few;
   each = all_map IsHostEntry IsLimited host_of_entry hosts (λ host is. is.limit) are.each;
@@ -88,7 +113,8 @@ hosts_are hosts are = record {
 }
 
 -- the parts that are built are an instance
-pub are_instance : (inputs : Inputs) (sites : List Site) (servers : List Server) → AreSettings inputs.settings → AreDemand inputs.demand → AreCosts inputs.costs → AreCapacities inputs.capacities → AreSites sites
+pub are_instance : (inputs : Inputs) (sites : List Site) (servers : List Server) → AreSettings inputs.settings
+    → AreDemand inputs.demand → AreCosts inputs.costs → AreCapacities inputs.capacities → AreSites sites
     → servers_from inputs.capacities (map host_of_entry inputs.settings.hosts) 0 [] sites ≡ Ok servers
     → IsInstance (record {
       rows = map row_of inputs.demand;
@@ -100,16 +126,22 @@ pub are_instance : (inputs : Inputs) (sites : List Site) (servers : List Server)
 are_instance inputs sites servers settings demand costs capacities are built =
     let hosts : List Host = map host_of_entry inputs.settings.hosts in
     let from = are_from inputs.capacities hosts sites servers built in
-    let all_rows : AllByRecursion (λ (row : Row). ⊤) (map row_of inputs.demand) = all_map IsDemandEntry (λ (row : Row). ⊤) row_of inputs.demand (λ row is. tt) demand.keyed.each in
+    let all_rows : AllByRecursion (λ (row : Row). ⊤) (map row_of inputs.demand) =
+    all_map IsDemandEntry (λ (row : Row). ⊤) row_of inputs.demand (λ row is. tt) demand.keyed.each in
     record {
       rows = rows_are inputs.demand demand;
       sites = are;
       hosts = hosts_are inputs.settings.hosts settings.hosts;
       servers = servers_are inputs.capacities hosts capacities.keyed.each sites servers are from;
       one_list_a_row = length-map (map row_of inputs.demand) (λ row. arcs_from inputs.costs row 0 0 sites);
-      arcs = all_map (λ (row : Row). ⊤) (AreArcs servers) (λ row. arcs_from inputs.costs row 0 0 sites) (map row_of inputs.demand) (λ row any. record {
-        few = let less = arcs_few inputs.costs row 0 0 sites in let most = are.few in omega arith;
-        each = arcs_are servers inputs.capacities hosts inputs.costs costs.keyed.each row 0 0 sites servers are.each from (λ k. rw zero-add refl);
-        ascending = arcs_ascending inputs.costs row 0 0 sites;
-      }) all_rows;
+      arcs =
+          all_map (λ (row : Row). ⊤) (AreArcs servers) (λ row. arcs_from inputs.costs row 0 0 sites)
+          (map row_of inputs.demand) (λ row any. record {
+            few = let less = arcs_few inputs.costs row 0 0 sites in let most = are.few in omega arith;
+            each =
+                arcs_are servers inputs.capacities hosts inputs.costs costs.keyed.each row 0 0 sites servers are.each
+                from
+                (λ k. rw zero-add refl);
+            ascending = arcs_ascending inputs.costs row 0 0 sites;
+          }) all_rows;
     }

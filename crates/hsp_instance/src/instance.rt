@@ -1,6 +1,7 @@
 // An instance and its parts.
 
 ghost use Rattle.std.specs.Prelude.{◌≡◌, ◌<◌, Some, length, option_map, position, slice_get};
+ghost use Rattle.std.specs.List.{sum_by};
 ghost use Rattle.hsp_instance.specs.Instance.{IsInstance, has_keys};
 
 use crate::arc::Arc;
@@ -185,6 +186,17 @@ impl Instance {
     {
         let list = &self.arcs[row as usize];
         list.arcs.as_slice()
+    }
+
+    /// How many arcs all rows have together.
+    pub fn arc_count(&self) -> usize
+        ensures { result ≡ sum_by (λ arcs. length arcs) self.now.arcs }
+    {
+        let mut count: usize = 0;
+        for row in 0..self.rows() {
+            count += self.arcs(row).len();
+        }
+        count
     }
 
     /// The number of the row with this region and handle, or None where there is no such row.

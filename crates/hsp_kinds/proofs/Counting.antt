@@ -23,16 +23,19 @@ module _ {A : Type 0} (by : Kinding A) (is : IsKinding by) where
   has_more (g ∷ rest) z r e = grind (arith, joined_is g z r, has_more rest z r)
 
   -- a row whose kind is there may come later
-  later : (table : List A) (z r : A) → has table r ≡ true → counted by (counted by table z) r ≡ counted by (counted by table r) z
+  later : (table : List A) (z r : A) → has table r ≡ true
+      → counted by (counted by table z) r ≡ counted by (counted by table r) z
   later [] z r e = absurd (false≢true e)
   later (f ∷ rest) z r e = grind (arith, joined_is f z r, joined_is f r z, is.swapped f z r, later rest z r)
 
-  later_all : (rows table : List A) (r : A) → has table r ≡ true → counted by (counted_all by table rows) r ≡ counted_all by (counted by table r) rows
+  later_all : (rows table : List A) (r : A) → has table r ≡ true
+      → counted by (counted_all by table rows) r ≡ counted_all by (counted by table r) rows
   later_all [] table r e = refl
   later_all (z ∷ rows) table r e = grind (arith, later_all rows, has_more table z r, later table z r)
 
   -- a row with another's count counts as both
-  both : (table : List A) (f r : A) → by.same f r ≡ true → counted by table (by.with_count_of f r) ≡ counted by (counted by table f) r
+  both : (table : List A) (f r : A) → by.same f r ≡ true
+      → counted by table (by.with_count_of f r) ≡ counted by (counted by table f) r
   both [] f r e = grind arith
   both (g ∷ rest) f r e =
       let joined = joined_is g f r in
@@ -46,9 +49,11 @@ module _ {A : Type 0} (by : Kinding A) (is : IsKinding by) where
       grind (arith, both table f r, later_all s first r, has_counted table f r, after s first r)
 
   -- and so do all rows of a table
-  after_all : (rows s table : List A) → counted_all by table (counted_all by s rows) ≡ counted_all by (counted_all by table s) rows
+  after_all : (rows s table : List A)
+      → counted_all by table (counted_all by s rows) ≡ counted_all by (counted_all by table s) rows
   after_all [] s table = refl
-  after_all (x ∷ rows) s table = after_all rows (counted by s x) table ∙ ap (λ v. counted_all by v rows) (after s table x)
+  after_all (x ∷ rows) s table =
+      after_all rows (counted by s x) table ∙ ap (λ v. counted_all by v rows) (after s table x)
 
   pub in_turn : (a b table : List A) → counted_all by table (a ++ b) ≡ counted_all by (counted_all by table a) b
   in_turn [] b table = refl

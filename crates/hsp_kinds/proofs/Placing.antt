@@ -1,12 +1,14 @@
 -- Where a row stands in a table of kinds, and what the table counts.
-use Rattle.std.proofs.Common.{◌≡◌, ℕ, zero, suc, ◌+◌, ◌<◌, ◌≤◌, ◌==◌, ◌⊎◌, inl, inr, true, List, [], ◌∷◌, length, map, sum_by, slice_index, slice_index_or, if◌then◌else◌, refl, ◌∙◌, arith}
+use Rattle.std.proofs.Common.{◌≡◌, ℕ, zero, suc, ◌+◌, ◌<◌, ◌≤◌, ◌==◌, ◌⊎◌, inl, inr, true, List, [], ◌∷◌, length, map}
+use Rattle.std.proofs.Common.{sum_by, slice_index, slice_index_or, if◌then◌else◌, refl, ◌∙◌, arith}
 use Rattle.std.proofs.lemmas.List.Sums.{sum_by-cons}
 use Rattle.std.proofs.lemmas.Bool.{cases_lt, false≢true}
 use Rattle.hsp_kinds.specs.Tables.{Kinding, IsKinding, counted, counted_all}
 use Rattle.hsp_transport.proofs.Rowwise.{when}
 use Rattle.hsp_kinds.proofs.Counting.{has, has_counted, has_more, joined_is}
 
-module _ {A : Type 0} (by : Kinding A) (is : IsKinding by) (count : A → ℕ) (adds : (a b : A) → count (by.with_count_of a b) ≡ count a + count b) where
+module _ {A : Type 0} (by : Kinding A) (is : IsKinding by) (count : A → ℕ)
+    (adds : (a b : A) → count (by.with_count_of a b) ≡ count a + count b) where
   -- the place of a row's kind in a table
   abbrev pub place_in : List A → A → ℕ
   place_in [] row = 0
@@ -38,7 +40,9 @@ module _ {A : Type 0} (by : Kinding A) (is : IsKinding by) (count : A → ℕ) (
   own_has t x = has_counted by is t x x (is.reflexive x)
 
   -- a row adds its count at its place, and a place where it is new
-  pub one_more : (t : List A) (x : A) (k : ℕ) → slice_index (map count (counted by t x)) k ≡ slice_index (map count t) k + when (place_in (counted by t x) x == k) (count x)
+  pub one_more : (t : List A) (x : A) (k : ℕ)
+      → slice_index (map count (counted by t x)) k
+      ≡ slice_index (map count t) k + when (place_in (counted by t x) x == k) (count x)
   one_more [] x zero = grind (arith, is.reflexive x)
   one_more [] x (suc k) = grind (arith, is.reflexive x)
   one_more (f ∷ rest) x zero = grind (arith, joined_is by is f x x, adds f x)
@@ -46,7 +50,8 @@ module _ {A : Type 0} (by : Kinding A) (is : IsKinding by) (count : A → ℕ) (
 
   -- what the table counts at a place is what the rows of that kind ask for
   pub all_more : (rows t : List A) (k : ℕ) →
-      slice_index (map count (counted_all by t rows)) k ≡ slice_index (map count t) k + sum_by (λ x. when (place_in (counted_all by t rows) x == k) (count x)) rows
+      slice_index (map count (counted_all by t rows)) k
+      ≡ slice_index (map count t) k + sum_by (λ x. when (place_in (counted_all by t rows) x == k) (count x)) rows
   all_more [] t k = omega arith
   all_more (x ∷ rows) t k =
       let next = counted by t x in
@@ -54,13 +59,15 @@ module _ {A : Type 0} (by : Kinding A) (is : IsKinding by) (count : A → ℕ) (
       grind (arith, all_more rows next k, one_more t x k, kept_places rows next x (own_has t x), sum)
 
   -- each row's kind is there
-  pub all_there : (rows t : List A) (i : ℕ) (d : A) → i < length rows → has by is (counted_all by t rows) (slice_index_or rows i d) ≡ true
+  pub all_there : (rows t : List A) (i : ℕ) (d : A) → i < length rows
+      → has by is (counted_all by t rows) (slice_index_or rows i d) ≡ true
   all_there [] t i d l = absurd (omega arith)
   all_there (x ∷ rows) t zero d l = has_all rows (counted by t x) x (own_has t x)
   all_there (x ∷ rows) t (suc i) d l = all_there rows (counted by t x) i d (omega arith)
 
   -- a place that is new is the row's
-  new_place : (t : List A) (x : A) (k : ℕ) → k < length (counted by t x) → length t ≤ k → place_in (counted by t x) x ≡ k
+  new_place : (t : List A) (x : A) (k : ℕ) → k < length (counted by t x) → length t ≤ k
+      → place_in (counted by t x) x ≡ k
   new_place [] x k l m = grind (arith, is.reflexive x)
   new_place (f ∷ rest) x zero l m = grind arith
   new_place (f ∷ rest) x (suc k) l m = grind (arith, new_place rest x k)

@@ -3,7 +3,8 @@ use Rattle.std.specs.Prelude.{◌↔◌, ℕ, List}
 use Rattle.hsp_check.specs.Network.{Network, IsNetwork}
 use Rattle.hsp_check.specs.Plan.{Plan, Feasible}
 use Rattle.hsp_check.specs.Prices.{Prices}
-use Rattle.hsp_kinds.specs.Kinds.{AreKinds, AreAlikeIn, ArePricesOfKinds, HasOneArcASite, IsSpread, ShortSetsAreKept, pooled}
+use Rattle.hsp_kinds.specs.Kinds.{AreKinds, AreAlikeIn, ArePricesOfKinds, HasOneArcASite, IsSpread, ShortSetsAreKept}
+use Rattle.hsp_kinds.specs.Kinds.{pooled}
 
 -- a feasible plan of the rows, added up by kinds, is one of the kinds, with the same cost and loads
 abbrev pub KindsPoolPlans : Type 0

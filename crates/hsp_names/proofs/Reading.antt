@@ -5,16 +5,23 @@ use Rattle.std.proofs.lemmas.Str.{IsUtf8-from_is_utf8, is_utf8-from_IsUtf8}
 use Rattle.std.proofs.lemmas.Bool.Decides.{nat_tests}
 use Rattle.std.proofs.lemmas.Bool.{le-ltb, or_right, both_ways}
 use Rattle.std.proofs.lemmas.List.Folds.{list_any-append}
-use Rattle.hsp_names.specs.Handle.{is_slash, has_slash, has_segments, naming_authority, local_name, handle_in, is_handle, IsHandle, PartsAreUnique, ReadingsAreHandles}
+use Rattle.hsp_names.specs.Handle.{is_slash, has_slash, has_segments, naming_authority, local_name, handle_in}
+use Rattle.hsp_names.specs.Handle.{is_handle, IsHandle, PartsAreUnique, ReadingsAreHandles}
 use Rattle.hsp_text.proofs.Cuts.{cut_parts}
 use Rattle.hsp_names.proofs.Splitting.{slash_parts, authority_is_cut, cut_is_authority}
 
 -- a handle, where each test has passed
 pub is_one : (h : List ℕ) → is_handle h ≡ true → IsHandle h (naming_authority h) (local_name h)
 is_one h e =
-    let tests : (length h ≤ 4096) × (is_utf8 h ≡ true) × (has_slash h ≡ true) × (has_segments (naming_authority h) ≡ true) = grind (arith, nat_tests) in
+    let tests : (length h ≤ 4096) × (is_utf8 h ≡ true) × (has_slash h ≡ true)
+    × (has_segments (naming_authority h) ≡ true) = grind (arith, nat_tests) in
     let parts = slash_parts h tests.2 in
-    record { short = tests.0; text = IsUtf8-from_is_utf8 h tests.1; parts = parts.0; authority = cut_is_authority (naming_authority h) tests.3 parts.1 }
+    record {
+      short = tests.0;
+      text = IsUtf8-from_is_utf8 h tests.1;
+      parts = parts.0;
+      authority = cut_is_authority (naming_authority h) tests.3 parts.1;
+    }
 
 -- the parts of a handle are those before and after its first slash
 parts_of : (h n l : List ℕ) → IsHandle h n l → (naming_authority h ≡ n) × (local_name h ≡ l)
@@ -48,7 +55,8 @@ passes : (h n l : List ℕ) → IsHandle h n l → handle_in h ≡ Ok h
 passes h n l one =
     let cut = authority_is_cut n one.authority in
     let parts = parts_of h n l one in
-    let some : has_slash h ≡ true = rw (one.parts, list_any-append is_slash n (47 ∷ l)) (or_right (has_slash n) true refl) in
+    let some : has_slash h ≡ true =
+    rw (one.parts, list_any-append is_slash n (47 ∷ l)) (or_right (has_slash n) true refl) in
     rw (le-ltb 4096 (length h) one.short, is_utf8-from_IsUtf8 h one.text, some, parts.0, cut.0) refl
 
 pub readings_are_handles : ReadingsAreHandles

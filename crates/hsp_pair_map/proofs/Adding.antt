@@ -1,8 +1,11 @@
 -- A pair that is added: its octets behind those of the others, and its entry as the last of its bucket.
-use Rattle.std.proofs.Common.{◌≡◌, ◌≤◌, ◌<◌, ◌+◌, ◌-◌, ◌^◌, ◌∙◌, ◌++◌, ◌∷◌, [], ℕ, suc, List, length, map, take, drop, append_assoc, refl, sym, ap, inl, inr, arith, get_or}
+use Rattle.std.proofs.Common.{◌≡◌, ◌≤◌, ◌<◌, ◌+◌, ◌-◌, ◌^◌, ◌∙◌, ◌++◌, ◌∷◌, [], ℕ, suc, List, length, map, take, drop}
+use Rattle.std.proofs.Common.{append_assoc, refl, sym, ap, inl, inr, arith, get_or}
 use Rattle.std.specs.Prelude.{slice_index, slice_set}
 use Rattle.std.proofs.lemmas.Bool.{cases_eq, eq-eqb, ne_eqb}
-use Rattle.std.proofs.lemmas.List.{get_or_default, get_or_append_left, get_or_push, get_or-set_same, get_or-set_other, length-set, length-append, length-drop, length_push, map-append, take-append-le, take_all, drop-append-le}
+use Rattle.std.proofs.lemmas.List.{get_or_default, get_or_append_left, get_or_push, get_or-set_same, get_or-set_other}
+use Rattle.std.proofs.lemmas.List.{length-set, length-append, length-drop, length_push, map-append, take-append-le}
+use Rattle.std.proofs.lemmas.List.{take_all, drop-append-le}
 use Rattle.std.proofs.Math.Seq.{take-append_seam}
 use Rattle.std.proofs.lemmas.List.Prefix.{front_rest}
 use Rattle.hsp_pair_map.specs.Chains.{last_of}
@@ -13,7 +16,8 @@ use Rattle.hsp_pair_map.specs.declared.pair_map.Entry.{Entry}
 use Rattle.hsp_pair_map.proofs.Chaining.{last_alike}
 
 -- octets within a run, where more follow
-within_more : (a b : ℕ) (xs ys : List ℕ) → a ≤ b → b ≤ length xs → take (b - a) (drop a (xs ++ ys)) ≡ take (b - a) (drop a xs)
+within_more : (a b : ℕ) (xs ys : List ℕ) → a ≤ b → b ≤ length xs
+    → take (b - a) (drop a (xs ++ ys)) ≡ take (b - a) (drop a xs)
 within_more a b xs ys l m =
     rw (drop-append-le a xs ys (omega (arith, l, m)))
     (take-append-le (b - a) (drop a xs) ys (omega (arith, length-drop a xs, l, m)))
@@ -21,18 +25,24 @@ within_more a b xs ys l m =
 -- the pair of an entry stays where more octets follow
 pair_kept : (xs ys : List ℕ) (e : Entry) → IsSpan xs e → pair_in (xs ++ ys) e ≡ pair_in xs e
 pair_kept xs ys e span =
-    rw (within_more e.start e.cut xs ys span.first (omega (arith, span.second, span.within)), within_more e.cut e.end xs ys span.second span.within) refl
+    rw (
+      within_more e.start e.cut xs ys span.first (omega (arith, span.second, span.within)),
+      within_more e.cut e.end xs ys span.second span.within,
+    ) refl
 
 pairs_kept : (xs ys : List ℕ) (entries : List Entry) → ((k : ℕ) → k < length entries → IsSpan xs (entry_at entries k))
     → map (pair_in (xs ++ ys)) entries ≡ map (pair_in xs) entries
 pairs_kept xs ys [] spans = refl
 pairs_kept xs ys (e ∷ entries) spans =
-    rw (pair_kept xs ys e (spans 0 (omega arith)), pairs_kept xs ys entries (λ k l. spans (suc k) (omega (arith, l)))) refl
+    rw (pair_kept xs ys e (spans 0 (omega arith)), pairs_kept xs ys entries (λ k l. spans (suc k) (omega (arith, l))))
+    refl
 
 -- further octets change nothing
 module _ (xs ys : List ℕ) (entries : List Entry) (lasts : List ℕ) (held : AreHeld xs entries lasts) where
-  bucket_kept : (k : ℕ) → k < length entries → bucket_at (length lasts) (xs ++ ys) entries k ≡ bucket_at (length lasts) xs entries k
-  bucket_kept k l = ap (λ p. bucket_of (length lasts) (hash_of p)) (pair_kept xs ys (entry_at entries k) (held.each k l).span)
+  bucket_kept : (k : ℕ) → k < length entries
+      → bucket_at (length lasts) (xs ++ ys) entries k ≡ bucket_at (length lasts) xs entries k
+  bucket_kept k l =
+      ap (λ p. bucket_of (length lasts) (hash_of p)) (pair_kept xs ys (entry_at entries k) (held.each k l).span)
 
   pub held_still : AreHeld (xs ++ ys) entries lasts
   held_still = record {
@@ -50,7 +60,10 @@ module _ (xs ys : List ℕ) (entries : List Entry) (lasts : List ℕ) (held : Ar
           };
           mark = rw same one.mark;
           before = rw (bucket_kept k l)
-              (one.before ∙ sym (last_alike _ _ (bucket_at (length lasts) xs entries k) k (λ j m. bucket_kept j (omega (arith, l, m)))));
+              (one.before
+              ∙ sym
+              (last_alike _ _ (bucket_at (length lasts) xs entries k) k
+              (λ j m. bucket_kept j (omega (arith, l, m)))));
         };
     last = λ b l. held.last b l ∙ sym (last_alike _ _ b (length entries) bucket_kept);
   }
@@ -105,7 +118,9 @@ module _ (octets : List ℕ) (entries : List Entry) (lasts : List ℕ) (held : A
           span = rw (old_entry k old) one.span;
           mark = rw (old_entry k old) one.mark;
           before = rw (old_entry k old)
-              (one.before ∙ sym (last_alike new_bucket old_bucket (old_bucket k) k (λ j m. same_buckets j (omega (arith, m, old)))));
+              (one.before
+              ∙ sym
+              (last_alike new_bucket old_bucket (old_bucket k) k (λ j m. same_buckets j (omega (arith, m, old)))));
         }
   ]
 
@@ -158,7 +173,8 @@ module _ (xs first second : List ℕ) (entries : List Entry) (lasts : List ℕ) 
 
   its_second : take (length second) (drop (length xs + length first) octets) ≡ second
   its_second =
-      rw (← length-append xs first) (rw (front_rest octets (xs ++ first) second refl) (take_all (length second) second (omega arith)))
+      rw (← length-append xs first)
+      (rw (front_rest octets (xs ++ first) second refl) (take_all (length second) second (omega arith)))
 
   pub pair_added : pair_in octets e ≡ pair
   pair_added =
@@ -172,9 +188,12 @@ module _ (xs first second : List ℕ) (entries : List Entry) (lasts : List ℕ) 
       map-append (pair_in octets) entries (e ∷ [])
       ∙ rw (pair_added, whole, pairs_still xs (first ++ second) entries lasts held) refl
 
-  pub held_added : (hash : ℕ) → hash ≡ hash_of pair → e.mark ≡ mark_of hash → (b : ℕ) → b ≡ bucket_of (length lasts) hash → b < length lasts
-      → e.before ≡ get_or lasts b e.before → length entries + 1 < 2 ^ 32 → AreHeld octets (entries ++ e ∷ []) (slice_set lasts b (length entries + 1))
+  pub held_added : (hash : ℕ) → hash ≡ hash_of pair → e.mark ≡ mark_of hash → (b : ℕ)
+      → b ≡ bucket_of (length lasts) hash → b < length lasts
+      → e.before ≡ get_or lasts b e.before → length entries + 1 < 2 ^ 32
+      → AreHeld octets (entries ++ e ∷ []) (slice_set lasts b (length entries + 1))
   held_added hash is mark b own inside before few =
       let still = held_still (xs ++ first) second entries lasts (held_still xs first entries lasts held) in
-      held_more octets entries lasts still e span_added (rw pair_added (rw is at mark)) b (rw pair_added (rw is at own)) inside
+      held_more octets entries lasts still e span_added (rw pair_added (rw is at mark)) b (rw pair_added (rw is at own))
+      inside
       (before ∙ get_or_default lasts b e.before 0 inside) few

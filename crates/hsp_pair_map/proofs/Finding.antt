@@ -1,5 +1,6 @@
 -- The search for a pair along the chain of its bucket.
-use Rattle.std.proofs.Common.{◌≡◌, ◌≢◌, ◌≤◌, ◌<◌, ◌-◌, ◌∙◌, ℕ, suc, List, length, map, Some, None, refl, inl, inr, sym, ap, arith, get_or}
+use Rattle.std.proofs.Common.{◌≡◌, ◌≢◌, ◌≤◌, ◌<◌, ◌-◌, ◌∙◌, ℕ, suc, List, length, map, Some, None, refl, inl, inr, sym}
+use Rattle.std.proofs.Common.{ap, arith, get_or}
 use Rattle.std.specs.Prelude.{slice_get}
 use Rattle.std.proofs.lemmas.Bool.{cases_eq, cases_lt}
 use Rattle.std.proofs.lemmas.List.{get_or_default}
@@ -31,12 +32,14 @@ before_less octets entries lasts held r l =
     let h : ℕ → ℕ = bucket_at (length lasts) octets entries in
     rw (held.each r l).before (omega (arith, last_within h (h r) r))
 
-module _ (octets : List ℕ) (entries : List Entry) (lasts : List ℕ) (held : AreHeld octets entries lasts) (p : Pair) where
+module _ (octets : List ℕ) (entries : List Entry) (lasts : List ℕ) (held : AreHeld octets entries lasts)
+    (p : Pair) where
   abbrev buckets : ℕ
   buckets = length lasts
 
   -- an entry of another bucket is not the pair's
-  elsewhere : (k : ℕ) → bucket_at buckets octets entries k ≢ bucket_of buckets (hash_of p) → pair_in octets (entry_at entries k) ≢ p
+  elsewhere : (k : ℕ) → bucket_at buckets octets entries k ≢ bucket_of buckets (hash_of p)
+      → pair_in octets (entry_at entries k) ≢ p
   elsewhere k other same = other (ap (λ q. bucket_of buckets (hash_of q)) same)
 
   -- the last entry of the pair's bucket
@@ -73,11 +76,14 @@ module _ (octets : List ℕ) (entries : List Entry) (lasts : List ℕ) (held : A
       }
 
   -- the pair of an entry is that of its number
-  pub found_there : (r : ℕ) → r < length entries → pair_in octets (entry_at entries r) ≡ p → slice_get (map (pair_in octets) entries) r ≡ Some p
-  found_there r l same = slice_get-map (pair_in octets) entries r ∙ rw (slice_get-get_or entries r no_entry l) (ap Some same)
+  pub found_there : (r : ℕ) → r < length entries → pair_in octets (entry_at entries r) ≡ p
+      → slice_get (map (pair_in octets) entries) r ≡ Some p
+  found_there r l same =
+      slice_get-map (pair_in octets) entries r ∙ rw (slice_get-get_or entries r no_entry l) (ap Some same)
 
   -- where the search ends no entry is the pair's
-  pub found_nowhere : IsSearched octets entries buckets p 0 → (n : ℕ) → slice_get (map (pair_in octets) entries) n ≢ Some p
+  pub found_nowhere : IsSearched octets entries buckets p 0 → (n : ℕ)
+      → slice_get (map (pair_in octets) entries) n ≢ Some p
   found_nowhere searched n e = elim (cases_lt n (length entries)) [
     | inl inside ↦
         let there : Some (pair_in octets (entry_at entries n)) ≡ Some p =

@@ -1,5 +1,6 @@
 -- The hash of a pair of names: a polynomial of its words of eight octets, modulo 2^64 - 1.
-use Rattle.std.specs.Prelude.{ℕ, zero, suc, ◌+◌, ◌-◌, ◌*◌, ◌/◌, ◌%◌, ◌^◌, nat_lt, List, length, drop, fold, if◌then◌else◌}
+use Rattle.std.specs.Prelude.{ℕ, zero, suc, ◌+◌, ◌-◌, ◌*◌, ◌/◌, ◌%◌, ◌^◌, nat_lt, List, length, drop, fold}
+use Rattle.std.specs.Prelude.{if◌then◌else◌}
 use Rattle.byteorder.specs.Endian.{little_number}
 use Rattle.hsp_pair_map.specs.Pairs.{Pair}
 use Rattle.hsp_pair_map.specs.declared.hashing.TheConstants.{MULTIPLIER}

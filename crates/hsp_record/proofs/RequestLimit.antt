@@ -16,7 +16,17 @@ pub request_limited : Limited never RequestBody request_at request_format
 request_limited =
     let c = request_codec {L = never} in
     record {
-      codec = record { any = c.any; takes = c.takes; again = c.again; fails = c.fails; cut = c.cut; kept = c.kept; some = c.some; octets = c.octets };
+      codec =
+          record {
+            any = c.any;
+            takes = c.takes;
+            again = c.again;
+            fails = c.fails;
+            cut = c.cut;
+            kept = c.kept;
+            some = c.some;
+            octets = c.octets;
+          };
       stops = none_stops;
       passed = λ octets stop fits at e. absurd at;
     }

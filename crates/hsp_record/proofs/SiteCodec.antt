@@ -1,9 +1,11 @@
 -- Readers of HS_SITE data and of request bodies, each with the fields that it reads.
 use Rattle.std.proofs.Common.{◌≡◌, ℕ, suc, ◌^◌, ◌<◌, List, [], ◌∷◌, length, refl, sym, ap, arith, zero}
 use Rattle.hsp_record.specs.Fields.{IsOctets}
-use Rattle.hsp_record.specs.Site.{AttributePair, Interface, Server, Site, attribute_fields, interface_fields, server_fields, head_fields, IsAttribute, IsInterface, IsServer, IsHead}
+use Rattle.hsp_record.specs.Site.{AttributePair, Interface, Server, Site, attribute_fields, interface_fields}
+use Rattle.hsp_record.specs.Site.{server_fields, head_fields, IsAttribute, IsInterface, IsServer, IsHead}
 use Rattle.hsp_record.specs.Request.{RequestBody, IsRequest, request_fields}
-use Rattle.hsp_record.specs.Reading.{pair_of, pair_at, attribute_at, interface_at, server_at, head_of, head_at, with_servers, request_at}
+use Rattle.hsp_record.specs.Reading.{pair_of, pair_at, attribute_at, interface_at, server_at, head_of, head_at}
+use Rattle.hsp_record.specs.Reading.{with_servers, request_at}
 use Rattle.hsp_record.specs.declared.fault.Stop.{Stop}
 use Rattle.hsp_record.proofs.Codec.{Codec, both_codec, as_codec, seen_codec}
 use Rattle.hsp_record.proofs.Readers.{octets_codec, octet_codec, u16_codec, u32_codec, run_codec, list_codec}
@@ -20,7 +22,8 @@ IsOctets-pair a b ha hb zero = ha
 IsOctets-pair a b ha hb (suc zero) = hb
 IsOctets-pair a b ha hb (suc (suc i)) = omega arith
 
-pair_codec : {L : Stop → Type 0} → Codec L (ℕ × ℕ) pair_at (λ _ p. (p.0 < 2 ^ 8) × (p.1 < 2 ^ 8)) (λ p. (p.0 ∷ p.1 ∷ []) ∷ [])
+pair_codec : {L : Stop → Type 0}
+    → Codec L (ℕ × ℕ) pair_at (λ _ p. (p.0 < 2 ^ 8) × (p.1 < 2 ^ 8)) (λ p. (p.0 ∷ p.1 ∷ []) ∷ [])
 unfolding pair_at
 pair_codec =
     as_codec pair_at (λ _ p. (p.0 < 2 ^ 8) × (p.1 < 2 ^ 8)) (λ p. (p.0 ∷ p.1 ∷ []) ∷ []) pair_of (octets_codec 2)
@@ -61,15 +64,34 @@ pub head_codec : {L : Stop → Type 0} → Codec L Site head_at (λ _. IsBareHea
 unfolding head_at
 head_codec =
     seen_codec head_of
-    (both_codec u16_codec (both_codec pair_codec (both_codec u16_codec (both_codec octet_codec (both_codec octet_codec (both_codec run_codec (list_codec attribute_codec)))))))
+    (both_codec u16_codec
+    (both_codec pair_codec
+    (both_codec u16_codec
+    (both_codec octet_codec (both_codec octet_codec (both_codec run_codec (list_codec attribute_codec)))))))
     (λ _ p h. record {
-      fits = record { version = h.0; major = h.1.0.0; minor = h.1.0.1; serial = h.1.1.0; mask = h.1.1.1.0; option = h.1.1.1.1.0; filter = h.1.1.1.1.1.0; attributes = h.1.1.1.1.1.1 };
+      fits =
+          record {
+            version = h.0;
+            major = h.1.0.0;
+            minor = h.1.0.1;
+            serial = h.1.1.0;
+            mask = h.1.1.1.0;
+            option = h.1.1.1.1.0;
+            filter = h.1.1.1.1.1.0;
+            attributes = h.1.1.1.1.1.1;
+          };
       bare = refl;
     })
     (λ _ s h. (
       (s.version, ((s.major, s.minor), (s.serial, (s.mask, (s.option, (s.filter, s.attributes)))))),
       ap (with_servers s) (sym h.bare),
-      (h.fits.version, ((h.fits.major, h.fits.minor), (h.fits.serial, (h.fits.mask, (h.fits.option, (h.fits.filter, h.fits.attributes)))))),
+      (
+        h.fits.version,
+        (
+          (h.fits.major, h.fits.minor),
+          (h.fits.serial, (h.fits.mask, (h.fits.option, (h.fits.filter, h.fits.attributes)))),
+        ),
+      ),
     ))
 
 -- without the servers
@@ -77,7 +99,17 @@ abbrev pub head_only : Site → Site
 head_only s = with_servers s []
 
 pub IsHead-servers : (s : Site) (servers : List Server) → IsHead s → IsHead (with_servers s servers)
-IsHead-servers s servers h = record { version = h.version; major = h.major; minor = h.minor; serial = h.serial; mask = h.mask; option = h.option; filter = h.filter; attributes = h.attributes }
+IsHead-servers s servers h =
+    record {
+      version = h.version;
+      major = h.major;
+      minor = h.minor;
+      serial = h.serial;
+      mask = h.mask;
+      option = h.option;
+      filter = h.filter;
+      attributes = h.attributes;
+    }
 
 pub request_codec : {L : Stop → Type 0} → Codec L RequestBody request_at (λ _. IsRequest) request_fields
 unfolding request_at

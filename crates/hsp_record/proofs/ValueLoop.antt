@@ -1,5 +1,6 @@
 -- Reading values of distinct indices one after the other, as a loop does.
-use Rattle.std.proofs.Common.{◌≡◌, ℕ, ◌-◌, ◌≤◌, Bool, true, false, ◌||◌, cond, List, [], ◌∷◌, ◌++◌, length, take, drop, Result, Ok, Err, refl, sym, ap, ◌∙◌, arith, length-append}
+use Rattle.std.proofs.Common.{◌≡◌, ℕ, ◌-◌, ◌≤◌, Bool, true, false, ◌||◌, cond, List, [], ◌∷◌, ◌++◌, length, take, drop}
+use Rattle.std.proofs.Common.{Result, Ok, Err, refl, sym, ap, ◌∙◌, arith, length-append}
 use Rattle.std.specs.Prelude.{nat_eq}
 use Rattle.std.specs.Ordering.{nat_cmp, is_eq}
 use Rattle.std.specs.Int.{w32, to_be_bytes}
@@ -11,7 +12,8 @@ use Rattle.std.proofs.lemmas.List.Folds.{list_any-append}
 use Rattle.hsp_record.specs.declared.fault.Stop.{Stop}
 use Rattle.hsp_record.specs.Fields.{IsOctets, joined, all_fields}
 use Rattle.hsp_record.specs.Values.{ValueReference, HandleValue, reference_fields, indices}
-use Rattle.hsp_record.specs.Reading.{Read, number_at, times_at, list_at, reference_at, read_references, references_in, AreReferences, body_at, is_one_of, values_at}
+use Rattle.hsp_record.specs.Reading.{Read, number_at, times_at, list_at, reference_at, read_references, references_in}
+use Rattle.hsp_record.specs.Reading.{AreReferences, body_at, is_one_of, values_at}
 use Rattle.hsp_text.specs.Answers.{◌>>=◌}
 use Rattle.hsp_record.proofs.Codec.{gave, never, IsOctets-rest}
 use Rattle.hsp_record.proofs.Readers.{u32_codec, times_codec}
@@ -25,13 +27,19 @@ pub record SplitsReferences (bytes : List ℕ) (count : ℕ) (front back : List 
   pub are : AreReferences count front
   pub read : list_at reference_at bytes ≡ Ok (references_in count front, back)
 
-pub references_split : (bytes : List ℕ) (count : ℕ) (octets : List ℕ) (references : List ValueReference) (rest : List ℕ) → IsOctets bytes → number_at w32 bytes ≡ Ok (count, octets) → times_at reference_at count octets ≡ Ok (references, rest)
-    → (length rest ≤ length octets) × ((front back : List ℕ) → front ≡ take (length octets - length rest) octets → back ≡ drop (length octets - length rest) octets → SplitsReferences bytes count front back)
+pub references_split : (bytes : List ℕ) (count : ℕ) (octets : List ℕ) (references : List ValueReference) (rest : List ℕ)
+    → IsOctets bytes → number_at w32 bytes ≡ Ok (count, octets)
+    → times_at reference_at count octets ≡ Ok (references, rest)
+    → (length rest ≤ length octets)
+    × ((front back : List ℕ) → front ≡ take (length octets - length rest) octets
+    → back ≡ drop (length octets - length rest) octets → SplitsReferences bytes count front back)
 unfolding list_at
 references_split bytes count octets references rest fits e h =
     let many = times_codec {L = never} reference_codec count in
     let counted = (u32_codec {L = never}).takes bytes count octets fits e in
-    let t = many.takes octets references rest (IsOctets-rest bytes (joined (to_be_bytes w32 count ∷ [])) octets fits counted.1) h in
+    let t =
+    many.takes octets references rest
+    (IsOctets-rest bytes (joined (to_be_bytes w32 count ∷ [])) octets fits counted.1) h in
     let spelled = joined (all_fields reference_fields references) in
     let n = length octets - length rest in
     let len : length spelled ≡ n = omega (arith, ap length t.1, length-append spelled rest) in
@@ -39,9 +47,15 @@ references_split bytes count octets references rest fits e h =
     let back_is : drop n octets ≡ rest = ap (drop n) t.1 ∙ drop_at spelled rest n len in (
       omega (arith, ap length t.1, length-append spelled rest),
       λ front back f b.
-          let same : references_in count front ≡ references = ap read_references (ap (times_at reference_at count) (f ∙ front_is ∙ sym (append-nil spelled)) ∙ many.again references [] t.0) in
+          let same : references_in count front ≡ references =
+          ap read_references
+          (ap (times_at reference_at count) (f ∙ front_is ∙ sym (append-nil spelled))
+          ∙ many.again references [] t.0) in
           record {
-            are = (ap length same ∙ t.0.0, ap (λ (rs : List ValueReference). joined (all_fields reference_fields rs)) same ∙ sym (f ∙ front_is));
+            are = (
+              ap length same ∙ t.0.0,
+              ap (λ (rs : List ValueReference). joined (all_fields reference_fields rs)) same ∙ sym (f ∙ front_is),
+            );
             read = rw (same, b ∙ back_is, e, h) refl;
           },
     )
@@ -55,7 +69,9 @@ HasIndices met values = (q : ℕ) → set.contains nat_cmp met q ≡ is_one_of (
 same_test : (k q : ℕ) (b : Bool) → cond (is_eq (nat_cmp k q)) true b ≡ (b || (nat_eq q k || false))
 same_test k q b = grind (arith, nat_tests)
 
-pub HasIndices-more : (met more : BTreeSet ℕ) (values : List HandleValue) (index : ℕ) (body : List ℕ) (v : HandleValue) (after : List ℕ) → body_at index body ≡ Ok (v, after) → HasIndices met values → set.Updates nat_cmp met more index true → HasIndices more (values ++ v ∷ [])
+pub HasIndices-more : (met more : BTreeSet ℕ) (values : List HandleValue) (index : ℕ) (body : List ℕ) (v : HandleValue)
+    (after : List ℕ) → body_at index body ≡ Ok (v, after) → HasIndices met values
+    → set.Updates nat_cmp met more index true → HasIndices more (values ++ v ∷ [])
 HasIndices-more met more values index body v after b has updates q =
     updates.0 q
     ∙ ap (cond (is_eq (nat_cmp index q)) true) (has q)
@@ -80,5 +96,8 @@ values_steps = record {
   none = λ values rest. refl;
   more = λ values n rest.
       values_more (indices values) n rest
-      ∙ bind_same (new_at (indices values) rest) (λ v. ap (λ is. values_at is n v.1 >>= λ others. gave (v.0 ∷ others.0) others.1) (sym (map-append (λ w. w.index) values (v.0 ∷ []))));
+      ∙ bind_same (new_at (indices values) rest)
+      (λ v.
+      ap (λ is. values_at is n v.1 >>= λ others. gave (v.0 ∷ others.0) others.1)
+      (sym (map-append (λ w. w.index) values (v.0 ∷ []))));
 }

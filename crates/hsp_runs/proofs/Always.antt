@@ -1,5 +1,6 @@
 -- What runs answer wherever inputs define an instance and octets spell a certificate that holds for it.
-use Rattle.std.proofs.Common.{◌≡◌, ◌≢◌, ◌∙◌, ◌<◌, ◌≤◌, ◌⊎◌, inl, inr, ℕ, List, Result, Ok, Err, IfOk, IsErrAnd, IsOkUnless, decimal, refl, ap, subst, sym, arith}
+use Rattle.std.proofs.Common.{◌≡◌, ◌≢◌, ◌∙◌, ◌<◌, ◌≤◌, ◌⊎◌, inl, inr, ℕ, List, Result, Ok, Err, IfOk, IsErrAnd}
+use Rattle.std.proofs.Common.{IsOkUnless, decimal, refl, ap, subst, sym, arith}
 use Rattle.std.proofs.lemmas.Bool.{ne_eqb}
 use Rattle.hsp_text.specs.declared.limits.TheConstants.{MOST_FRONTS}
 use Rattle.hsp_tables.proofs.TableRows.{whole_is_read}
@@ -48,49 +49,61 @@ handed P holds (Err e) fault is memory = rw (is ∙ memory) holds
 
 -- ---- what is read
 
-pub gives_always : GivesNothingElse → (inputs : Inputs) (answer : Result Instance Fault) → OrNoMemory (IsInstanceOf inputs) answer → GivesTheDefinedAlways inputs answer
+pub gives_always : GivesNothingElse → (inputs : Inputs) (answer : Result Instance Fault)
+    → OrNoMemory (IsInstanceOf inputs) answer → GivesTheDefinedAlways inputs answer
 gives_always only inputs (Ok x) is it page = let same = only inputs it (Ok x) page is in cc (same)
 gives_always only inputs (Err e) (inl memory) it page = memory
 gives_always only inputs (Err e) (inr is) it page = let none = only inputs it (Err e) page is in cc (none)
 
 -- what is read of a text whose reading this claim is
-pub reads_always : (octets : List ℕ) (given : Claim) → ((other : Result Claim CertFault) → Means octets other → Agrees (Ok given) other) → ReadsAlways octets (Ok given)
-reads_always octets given only claim is text = let same : ◌≡◌ {A = Result Claim CertFault} (Ok given) (Ok claim) = only (Ok claim) (is, text) in cc (same)
+pub reads_always : (octets : List ℕ) (given : Claim)
+    → ((other : Result Claim CertFault) → Means octets other → Agrees (Ok given) other) → ReadsAlways octets (Ok given)
+reads_always octets given only claim is text =
+    let same : ◌≡◌ {A = Result Claim CertFault} (Ok given) (Ok claim) = only (Ok claim) (is, text) in cc (same)
 
 -- a text with a fault spells no certificate
-pub reads_none : (octets : List ℕ) (fault : CertFault) → fault ≢ cert_fault.OutOfMemory → ((other : Result Claim CertFault) → Means octets other → Agrees (Err fault) other)
+pub reads_none : (octets : List ℕ) (fault : CertFault) → fault ≢ cert_fault.OutOfMemory
+    → ((other : Result Claim CertFault) → Means octets other → Agrees (Err fault) other)
     → ReadsAlways octets (Err (Cert fault))
 reads_none octets cert_fault.OutOfMemory apart only claim is text = absurd (apart refl)
 reads_none octets (cert_fault.BadLine n) apart only claim is text =
-    let none : ◌≡◌ {A = Result Claim CertFault} (Err (cert_fault.BadLine n)) (Ok claim) = only (Ok claim) (is, text) in cc (none)
+    let none : ◌≡◌ {A = Result Claim CertFault} (Err (cert_fault.BadLine n)) (Ok claim) = only (Ok claim) (is, text) in
+    cc (none)
 reads_none octets cert_fault.Ended apart only claim is text =
-    let none : ◌≡◌ {A = Result Claim CertFault} (Err cert_fault.Ended) (Ok claim) = only (Ok claim) (is, text) in cc (none)
+    let none : ◌≡◌ {A = Result Claim CertFault} (Err cert_fault.Ended) (Ok claim) = only (Ok claim) (is, text) in
+    cc (none)
 reads_none octets (cert_fault.AfterEnd n) apart only claim is text =
-    let none : ◌≡◌ {A = Result Claim CertFault} (Err (cert_fault.AfterEnd n)) (Ok claim) = only (Ok claim) (is, text) in cc (none)
+    let none : ◌≡◌ {A = Result Claim CertFault} (Err (cert_fault.AfterEnd n)) (Ok claim) = only (Ok claim) (is, text) in
+    cc (none)
 
 -- ---- what is judged
 
 -- the claim that was read is this one, and it holds for the instance that was read
-pub held_read : (octets : List ℕ) (it given : Instance) (claim read : Claim) → given ≡ it → read ≡ claim → Spells octets it claim → Holds (network_of given) read
+pub held_read : (octets : List ℕ) (it given : Instance) (claim read : Claim) → given ≡ it → read ≡ claim
+    → Spells octets it claim → Holds (network_of given) read
 held_read octets it given claim read same one spells =
     subst (λ k. Holds (network_of k) read) (sym same) (subst (λ k. Holds (network_of it) k) (sym one) spells.holds)
 
 -- a Yes for the instance that the inputs define is one for the inputs
-pub checked_shows : (inputs : Inputs) (octets : List ℕ) (it : Instance) (answer : Result Verdict Fault) → Defines inputs it
-    → IfOk answer (λ verdict. verdict ≡ Yes → Shows octets it) → IfOk answer (λ verdict. verdict ≡ Yes → ShowsOf inputs octets)
+pub checked_shows : (inputs : Inputs) (octets : List ℕ) (it : Instance) (answer : Result Verdict Fault)
+    → Defines inputs it
+    → IfOk answer (λ verdict. verdict ≡ Yes → Shows octets it)
+    → IfOk answer (λ verdict. verdict ≡ Yes → ShowsOf inputs octets)
 checked_shows inputs octets it (Ok verdict) page shows = λ yes. (it, page, shows yes)
 checked_shows inputs octets it (Err e) page shows = tt
 
 -- ---- what is planned
 
-pub planned_always : (it : Instance) (answer : Result Printed Fault) → OrNoMemory (IsPlanText it) answer → IsOkUnless answer OutOfMemory
+pub planned_always : (it : Instance) (answer : Result Printed Fault) → OrNoMemory (IsPlanText it) answer
+    → IsOkUnless answer OutOfMemory
 planned_always it (Ok text) is = tt
 planned_always it (Err e) (inl memory) = memory
 planned_always it (Err e) (inr none) = absurd none
 
 -- ---- logs
 
-refused_always : {S : Type 0} (run : Streams) (answer : Result S Fault) → Refuses run OutOfMemory answer → IsOkUnlessLog answer
+refused_always : {S : Type 0} (run : Streams) (answer : Result S Fault) → Refuses run OutOfMemory answer
+    → IsOkUnlessLog answer
 refused_always run answer refused = subst (λ r. IsOkUnlessLog r) (sym refused.1) (inl refl)
 
 -- what is reported of a fault of a log
@@ -101,7 +114,8 @@ is_of_log : (fault : LogFault) → IsOfLog (fault_of_log fault)
 is_of_log log_fault.OutOfMemory = inl refl
 is_of_log fault = inr (fault, refl)
 
-ends_always : {S : Type 0} (all : S → FrontSums) (run : Streams) (answer : Result S Fault) (desk : Desk) → EndsLog all run answer desk → IsOkUnlessLog answer
+ends_always : {S : Type 0} (all : S → FrontSums) (run : Streams) (answer : Result S Fault) (desk : Desk)
+    → EndsLog all run answer desk → IsOkUnlessLog answer
 ends_always all run (Ok sums) desk ends = tt
 ends_always all run (Err e) desk (fault, is, stops) = subst IsOfLog (sym is) (is_of_log fault)
 
@@ -134,11 +148,13 @@ dispatched_at_always fronts run answer =
     (by_fronts old new) end)
 
 -- a word that spells a number of fronts has no fault
-number_read : (word : List ℕ) (fronts : ℕ) → word ≡ decimal fronts → 0 < fronts → fronts ≤ MOST_FRONTS → fronts_at word ≡ Ok fronts
+number_read : (word : List ℕ) (fronts : ℕ) → word ≡ decimal fronts → 0 < fronts → fronts ≤ MOST_FRONTS
+    → fronts_at word ≡ Ok fronts
 number_read word fronts is some few =
     let whole = whole_is_read MOST_FRONTS fronts (omega arith) few in
     let above : above_none BadFronts (Ok fronts) ≡ Ok fronts = rw (ne_eqb fronts 0 (λ e. omega (arith, e))) refl in
     ap (λ w. fronts_at w) is ∙ ap (λ r. above_none BadFronts r) whole ∙ above
 
-pub no_fault : {C : Type 0} (word : List ℕ) (fronts : ℕ) (fault : Fault) → word ≡ decimal fronts → 0 < fronts → fronts ≤ MOST_FRONTS → fronts_at word ≡ Err fault → C
+pub no_fault : {C : Type 0} (word : List ℕ) (fronts : ℕ) (fault : Fault) → word ≡ decimal fronts → 0 < fronts
+    → fronts ≤ MOST_FRONTS → fronts_at word ≡ Err fault → C
 no_fault word fronts fault is some few none = let both = sym (number_read word fronts is some few) ∙ none in cc (both)

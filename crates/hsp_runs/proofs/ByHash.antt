@@ -1,7 +1,8 @@
 -- Logs go by the hashes of handles.
-use Rattle.std.proofs.Common.{ℕ, List, Ok, Err}
+use Rattle.std.proofs.Common.{◌≡◌, ℕ, List, Ok, Err}
 use Rattle.hsp_instance.specs.Instance.{Instance}
-use Rattle.hsp_cert.specs.Certificate.{Best}
+use Rattle.hsp_cert.specs.Certificate.{Best, Claim}
+use Rattle.hsp_cert.specs.Reading.{Means}
 use Rattle.hsp_check.specs.Instance.{network_of}
 use Rattle.hsp_check.specs.Uses.{table}
 use Rattle.hsp_check.specs.Valid.{IsValid}
@@ -27,7 +28,14 @@ accepted_of inputs octets accepted (Ok it, read, (Err e, certified, same)) = cc 
 accepted_of inputs octets accepted (Ok it, read, (Ok claim, certified, judged)) =
     rw (judged.0, judged.1) (read, certified, judged.2)
 
-shares_keep : (it : Instance) (c : Best) (fronts front : ℕ) → KeepsToArcs it (table c.uses) → KeepsToArcs it (share_of fronts front (table c.uses))
+-- a certificate that was read is what its text means
+pub certificate_is : (octets : List ℕ) (claim : Claim) → IsCertificate octets (Ok claim) → Means octets (Ok claim)
+certificate_is octets claim (Ok own, means, memory, e) = let same : claim ≡ own = cc (e) in rw same means
+certificate_is octets claim (Err fault, means, memory, e) = cc (e)
+
+-- a front's share of a plan keeps to the arcs where the plan does
+shares_keep : (it : Instance) (c : Best) (fronts front : ℕ) → KeepsToArcs it (table c.uses)
+    → KeepsToArcs it (share_of fronts front (table c.uses))
 shares_keep it c fronts front keeps row site none = rw (keeps row site none) (share_none fronts front)
 
 pub logs_go_by_hash : LogsGoByHash

@@ -1,7 +1,8 @@
 -- Runs that end, or stop, told of another desk with the same answers.
 use Rattle.std.proofs.Common.{◌≡◌, ◌⊎◌, ℕ, List, [], ◌∷◌, ◌++◌, Result, Ok, Err, inl, inr, refl}
 use Rattle.hsp_csv.specs.Records.{Fields}
-use Rattle.hsp_dispatch.specs.Runs.{Answered, Begins, Desk, EndsWhole, Stops, StopsAt, StopsInLine, StopsSomewhere, Streams}
+use Rattle.hsp_dispatch.specs.Runs.{Answered, Begins, Desk, EndsWhole, Stops, StopsAt, StopsInLine, StopsSomewhere}
+use Rattle.hsp_dispatch.specs.Runs.{Streams}
 use Rattle.hsp_dispatch.specs.declared.answer.FrontSums.{FrontSums}
 use Rattle.hsp_dispatch.specs.declared.fault.LogFault.{LogFault}
 use Rattle.hsp_dispatch.specs.declared.fault.LogFault.TheVariants as log_fault
@@ -10,14 +11,17 @@ use Rattle.hsp_runs.specs.Logs.{Ends}
 use Rattle.hsp_faults.specs.declared.fault.Fault.{Fault}
 
 module _ (one other : Desk) (run : Streams) (heads : one.header ≡ other.header)
-    (goes : (form : _) (rows : List Fields) (lines : List (List ℕ)) (sums : FrontSums) → one.Answers form rows lines sums → other.Answers form rows lines sums) where
+    (goes : (form : _) (rows : List Fields) (lines : List (List ℕ)) (sums : FrontSums)
+    → one.Answers form rows lines sums → other.Answers form rows lines sums) where
   abbrev Stopped : Type 0
   Stopped = StopsSomewhere other run ⊎ StopsInLine other run
 
-  begun : (form : _) (rows more : List Fields) → Begins (one.header form) run.log rows more → Begins (other.header form) run.log rows more
+  begun : (form : _) (rows more : List Fields) → Begins (one.header form) run.log rows more
+      → Begins (other.header form) run.log rows more
   begun form rows more begins = rw heads at begins
 
-  begun_or : (form : _) (rows more : List Fields) → (rows ≡ []) ⊎ Begins (one.header form) run.log rows more → (rows ≡ []) ⊎ Begins (other.header form) run.log rows more
+  begun_or : (form : _) (rows more : List Fields) → (rows ≡ []) ⊎ Begins (one.header form) run.log rows more
+      → (rows ≡ []) ⊎ Begins (other.header form) run.log rows more
   begun_or form rows more (inl none) = inl none
   begun_or form rows more (inr begins) = inr (begun form rows more begins)
 
@@ -29,19 +33,34 @@ module _ (one other : Desk) (run : Streams) (heads : one.header ≡ other.header
   whole sums (form, rows, begins, of) = (form, rows, begun form rows [] begins, answered form rows sums of)
 
   somewhere : StopsSomewhere one run → StopsSomewhere other run
-  somewhere (form, rows, more, sums, begins, of) = (form, rows, more, sums, begun_or form rows more begins, answered form rows sums of)
+  somewhere (form, rows, more, sums, begins, of) =
+      (form, rows, more, sums, begun_or form rows more begins, answered form rows sums of)
 
   in_line : StopsInLine one run → StopsInLine other run
-  in_line (form, rows, more, early, last, sums, middle, begins, within, are, written, cut) =
-      (form, rows, more, early, last, sums, middle, begun form rows more begins, within, goes form rows (early ++ last ∷ []) sums are, written, cut)
+  in_line (form, rows, more, early, last, sums, middle, begins, within, are, written, cut) = (
+    form,
+    rows,
+    more,
+    early,
+    last,
+    sums,
+    middle,
+    begun form rows more begins,
+    within,
+    goes form rows (early ++ last ∷ []) sums are,
+    written,
+    cut,
+  )
 
   at_row : (number : ℕ) (IsSo : _ → Fields → Type 0) → StopsAt one run number IsSo → Stopped
-  at_row number IsSo (form, rows, bad, more, sums, begins, many, so, of) = inl (form, rows, bad ∷ more, sums, inr (begun form rows (bad ∷ more) begins), answered form rows sums of)
+  at_row number IsSo (form, rows, bad, more, sums, begins, many, so, of) =
+      inl (form, rows, bad ∷ more, sums, inr (begun form rows (bad ∷ more) begins), answered form rows sums of)
 
   stopped : (fault : LogFault) → Stops one run fault → Stopped
   stopped log_fault.ReadFailed s = inl (somewhere s)
   stopped log_fault.WriteFailed (inl s) = inr (in_line s)
-  stopped log_fault.WriteFailed (inr (sums, (form, rows, begins, of))) = inl (form, rows, [], sums, inr (begun form rows [] begins), answered form rows sums of)
+  stopped log_fault.WriteFailed (inr (sums, (form, rows, begins, of))) =
+      inl (form, rows, [], sums, inr (begun form rows [] begins), answered form rows sums of)
   stopped log_fault.Header (unheaded, (form, sums, of)) = inl (form, [], [], sums, inl refl, answered form [] sums of)
   stopped (log_fault.Fields row) s = at_row row _ s
   stopped (log_fault.BadHandle row) s = at_row row _ s

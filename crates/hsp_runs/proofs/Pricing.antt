@@ -1,5 +1,7 @@
--- Inputs that differ in counts, capacities and limits only have networks that do, and printed prices say of them what prices say.
-use Rattle.std.proofs.Common.{◌≡◌, ℕ, ◌+◌, ◌<◌, ◌≤◌, ◌∙◌, List, [], ◌∷◌, ◌++◌, length, map, Some, None, slice_index_or, refl, ap, ap₂, sym, subst, arith}
+-- Inputs that differ in counts, capacities and limits only have networks that do, and printed prices say of them what
+-- prices say.
+use Rattle.std.proofs.Common.{◌≡◌, ℕ, ◌+◌, ◌<◌, ◌≤◌, ◌∙◌, List, [], ◌∷◌, ◌++◌, length, map, Some, None, slice_index_or}
+use Rattle.std.proofs.Common.{refl, ap, ap₂, sym, subst, arith}
 use Rattle.std.specs.List.{position_from, slice_get}
 use Rattle.std.proofs.lemmas.List.{ext_get_or, get_or-map, length-map}
 use Rattle.std.proofs.lemmas.List.Elements.{All-from_recursion}
@@ -25,18 +27,24 @@ use Rattle.hsp_runs.specs.Pricing.{DifferInNumbers, PrintedPricesAnswer, without
 
 -- ---- arcs go by rows without their counts
 
-arcs_without : (costs : List CostEntry) (row : Row) (n first : ℕ) (sites : List Site) → arcs_from costs row n first sites ≡ arcs_from costs (without_count row) n first sites
+arcs_without : (costs : List CostEntry) (row : Row) (n first : ℕ) (sites : List Site)
+    → arcs_from costs row n first sites ≡ arcs_from costs (without_count row) n first sites
 arcs_without costs row n first [] = refl
 arcs_without costs row n first (site ∷ more) =
-    ap (λ arcs. arc_to row.handle n first site (cost_of costs row.region site.name) ++ arcs) (arcs_without costs row (n + 1) (first + length site.servers) more)
+    ap (λ arcs. arc_to row.handle n first site (cost_of costs row.region site.name) ++ arcs)
+    (arcs_without costs row (n + 1) (first + length site.servers) more)
 
-lists_without : (costs : List CostEntry) (sites : List Site) (rows : List Row) → map (λ row. arcs_from costs row 0 0 sites) rows ≡ map (λ row. arcs_from costs row 0 0 sites) (map without_count rows)
+lists_without : (costs : List CostEntry) (sites : List Site) (rows : List Row)
+    → map (λ row. arcs_from costs row 0 0 sites) rows
+    ≡ map (λ row. arcs_from costs row 0 0 sites) (map without_count rows)
 lists_without costs sites [] = refl
-lists_without costs sites (row ∷ rows) = ap₂ (λ arcs lists. arcs ∷ lists) (arcs_without costs row 0 0 sites) (lists_without costs sites rows)
+lists_without costs sites (row ∷ rows) =
+    ap₂ (λ arcs lists. arcs ∷ lists) (arcs_without costs row 0 0 sites) (lists_without costs sites rows)
 
 -- ---- and servers' hosts by hosts without their limits
 
-place_without : (address : List ℕ) (n : ℕ) (hosts : List Host) → position_from (is_at address) n hosts ≡ position_from (is_at address) n (map without_limit hosts)
+place_without : (address : List ℕ) (n : ℕ) (hosts : List Host)
+    → position_from (is_at address) n hosts ≡ position_from (is_at address) n (map without_limit hosts)
 place_without address n [] = refl
 place_without address n (host ∷ hosts) = grind (arith, place_without address (n + 1) hosts)
 
@@ -44,26 +52,38 @@ no_server : Server
 no_server = record { site = 0; place = 0; id = 0; capacity = 0; host = None }
 
 -- two instances of the same sites, each with its parts, whose hosts have the same addresses
-module _ (read other-read : building.Inputs) (it other : Instance) (is : IsInstance it) (parts : HasPartsOf read it) (other-parts : HasPartsOf other-read other)
+module _ (read other-read : building.Inputs) (it other : Instance) (is : IsInstance it) (parts : HasPartsOf read it)
+    (other-parts : HasPartsOf other-read other)
     (sites : it.sites ≡ other.sites) (hosts : map without_limit it.hosts ≡ map without_limit other.hosts) where
-  same_place : (address : List ℕ) → position_from (is_at address) 0 it.hosts ≡ position_from (is_at address) 0 other.hosts
-  same_place address = place_without address 0 it.hosts ∙ ap (position_from (is_at address) 0) hosts ∙ sym (place_without address 0 other.hosts)
+  same_place : (address : List ℕ)
+      → position_from (is_at address) 0 it.hosts ≡ position_from (is_at address) 0 other.hosts
+  same_place address =
+      place_without address 0 it.hosts ∙ ap (position_from (is_at address) 0) hosts
+      ∙ sym (place_without address 0 other.hosts)
 
   many : length it.servers ≡ length other.servers
   many = parts.server_count ∙ ap Rattle.hsp_instance.specs.Instance.servers_of sites ∙ sym other-parts.server_count
 
-  same_host : (i : ℕ) → i < length it.servers → (slice_index_or it.servers i no_server).host ≡ (slice_index_or other.servers i no_server).host
+  same_host : (i : ℕ) → i < length it.servers
+      → (slice_index_or it.servers i no_server).host ≡ (slice_index_or other.servers i no_server).host
   same_host i l =
       let server = slice_index_or it.servers i no_server in
       let here : slice_get it.servers i ≡ Some server = slice_get-get_or it.servers i no_server l in
-      let stands = (All-from_recursion (IsServer it.sites (length it.hosts)) it.servers is.servers.each i no_server l).place in
+      let stands =
+      (All-from_recursion (IsServer it.sites (length it.hosts)) it.servers is.servers.each i no_server l).place in
       let number : i ≡ number_at it.sites server.site server.place = is.servers.number i server here in
       let a = parts.servers server.site server.place stands.site stands.own stands.is_site stands.is_own in
-      let b = other-parts.servers server.site server.place stands.site stands.own (rw (← sites) stands.is_site) stands.is_own in
-      let in-it : server ≡ a.server = get_there it.servers i server a.server here (ap (slice_get it.servers) number ∙ a.is_server) in
+      let b =
+      other-parts.servers server.site server.place stands.site stands.own (rw (← sites) stands.is_site)
+      stands.is_own in
+      let in-it : server ≡ a.server =
+      get_there it.servers i server a.server here (ap (slice_get it.servers) number ∙ a.is_server) in
       let in-other : slice_index_or other.servers i no_server ≡ b.server =
-      get_or_from_slice_get other.servers i b.server no_server (ap (slice_get other.servers) (number ∙ ap (λ s. number_at s server.site server.place) sites) ∙ b.is_server) in
-      ap (λ (s : Server). s.host) in-it ∙ a.is_of.host ∙ same_place stands.own.address ∙ sym b.is_of.host ∙ sym (ap (λ (s : Server). s.host) in-other)
+      get_or_from_slice_get other.servers i b.server no_server
+      (ap (slice_get other.servers) (number ∙ ap (λ s. number_at s server.site server.place) sites)
+      ∙ b.is_server) in
+      ap (λ (s : Server). s.host) in-it ∙ a.is_of.host ∙ same_place stands.own.address ∙ sym b.is_of.host
+      ∙ sym (ap (λ (s : Server). s.host) in-other)
     where
       get_there : (xs : List Server) (i : ℕ) (x y : Server) → slice_get xs i ≡ Some x → slice_get xs i ≡ Some y → x ≡ y
       get_there xs i x y a b = sym (get_or_from_slice_get xs i x no_server a) ∙ get_or_from_slice_get xs i y no_server b
@@ -79,7 +99,8 @@ module _ (read other-read : building.Inputs) (it other : Instance) (is : IsInsta
 
 -- ---- the networks, and what prices say
 
-module _ (inputs others : Inputs) (it other : Instance) (read other-read : building.Inputs) (holds : Holds inputs read) (other-holds : Holds others other-read)
+module _ (inputs others : Inputs) (it other : Instance) (read other-read : building.Inputs) (holds : Holds inputs read)
+    (other-holds : Holds others other-read)
     (of : BuiltOf read it) (other-of : BuiltOf other-read other) (differ : DifferInNumbers inputs others it other) where
   same_costs : read.costs ≡ other-read.costs
   same_costs = let a = holds.costs in let b = rw (← differ.costs) at other-holds.costs in cc (a, b)
@@ -88,7 +109,8 @@ module _ (inputs others : Inputs) (it other : Instance) (read other-read : build
   same_arcs =
       of.arcs ∙ lists_without read.costs it.sites it.rows
       ∙ ap (λ rows. map (λ row. arcs_from read.costs row 0 0 it.sites) rows) differ.rows
-      ∙ ap₂ (λ costs sites. map (λ row. arcs_from costs row 0 0 sites) (map without_count other.rows)) same_costs differ.sites
+      ∙ ap₂ (λ costs sites. map (λ row. arcs_from costs row 0 0 sites) (map without_count other.rows)) same_costs
+      differ.sites
       ∙ sym (lists_without other-read.costs other.sites other.rows) ∙ sym other-of.arcs
 
 pub printed_prices_answer : ReadingsAreHandles → PrintedPricesAnswer
@@ -97,8 +119,12 @@ printed_prices_answer handles inputs others it other octets plan defined other-d
     let (other-read, other-holds, other-built) = is_read handles others other other-defined in
     let is = is_within inputs read it holds built defined in
     let other-is = is_within others other-read other other-holds other-built other-defined in
-    let arcs = same_arcs inputs others it other read other-read holds other-holds (built_of read it built) (built_of other-read other other-built) differ in
-    let hosts = same_hosts read other-read it other is (built_has_its_parts read it built) (built_has_its_parts other-read other other-built) differ.sites differ.hosts in
+    let arcs =
+    same_arcs inputs others it other read other-read holds other-holds (built_of read it built)
+    (built_of other-read other other-built) differ in
+    let hosts =
+    same_hosts read other-read it other is (built_has_its_parts read it built)
+    (built_has_its_parts other-read other other-built) differ.sites differ.hosts in
     let changed = with_numbers (network_of it) (demands_in other) (capacities_in other) (limits_in other) in
     let numbers : network_of other ≡ changed = rw (arcs, hosts) refl in
     let shown = spelled.holds in
@@ -106,9 +132,14 @@ printed_prices_answer handles inputs others it other octets plan defined other-d
       numbers = numbers;
       bound = λ y feasible.
           let a = subst IsNetwork numbers (is_network other other-is) in
-          subst (λ n. times (demands_in other) plan.row_prices ≤ total n y + (times (capacities_in other) plan.server_prices + times (limits_in other) plan.host_prices)) (sym numbers)
-          (prices_bound_changes (network_of it) (table plan.uses) plan.row_prices plan.server_prices plan.host_prices shown.prices (demands_in other) (capacities_in other) (limits_in other) a y
+          subst
+          (λ n. times (demands_in other) plan.row_prices
+          ≤ total n y + (times (capacities_in other) plan.server_prices + times (limits_in other) plan.host_prices))
+          (sym numbers)
+          (prices_bound_changes (network_of it) (table plan.uses) plan.row_prices plan.server_prices plan.host_prices
+          shown.prices (demands_in other) (capacities_in other) (limits_in other) a y
           (subst (λ n. Feasible n y) numbers feasible));
       one_change =
-          one_change_is_priced (network_of it) (table plan.uses) plan.row_prices plan.server_prices plan.host_prices (is_network it is) shown.best.feasible shown.prices;
+          one_change_is_priced (network_of it) (table plan.uses) plan.row_prices plan.server_prices plan.host_prices
+          (is_network it is) shown.best.feasible shown.prices;
     }

@@ -15,7 +15,8 @@ use Rattle.hsp_check.proofs.InstanceNetwork.{is_network}
 use Rattle.hsp_headline.specs.Shown.{Holds, HoldsBest, HoldsShort}
 
 -- a valid claim holds by what it shows
-pub shown_holds : (n : Network) (claim : Claim) → IsValid n claim → HasBestPlan n claim → HasEqualSums n claim → HasNoPlan n claim → Holds n claim
+pub shown_holds : (n : Network) (claim : Claim) → IsValid n claim → HasBestPlan n claim → HasEqualSums n claim
+    → HasNoPlan n claim → Holds n claim
 shown_holds n (best c) valid is_best sums none = record {
   allowed = valid.allowed;
   best = is_best;
@@ -27,16 +28,26 @@ shown_holds n (best c) valid is_best sums none = record {
   dual = sums;
 }
 shown_holds n (short c) valid is_best sums none =
-    record { there = valid.there; demand = valid.demand; capacity = valid.capacity; less = rw (valid.capacity, valid.demand) valid.is_short; none = none }
+    record {
+      there = valid.there;
+      demand = valid.demand;
+      capacity = valid.capacity;
+      less = rw (valid.capacity, valid.demand) valid.is_short;
+      none = none;
+    }
 
 -- a valid claim holds
-pub valid_holds : (it : Instance) (claim : Claim) → IsInstance it → IsValid (network_of it) claim → Holds (network_of it) claim
+pub valid_holds : (it : Instance) (claim : Claim) → IsInstance it → IsValid (network_of it) claim
+    → Holds (network_of it) claim
 valid_holds it (best c) is valid =
     let n = network_of it in
-    let shown = prices_show_best n (table c.uses) c.row_prices c.server_prices c.host_prices (is_network it is) valid.feasible valid.prices in
+    let shown =
+    prices_show_best n (table c.uses) c.row_prices c.server_prices c.host_prices (is_network it is) valid.feasible
+    valid.prices in
     shown_holds n (best c) valid shown.0 (rw valid.cost shown.1) tt
 valid_holds it (short c) is valid =
-    shown_holds (network_of it) (short c) valid tt tt (short_shows_none (network_of it) (is_one_of c.rows) (is_network it is) valid.is_short)
+    shown_holds (network_of it) (short c) valid tt tt
+    (short_shows_none (network_of it) (is_one_of c.rows) (is_network it is) valid.is_short)
 
 -- and a claim that holds is valid
 plan_valid : (n : Network) (c : Best) → HoldsBest n c → IsValidPlan n c

@@ -1,5 +1,6 @@
 -- What a run of fronts over a log shows of inputs and a certificate.
-use Rattle.std.proofs.Common.{◌≡◌, ◌≢◌, ◌∙◌, ◌<◌, ◌≤◌, ◌⊎◌, inl, inr, ℕ, List, [], ◌∷◌, ◌++◌, Result, Ok, Err, decimal, map, refl, ap, sym, arith}
+use Rattle.std.proofs.Common.{◌≡◌, ◌≢◌, ◌∙◌, ◌<◌, ◌≤◌, ◌⊎◌, inl, inr, ℕ, List, [], ◌∷◌, ◌++◌, Result, Ok, Err, decimal}
+use Rattle.std.proofs.Common.{map, refl, ap, sym, arith}
 use Rattle.std.proofs.lemmas.Bool.{cases_lt, le-ltb, lt-ltb}
 use Rattle.std.proofs.lemmas.Bool.Decides.{nat_tests}
 use Rattle.hsp_text.specs.Whole.{whole_within}
@@ -15,7 +16,8 @@ use Rattle.hsp_check.specs.Uses.{table}
 use Rattle.hsp_names.specs.Handle.{ReadingsAreHandles}
 use Rattle.hsp_dispatch.specs.Desks.{AnswersEvents, answers_by, by_fronts}
 use Rattle.hsp_dispatch.specs.Dispatch.{IsSame}
-use Rattle.hsp_dispatch.specs.Fronts.{AreFrontsOf, Event, Tables, entries_at, event_answer, event_answers_after, front_answers, front_sums_of, left_at_front, share_of, shares_of}
+use Rattle.hsp_dispatch.specs.Fronts.{AreFrontsOf, Event, Tables, entries_at, event_answer, event_answers_after}
+use Rattle.hsp_dispatch.specs.Fronts.{front_answers, front_sums_of, left_at_front, share_of, shares_of}
 use Rattle.hsp_dispatch.specs.Lines.{front_line}
 use Rattle.hsp_dispatch.specs.Runs.{Streams}
 use Rattle.hsp_dispatch.specs.declared.answer.FrontAnswer.TheVariants.{Answered}
@@ -43,16 +45,22 @@ use Rattle.hsp_runs.proofs.ShownLog.{refused, shown_by, shown_of}
 -- ---- the answers by shares
 
 -- fronts that hold the shares of a plan answer by them
-module _ (it : Instance) (fronts : ℕ) (x : Plan) (held : ℕ → Plan) (are : (front : ℕ) → front < fronts → IsSame (held front) (share_of fronts front x)) where
-  same_event : (earlier : List Event) (event : Event) → event_answer it fronts held earlier event ≡ event_answer it fronts (shares_of fronts x) earlier event
+module _ (it : Instance) (fronts : ℕ) (x : Plan) (held : ℕ → Plan)
+    (are : (front : ℕ) → front < fronts → IsSame (held front) (share_of fronts front x)) where
+  same_event : (earlier : List Event) (event : Event)
+      → event_answer it fronts held earlier event ≡ event_answer it fronts (shares_of fronts x) earlier event
   same_event earlier event = elim (cases_lt event.front fronts) [
     | inl inside ↦
         rw (lt-ltb event.front fronts inside)
-        (ap Answered (answer_same it (held event.front) (share_of fronts event.front x) (entries_at event.front earlier) event.entry (are event.front inside)))
+        (ap Answered
+        (answer_same it (held event.front) (share_of fronts event.front x) (entries_at event.front earlier)
+        event.entry (are event.front inside)))
     | inr past ↦ rw (le-ltb event.front fronts past) refl
   ]
 
-  same_events : (earlier events : List Event) → event_answers_after it fronts held earlier events ≡ event_answers_after it fronts (shares_of fronts x) earlier events
+  same_events : (earlier events : List Event)
+      → event_answers_after it fronts held earlier events
+      ≡ event_answers_after it fronts (shares_of fronts x) earlier events
   unfolding event_answers_after
   same_events earlier [] = refl
   same_events earlier (event ∷ events) = rw (same_event earlier event, same_events (earlier ++ event ∷ []) events) refl
@@ -60,16 +68,19 @@ module _ (it : Instance) (fronts : ℕ) (x : Plan) (held : ℕ → Plan) (are : 
 -- ---- the log
 
 answers_events : (it : Instance) (x : Plan) (fronts : ℕ) (old new : Tables) → AreFrontsOf it x fronts old
-    → (form : _) (rows : List Fields) (lines : List (List ℕ)) (sums : FrontSums) → AnswersEvents old new form rows lines sums
+    → (form : _) (rows : List Fields) (lines : List (List ℕ)) (sums : FrontSums)
+    → AnswersEvents old new form rows lines sums
     → AnswersByShares it fronts x rows lines sums
 answers_events it x fronts old new are form rows lines sums (events, spelled, lines_are, sums_are, left) =
     let given : answers_by old events ≡ front_answers it fronts x events =
     rw (are.instance, are.many) (same_events it fronts x (left_at_front old) are.each [] events) in
-    let printed : lines ≡ map (front_line it) (front_answers it fronts x events) = rw (are.instance) at (rw given at lines_are) in
+    let printed : lines ≡ map (front_line it) (front_answers it fronts x events) =
+    rw (are.instance) at (rw given at lines_are) in
     let counted : sums ≡ front_sums_of (front_answers it fronts x events) = rw given at sums_are in
     (events, spelled, printed, counted)
 
-log_at : (inputs : Inputs) (octets : List ℕ) (fronts : ℕ) → 0 < fronts → (run : Streams) (answer : Result FrontSums Fault) (accepted : Accepted) (c : Best)
+log_at : (inputs : Inputs) (octets : List ℕ) (fronts : ℕ) → 0 < fronts
+    → (run : Streams) (answer : Result FrontSums Fault) (accepted : Accepted) (c : Best)
     → IsAcceptedOf inputs octets (Ok accepted) → accepted.certificate ≡ best c
     → (so_many fronts).At accepted.instance (table c.uses) (EndsLog (λ sums. sums) run answer)
     → IsLogAt fronts run answer accepted.instance (table c.uses)
@@ -86,7 +97,8 @@ log_at inputs octets fronts some run answer accepted c is kind (old, new, are, e
 
 -- ---- the number of fronts
 
-number_of : (word : List ℕ) (fronts : ℕ) → fronts_at word ≡ Ok fronts → (word ≡ decimal fronts) × (0 < fronts) × (fronts ≤ MOST_FRONTS)
+number_of : (word : List ℕ) (fronts : ℕ) → fronts_at word ≡ Ok fronts
+    → (word ≡ decimal fronts) × (0 < fronts) × (fronts ≤ MOST_FRONTS)
 number_of word fronts is =
     let read : (0 < fronts) × (whole_within MOST_FRONTS word ≡ Ok fronts) = grind (arith, nat_tests) in
     let whole = whole_is MOST_FRONTS word fronts (omega arith) read.1 in
@@ -100,16 +112,20 @@ fault_of word fault is = by (whole_within MOST_FRONTS word) is
 
 -- ---- what is shown
 
-counted : (word : List ℕ) (inputs : Inputs) (octets : List ℕ) (run : Streams) (answer : Result FrontSums Fault) (fronts : ℕ) → fronts_at word ≡ Ok fronts
-    → IsRefused run answer ⊎ ShowsPlanOf inputs octets (IsLogAt fronts run answer) → ShowsFrontsOf word inputs octets run answer
+counted : (word : List ℕ) (inputs : Inputs) (octets : List ℕ) (run : Streams) (answer : Result FrontSums Fault)
+    (fronts : ℕ) → fronts_at word ≡ Ok fronts
+    → IsRefused run answer ⊎ ShowsPlanOf inputs octets (IsLogAt fronts run answer)
+    → ShowsFrontsOf word inputs octets run answer
 counted word inputs octets run answer fronts is (inl none) = inl none
 counted word inputs octets run answer fronts is (inr shows) =
     let number = number_of word fronts is in
     inr (fronts, number.0, number.1, number.2, shows)
 
-pub fronts_refused : {S : Type 0} (word : List ℕ) (run : Streams) (fault : Fault) (answer : Result S Fault) → fronts_at word ≡ Err fault → run.after ≡ run.before
+pub fronts_refused : {S : Type 0} (word : List ℕ) (run : Streams) (fault : Fault) (answer : Result S Fault)
+    → fronts_at word ≡ Err fault → run.after ≡ run.before
     → answer ≡ Err fault → IsRefused run answer
-fronts_refused word run fault answer is same of = refused run fault answer (λ own e. apart own (sym (fault_of word fault is) ∙ e)) (same, of)
+fronts_refused word run fault answer is same of =
+    refused run fault answer (λ own e. apart own (sym (fault_of word fault is) ∙ e)) (same, of)
   where
     apart : (own : LogFault) → BadFronts ≢ Log own
     apart own e = cc (e)
@@ -117,16 +133,21 @@ fronts_refused word run fault answer is same of = refused run fault answer (λ o
 pub fronts_logs_show : ReadingsAreHandles → FrontsLogsShow
 fronts_logs_show handles word inputs octets run answer is = by (fronts_at word) refl is
   where
-    by : (r : Result ℕ Fault) → fronts_at word ≡ r → AreAnsweredBy r inputs octets run answer → ShowsFrontsOf word inputs octets run answer
+    by : (r : Result ℕ Fault) → fronts_at word ≡ r → AreAnsweredBy r inputs octets run answer
+        → ShowsFrontsOf word inputs octets run answer
     by (Err fault) read none = inl (fronts_refused word run fault answer read none.0 none.1)
     by (Ok fronts) read answered =
         counted word inputs octets run answer fronts read
-        (shown_of (so_many fronts) inputs octets run answer (IsLogAt fronts run answer) (log_at inputs octets fronts ((number_of word fronts read).1) run answer) handles answered)
+        (shown_of (so_many fronts) inputs octets run answer (IsLogAt fronts run answer)
+        (log_at inputs octets fronts ((number_of word fronts read).1) run answer) handles answered)
 
-pub fronts_shown_where : (word : List ℕ) (inputs : Inputs) (octets : List ℕ) (fronts : ℕ) (accepted : Accepted) (run : Streams) (answer : Result FrontSums Fault)
+pub fronts_shown_where : (word : List ℕ) (inputs : Inputs) (octets : List ℕ) (fronts : ℕ) (accepted : Accepted)
+    (run : Streams) (answer : Result FrontSums Fault)
     → fronts_at word ≡ Ok fronts → IsAcceptedOf inputs octets (Ok accepted) → Defines inputs accepted.instance
-    → Holds (network_of accepted.instance) accepted.certificate → AnswersBy (so_many fronts) accepted run answer → ShowsFrontsOf word inputs octets run answer
+    → Holds (network_of accepted.instance) accepted.certificate → AnswersBy (so_many fronts) accepted run answer
+    → ShowsFrontsOf word inputs octets run answer
 fronts_shown_where word inputs octets fronts accepted run answer read is defines holds answered =
     counted word inputs octets run answer fronts read
-    (shown_by (so_many fronts) inputs octets run answer (IsLogAt fronts run answer) (log_at inputs octets fronts ((number_of word fronts read).1) run answer) accepted is
+    (shown_by (so_many fronts) inputs octets run answer (IsLogAt fronts run answer)
+    (log_at inputs octets fronts ((number_of word fronts read).1) run answer) accepted is
     defines holds answered)

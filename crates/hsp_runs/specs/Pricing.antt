@@ -27,7 +27,8 @@ pub record DifferInNumbers (inputs others : Inputs) (it other : Instance) : Type
   pub rows : map without_count it.rows ≡ map without_count other.rows
   pub hosts : map without_limit it.hosts ≡ map without_limit other.hosts
 
--- What the prices of a plan for one instance say of another one. The two ask about networks that differ in their numbers
+-- What the prices of a plan for one instance say of another one. The two ask about networks that differ in their
+-- numbers
 -- only. No plan for the other one costs less than its rows pay beside what its servers and hosts take. What one number
 -- that differs is worth is as `OneChangeIsPriced` says.
 pub record PricesAnswer (it other : Instance) (plan : certificates.Best) : Type 0 where

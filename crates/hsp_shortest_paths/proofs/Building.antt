@@ -1,5 +1,6 @@
 -- The lists of a network's arcs make a graph whose numbers fit.
-use Rattle.std.proofs.Common.{◌≡◌, ℕ, ◌+◌, ◌-◌, ◌*◌, ◌<◌, ◌≤◌, ◌⊎◌, inl, inr, List, length, slice_index, refl, ap, sym, ◌∙◌, arith, mul-zero}
+use Rattle.std.proofs.Common.{◌≡◌, ℕ, ◌+◌, ◌-◌, ◌*◌, ◌<◌, ◌≤◌, ◌⊎◌, inl, inr, List, length, slice_index, refl, ap, sym}
+use Rattle.std.proofs.Common.{◌∙◌, arith, mul-zero}
 use Rattle.std.proofs.lemmas.Bool.{cases_lt}
 use Rattle.hsp_network.specs.Network.{Transport, IsNetwork, host_of}
 use Rattle.hsp_shortest_paths.specs.Layout.{ArcsOf, IsSmall, base_of, first_of, hosts_of, servers_of, host_node}
@@ -8,7 +9,10 @@ use Rattle.hsp_shortest_paths.proofs.Modelling.{node_low}
 
 -- an arc is a host's, a server's or an arc
 abbrev Kind : Transport → ℕ → Type 0
-Kind net k = (k < hosts_of net) ⊎ (((j : ℕ) × (j < servers_of net) × (k ≡ hosts_of net + j)) ⊎ ((a : ℕ) × (a < length net.sources) × (k ≡ base_of net + a)))
+Kind net k =
+    (k < hosts_of net)
+    ⊎ (((j : ℕ) × (j < servers_of net) × (k ≡ hosts_of net + j))
+    ⊎ ((a : ℕ) × (a < length net.sources) × (k ≡ base_of net + a)))
 
 kind : (net : Transport) (k : ℕ) → k < base_of net + length net.sources → Kind net k
 kind net k l = elim (cases_lt k (hosts_of net)) [
@@ -19,7 +23,8 @@ kind net k l = elim (cases_lt k (hosts_of net)) [
   ]
 ]
 
-module _ (net : Transport) (whole : IsNetwork net) (small : IsSmall net) (tails heads costs capacities supplies : List ℕ)
+module _ (net : Transport) (whole : IsNetwork net) (small : IsSmall net)
+    (tails heads costs capacities supplies : List ℕ)
     (arcs : ArcsOf net tails heads costs capacities supplies) where
   node-low : (j : ℕ) → host_node (host_of net j) ≤ hosts_of net
   node-low j = node_low (host_of net j) (hosts_of net) (λ h e. whole.hosts_in j h e)
@@ -30,7 +35,8 @@ module _ (net : Transport) (whole : IsNetwork net) (small : IsSmall net) (tails 
     down : slice_index heads k < slice_index tails k
     low : slice_index heads k < first_of net
     cheap : slice_index tails k < first_of net → slice_index costs k ≡ 0
-    dear : (greatest_cost : ℕ) → ((a : ℕ) → a < length net.sources → slice_index net.costs a ≤ greatest_cost) → slice_index costs k ≤ greatest_cost
+    dear : (greatest_cost : ℕ) → ((a : ℕ) → a < length net.sources → slice_index net.costs a ≤ greatest_cost)
+        → slice_index costs k ≤ greatest_cost
 
   ends : (k : ℕ) → k < length tails → Ends k
   ends k l = elim (kind net k (omega (arith, arcs.tails.many))) [
@@ -43,7 +49,14 @@ module _ (net : Transport) (whole : IsNetwork net) (small : IsSmall net) (tails 
     }
     | inr (inl s) ↦ rw s.2 (record {
       tail_in = omega (arith, s.1, arcs.tails.node (hosts_of net + s.0) (omega (arith, s.1)), arcs.supplies.many);
-      down = omega (arith, s.1, arcs.tails.node (hosts_of net + s.0) (omega (arith, s.1)), arcs.heads.server s.0 s.1, node-low s.0);
+      down =
+          omega (
+            arith,
+            s.1,
+            arcs.tails.node (hosts_of net + s.0) (omega (arith, s.1)),
+            arcs.heads.server s.0 s.1,
+            node-low s.0,
+          );
       low = omega (arith, s.1, arcs.heads.server s.0 s.1, node-low s.0);
       cheap = λ _. arcs.costs.node (hosts_of net + s.0) (omega (arith, s.1));
       dear = λ greatest_cost low. omega (arith, arcs.costs.node (hosts_of net + s.0) (omega (arith, s.1)));
@@ -67,8 +80,10 @@ module _ (net : Transport) (whole : IsNetwork net) (small : IsSmall net) (tails 
     down = λ k l. (ends k l).down;
   }
 
-  pub scale_of : (greatest_cost price_bound longest_arc : ℕ) → ((k : ℕ) → k < length net.sources → slice_index net.costs k ≤ greatest_cost) →
-      price_bound ≡ length supplies * greatest_cost → longest_arc ≡ price_bound + greatest_cost → (length supplies + 1) * longest_arc < 18446744073709551615 →
+  pub scale_of : (greatest_cost price_bound longest_arc : ℕ)
+      → ((k : ℕ) → k < length net.sources → slice_index net.costs k ≤ greatest_cost) →
+      price_bound ≡ length supplies * greatest_cost → longest_arc ≡ price_bound + greatest_cost
+      → (length supplies + 1) * longest_arc < 18446744073709551615 →
       Scale (first_of net) (length supplies) tails heads costs greatest_cost price_bound longest_arc
   scale_of greatest_cost price_bound longest_arc dear price_bound-is longest_arc-is fit = record {
     dear = λ k l. (ends k l).dear greatest_cost dear;
@@ -81,7 +96,8 @@ module _ (net : Transport) (whole : IsNetwork net) (small : IsSmall net) (tails 
   }
 
 -- the greatest cost times the nodes fits
-pub costs_fit : (net : Transport) (nodes greatest_cost : ℕ) → IsSmall net → nodes ≡ first_of net + length net.demands → length net.costs ≡ length net.sources →
+pub costs_fit : (net : Transport) (nodes greatest_cost : ℕ) → IsSmall net → nodes ≡ first_of net + length net.demands
+    → length net.costs ≡ length net.sources →
     (greatest_cost ≡ 0) ⊎ ((k : ℕ) × (k < length net.costs) × (slice_index net.costs k ≡ greatest_cost)) →
     (nodes + 1) * ((nodes + 1) * greatest_cost) < 18446744073709551615
 costs_fit net nodes greatest_cost small is many (inl zero) =

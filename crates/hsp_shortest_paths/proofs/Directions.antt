@@ -1,6 +1,8 @@
 -- The two directions of an arc.
-use Rattle.std.proofs.Common.{◌≡◌, ℕ, ◌+◌, ◌-◌, ◌<◌, ◌==◌, Bool, true, false, length, slice_index, refl, arith, eq-eqb, ne_eqb}
-use Rattle.hsp_shortest_paths.specs.Residual.{Flow, Arcs, SearchTree, distance, from, gives, nodes, prices, raised, takes, to}
+use Rattle.std.proofs.Common.{◌≡◌, ℕ, ◌+◌, ◌-◌, ◌<◌, ◌==◌, Bool, true, false, length, slice_index, refl, arith, eq-eqb}
+use Rattle.std.proofs.Common.{ne_eqb}
+use Rattle.hsp_shortest_paths.specs.Residual.{Flow, Arcs, SearchTree, distance, from, gives, nodes, prices, raised}
+use Rattle.hsp_shortest_paths.specs.Residual.{takes, to}
 
 -- both ends are nodes
 pub from_in : (n : Arcs) (k : ℕ) (d : Bool) → k < length n.tails.now → from n k d < nodes n
@@ -12,7 +14,8 @@ to_in n k true l = omega (arith, n.graph.tails_in k l, n.graph.down k l)
 to_in n k false l = n.graph.tails_in k l
 
 -- the end tells the direction
-pub direction : (n : Arcs) (k : ℕ) (d : Bool) (v : ℕ) → k < length n.tails.now → to n k d ≡ v → (slice_index n.heads.now k == v) ≡ d
+pub direction : (n : Arcs) (k : ℕ) (d : Bool) (v : ℕ) → k < length n.tails.now → to n k d ≡ v
+    → (slice_index n.heads.now k == v) ≡ d
 direction n k true v l e = eq-eqb (slice_index n.heads.now k) v e
 direction n k false v l e = ne_eqb (slice_index n.heads.now k) v (λ q. omega (arith, n.graph.down k l))
 

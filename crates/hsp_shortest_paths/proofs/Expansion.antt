@@ -1,8 +1,12 @@
 -- Looking at the residual arcs of a node, one after the other.
-use Rattle.std.proofs.Common.{◌≡◌, ◌≢◌, ℕ, ◌+◌, ◌<◌, ◌≤◌, ◌⊎◌, inl, inr, Bool, true, false, length, slice_index, Option, Some, None, is_none, if◌then◌else◌, refl, ap, sym, ◌∙◌, arith, length-set, lt-ltb, ltb-true}
+use Rattle.std.proofs.Common.{◌≡◌, ◌≢◌, ℕ, ◌+◌, ◌<◌, ◌≤◌, ◌⊎◌, inl, inr, Bool, true, false, length, slice_index, Option}
+use Rattle.std.proofs.Common.{Some, None, is_none, if◌then◌else◌, refl, ap, sym, ◌∙◌, arith, length-set, lt-ltb}
+use Rattle.std.proofs.Common.{ltb-true}
 use Rattle.std.proofs.lemmas.Bool.{cases_eq, cases_lt, cases_Bool, and_parts, and_from}
-use Rattle.hsp_shortest_paths.specs.Residual.{Flow, Arcs, SearchTree, distance, from, gives, nodes, prices, takes, to, way, width}
-use Rattle.hsp_shortest_paths.specs.Search.{Expanding, IsRelaxed, IsWay, MayBeOffered, Offer, Offered, Reached, Ready, Search, Settled, TakesWay, Visit, settled_count, settled_test, top}
+use Rattle.hsp_shortest_paths.specs.Residual.{Flow, Arcs, SearchTree, distance, from, gives, nodes, prices, takes, to}
+use Rattle.hsp_shortest_paths.specs.Residual.{way, width}
+use Rattle.hsp_shortest_paths.specs.Search.{Expanding, IsRelaxed, IsWay, MayBeOffered, Offer, Offered, Reached, Ready}
+use Rattle.hsp_shortest_paths.specs.Search.{Search, Settled, TakesWay, Visit, settled_count, settled_test, top}
 use Rattle.hsp_shortest_paths.proofs.Sums.{sum_below_le}
 use Rattle.hsp_shortest_paths.proofs.Directions.{direction, from_in, to_in}
 use Rattle.hsp_shortest_paths.proofs.Searching.{cases_option, changed, fewer}
@@ -28,25 +32,37 @@ still_counted held held' t t' v still = elim (cases_Bool (settled_test held t v)
   | inr out ↦ rw out (omega arith)
 ]
 
-pub count_kept : (n : Arcs) (held held' : ℕ → Option ℕ) (t t' : SearchTree) → ((v : ℕ) → Settled held t v → Settled held' t' v) →
+pub count_kept : (n : Arcs) (held held' : ℕ → Option ℕ) (t t' : SearchTree)
+    → ((v : ℕ) → Settled held t v → Settled held' t' v) →
     settled_count n held t ≤ settled_count n held' t'
 count_kept n held held' t t' still = sum_below_le (nodes n) _ _ (λ v l. still_counted held held' t t' v (still v))
 
 -- no residual arc is longer than a step
-arc_step : (n : Arcs) (f : Flow) (k : ℕ) (d : Bool) → ((v : ℕ) → v < nodes n → slice_index f.price.now v ≤ n.price_bound) → k < length n.tails.now → takes n (prices f) k d ≤ n.longest_arc
-arc_step n f k true low l = omega (arith, n.scale.dear k l, low (slice_index n.heads.now k) (from_in n k false l), n.scale.step_is)
+arc_step : (n : Arcs) (f : Flow) (k : ℕ) (d : Bool)
+    → ((v : ℕ) → v < nodes n → slice_index f.price.now v ≤ n.price_bound) → k < length n.tails.now
+    → takes n (prices f) k d ≤ n.longest_arc
+arc_step n f k true low l =
+    omega (arith, n.scale.dear k l, low (slice_index n.heads.now k) (from_in n k false l), n.scale.step_is)
 arc_step n f k false low l = omega (arith, low (slice_index n.tails.now k) (n.graph.tails_in k l), n.scale.step_is)
 
-module _ (n : Arcs) (f : Flow) (t : SearchTree) (held : ℕ → Option ℕ) (at : Visit) (seen : ℕ → Bool → Type 0) (e : Expanding n f t held at seen) where
+module _ (n : Arcs) (f : Flow) (t : SearchTree) (held : ℕ → Option ℕ) (at : Visit) (seen : ℕ → Bool → Type 0)
+    (e : Expanding n f t held at seen) where
   -- the same of other seen arcs, where no open arc of the node is new among them
   pub reseen : (seen' : ℕ → Bool → Type 0) →
-      ((k : ℕ) (d : Bool) → k < length n.tails.now → 0 < width f k d → from n k d ≡ at.node → seen' k d → seen k d) → Expanding n f t held at seen'
-  reseen seen' old = record { visit = e.visit; search = fewer n f t held at.root at.distance _ _ (λ k d l wide look q. old k d l wide q (look q)) e.search }
+      ((k : ℕ) (d : Bool) → k < length n.tails.now → 0 < width f k d → from n k d ≡ at.node → seen' k d → seen k d)
+      → Expanding n f t held at seen'
+  reseen seen' old =
+      record {
+        visit = e.visit;
+        search = fewer n f t held at.root at.distance _ _ (λ k d l wide look q. old k d l wide q (look q)) e.search;
+      }
 
   -- one arc more was looked at
   module _ (k : ℕ) (d : Bool) (seen' : ℕ → Bool → Type 0)
-      (next : (j : ℕ) (c : Bool) → j < length n.tails.now → from n j c ≡ at.node → seen' j c → ((j ≡ k) × (c ≡ d)) ⊎ seen j c) where
-    look_next : (j : ℕ) (c : Bool) → j < length n.tails.now → (from n j c ≡ at.node → seen' j c) → ((j ≡ k) × (c ≡ d)) ⊎ (from n j c ≡ at.node → seen j c)
+      (next : (j : ℕ) (c : Bool) → j < length n.tails.now → from n j c ≡ at.node → seen' j c
+      → ((j ≡ k) × (c ≡ d)) ⊎ seen j c) where
+    look_next : (j : ℕ) (c : Bool) → j < length n.tails.now → (from n j c ≡ at.node → seen' j c)
+        → ((j ≡ k) × (c ≡ d)) ⊎ (from n j c ≡ at.node → seen j c)
     look_next j c l look = elim (cases_eq (from n j c) at.node) [
       | inl here ↦ elim (next j c l here (look here)) [ inl is ↦ inl is | inr past ↦ inr (λ q. past) ]
       | inr other ↦ inr (λ q. absurd (other q))
@@ -69,7 +85,8 @@ module _ (n : Arcs) (f : Flow) (t : SearchTree) (held : ℕ → Option ℕ) (at 
     passed shut = kept (λ wide. absurd (omega arith))
 
   -- one whose end is offered the way over it
-  module _ (ready : Ready n f) (k : ℕ) (d : Bool) (arc : k < length n.tails.now) (leaves : from n k d ≡ at.node) (wide : 0 < width f k d)
+  module _ (ready : Ready n f) (k : ℕ) (d : Bool) (arc : k < length n.tails.now) (leaves : from n k d ≡ at.node)
+      (wide : 0 < width f k d)
       (o : Offer) (it-is : IsWay n f t at k d o) (far : at.distance + n.longest_arc < top) where
     late : at.distance ≤ o.distance
     late = omega (arith, ready.sound.paid k d arc wide, it-is.exact)
@@ -99,43 +116,72 @@ module _ (n : Arcs) (f : Flow) (t : SearchTree) (held : ℕ → Option ℕ) (at 
             | inr w ↦ absurd (omega (arith, q, e.search.held_distance o.to w.0 w.1, e.search.held_low o.to w.0 w.1))
           ];
           waits = λ less reached. elim (cases_option (held o.to)) [
-            | inl none ↦ absurd (omega (arith, late, less, e.search.settled_early o.to (record { not_held = none; reached = reached })))
+            | inl none ↦
+                absurd
+                (omega (arith, late, less, e.search.settled_early o.to (record { not_held = none; reached = reached })))
             | inr w ↦ w.1 ∙ ap (λ d. Some d) (sym (e.search.held_distance o.to w.0 w.1))
           ];
         }
 
-    module _ (seen' : ℕ → Bool → Type 0) (next : (j : ℕ) (c : Bool) → j < length n.tails.now → from n j c ≡ at.node → seen' j c → ((j ≡ k) × (c ≡ d)) ⊎ seen j c)
+    module _ (seen' : ℕ → Bool → Type 0) (next : (j : ℕ) (c : Bool) → j < length n.tails.now → from n j c ≡ at.node
+        → seen' j c → ((j ≡ k) × (c ≡ d)) ⊎ seen j c)
         (t' : SearchTree) (held' : ℕ → Option ℕ) where
       -- it takes the way
       module _ (w : TakesWay held held' t t' o) (less : o.distance < distance t o.to) where
         apart : (v : ℕ) → distance t v ≤ at.distance → v ≢ o.to
-        apart v soon q = let same : distance t v ≡ distance t o.to = ap (λ m. slice_index t.distance.now m) q in omega (arith, late)
+        apart v soon q =
+            let same : distance t v ≡ distance t o.to = ap (λ m. slice_index t.distance.now m) q in omega (arith, late)
 
         distances : (distance t' o.to ≡ o.distance) × ((v : ℕ) → v ≢ o.to → distance t' v ≡ distance t v)
-        distances = changed t.distance.now t'.distance.now o.to o.distance w.distance (omega (arith, e.search.covers.distances_many, node-in))
+        distances =
+            changed t.distance.now t'.distance.now o.to o.distance w.distance
+            (omega (arith, e.search.covers.distances_many, node-in))
 
         distance_down : (v : ℕ) → distance t' v ≤ distance t v
-        distance_down v = elim (cases_eq v o.to) [ inl q ↦ rw q (omega (arith, distances.0)) | inr ne ↦ omega (arith, distances.1 v ne) ]
+        distance_down v =
+            elim (cases_eq v o.to) [
+              | inl q ↦ rw q (omega (arith, distances.0))
+              | inr ne ↦
+                  omega (arith, distances.1 v ne)
+            ]
 
-        amounts : (slice_index t'.amount.now o.to ≡ o.amount) × ((v : ℕ) → v ≢ o.to → slice_index t'.amount.now v ≡ slice_index t.amount.now v)
-        amounts = changed t.amount.now t'.amount.now o.to o.amount w.amount (omega (arith, e.search.covers.amounts_many, node-in))
+        amounts : (slice_index t'.amount.now o.to ≡ o.amount)
+            × ((v : ℕ) → v ≢ o.to → slice_index t'.amount.now v ≡ slice_index t.amount.now v)
+        amounts =
+            changed t.amount.now t'.amount.now o.to o.amount w.amount
+            (omega (arith, e.search.covers.amounts_many, node-in))
 
-        depths : (slice_index t'.depth.now o.to ≡ slice_index t.depth.now at.node + 1) × ((v : ℕ) → v ≢ o.to → slice_index t'.depth.now v ≡ slice_index t.depth.now v)
-        depths = changed t.depth.now t'.depth.now o.to _ (rw it-is.start at w.depth) (omega (arith, e.search.covers.depths_many, node-in))
+        depths : (slice_index t'.depth.now o.to ≡ slice_index t.depth.now at.node + 1)
+            × ((v : ℕ) → v ≢ o.to → slice_index t'.depth.now v ≡ slice_index t.depth.now v)
+        depths =
+            changed t.depth.now t'.depth.now o.to _ (rw it-is.start at w.depth)
+            (omega (arith, e.search.covers.depths_many, node-in))
 
-        predecessors : (slice_index t'.predecessor.now o.to ≡ k) × ((v : ℕ) → v ≢ o.to → slice_index t'.predecessor.now v ≡ slice_index t.predecessor.now v)
-        predecessors = changed t.predecessor.now t'.predecessor.now o.to k (rw it-is.over at w.predecessor) (omega (arith, e.search.covers.predecessors_many, node-in))
+        predecessors : (slice_index t'.predecessor.now o.to ≡ k)
+            × ((v : ℕ) → v ≢ o.to → slice_index t'.predecessor.now v ≡ slice_index t.predecessor.now v)
+        predecessors =
+            changed t.predecessor.now t'.predecessor.now o.to k (rw it-is.over at w.predecessor)
+            (omega (arith, e.search.covers.predecessors_many, node-in))
 
         -- what is settled now was so before, and the other way round
         was : (v : ℕ) → Settled held' t' v → (v ≢ o.to) × Settled held t v
         was v st =
-            let ne : v ≢ o.to = λ q. let a : held' v ≡ held' o.to = ap held' q in let b = st.not_held in let c = w.frontier.at in cc in
-            (ne, record { not_held = sym (w.frontier.others v ne) ∙ st.not_held; reached = omega (arith, distances.1 v ne, st.reached) })
+            let ne : v ≢ o.to = λ q. let a : held' v ≡ held' o.to = ap held' q in let b = st.not_held in
+            let c = w.frontier.at in cc in (
+              ne,
+              record {
+                not_held = sym (w.frontier.others v ne) ∙ st.not_held;
+                reached = omega (arith, distances.1 v ne, st.reached);
+              },
+            )
 
         still : (v : ℕ) → Settled held t v → Settled held' t' v
         still v st =
             let ne = apart v (e.search.settled_early v st) in
-            record { not_held = w.frontier.others v ne ∙ st.not_held; reached = omega (arith, distances.1 v ne, st.reached) }
+            record {
+              not_held = w.frontier.others v ne ∙ st.not_held;
+              reached = omega (arith, distances.1 v ne, st.reached);
+            }
 
         -- an entry is the new one or one from before
         entry : (v c : ℕ) → held' v ≡ Some c → ((v ≡ o.to) × (c ≡ o.distance)) ⊎ ((v ≢ o.to) × (held v ≡ Some c))
@@ -145,41 +191,64 @@ module _ (n : Arcs) (f : Flow) (t : SearchTree) (held : ℕ → Option ℕ) (at 
         ]
 
         -- a node that is reached over the arc j from one whose labels are as they were
-        reached_by : (v j : ℕ) (c : Bool) → slice_index t'.predecessor.now v ≡ j → j < length n.tails.now → to n j c ≡ v → distance t (from n j c) ≤ at.distance →
-            slice_index t.depth.now (from n j c) < slice_index t'.depth.now v → slice_index t'.amount.now v ≤ slice_index t.amount.now (from n j c) →
-            slice_index t'.amount.now v ≤ width f j c → distance t' v + gives n (prices f) j c ≡ distance t (from n j c) + takes n (prices f) j c → Reached n f t' at.distance v c
+        reached_by : (v j : ℕ) (c : Bool) → slice_index t'.predecessor.now v ≡ j → j < length n.tails.now → to n j c ≡ v
+            → distance t (from n j c) ≤ at.distance →
+            slice_index t.depth.now (from n j c) < slice_index t'.depth.now v
+            → slice_index t'.amount.now v ≤ slice_index t.amount.now (from n j c) →
+            slice_index t'.amount.now v ≤ width f j c
+            → distance t' v + gives n (prices f) j c ≡ distance t (from n j c) + takes n (prices f) j c
+            → Reached n f t' at.distance v c
         reached_by v j c is arc end soon deeper carried fits exact =
             let same = apart (from n j c) soon in
             record {
-              path = record { arc = rw is arc; end = rw is end; nearer = rw is (omega (arith, depths.1 _ same, deeper)); carried = rw is (omega (arith, amounts.1 _ same, carried)); fits = rw is fits };
+              path =
+                  record {
+                    arc = rw is arc;
+                    end = rw is end;
+                    nearer = rw is (omega (arith, depths.1 _ same, deeper));
+                    carried = rw is (omega (arith, amounts.1 _ same, carried));
+                    fits = rw is fits;
+                  };
               soon = rw is (omega (arith, distances.1 _ same, soon));
               exact = rw is (omega (arith, distances.1 _ same, exact));
             }
 
         new_arc : Reached n f t' at.distance o.to d
         new_arc =
-            reached_by o.to k d predecessors.0 arc (sym it-is.enters) (omega (arith, start)) (rw leaves (omega (arith, depths.0))) (rw leaves (omega (arith, amounts.0, it-is.amount)))
+            reached_by o.to k d predecessors.0 arc (sym it-is.enters) (omega (arith, start))
+            (rw leaves (omega (arith, depths.0))) (rw leaves (omega (arith, amounts.0, it-is.amount)))
             (omega (arith, amounts.0, it-is.amount)) (omega (arith, distances.0, start, it-is.exact))
 
         -- an arc to another node is as it was
         old_arc : (v : ℕ) → v ≢ o.to → (c : Bool) → Reached n f t at.distance v c → Reached n f t' at.distance v c
         old_arc v ne c it =
-            reached_by v (slice_index t.predecessor.now v) c (predecessors.1 v ne) it.path.arc it.path.end it.soon (omega (arith, depths.1 v ne, it.path.nearer))
-            (omega (arith, amounts.1 v ne, it.path.carried)) (omega (arith, amounts.1 v ne, it.path.fits)) (omega (arith, distances.1 v ne, it.exact))
+            reached_by v (slice_index t.predecessor.now v) c (predecessors.1 v ne) it.path.arc it.path.end it.soon
+            (omega (arith, depths.1 v ne, it.path.nearer))
+            (omega (arith, amounts.1 v ne, it.path.carried)) (omega (arith, amounts.1 v ne, it.path.fits))
+            (omega (arith, distances.1 v ne, it.exact))
 
         lowered : Search n f t' held' at.root at.distance (λ j c. from n j c ≡ at.node → seen' j c)
         lowered = record {
           labels = record {
             covers = record {
               distances_many = rw w.distance (length-set t.distance.now o.to _ ∙ e.search.covers.distances_many);
-              predecessors_many = rw w.predecessor (length-set t.predecessor.now o.to _ ∙ e.search.covers.predecessors_many);
+              predecessors_many =
+                  rw w.predecessor (length-set t.predecessor.now o.to _ ∙ e.search.covers.predecessors_many);
               amounts_many = rw w.amount (length-set t.amount.now o.to _ ∙ e.search.covers.amounts_many);
               depths_many = rw w.depth (length-set t.depth.now o.to _ ∙ e.search.covers.depths_many);
             };
             held_in = λ v c h. elim (entry v c h) [ inl q ↦ rw q.0 node-in | inr q ↦ e.search.held_in v c q.1 ];
-            held_distance = λ v c h. elim (entry v c h) [ inl q ↦ rw q.0 (distances.0 ∙ sym q.1) | inr q ↦ distances.1 v q.0 ∙ e.search.held_distance v c q.1 ];
+            held_distance =
+                λ v c h.
+                elim (entry v c h) [
+                  | inl q ↦ rw q.0 (distances.0 ∙ sym q.1)
+                  | inr q ↦
+                      distances.1 v q.0 ∙ e.search.held_distance v c q.1
+                ];
             held_late = λ v c h. elim (entry v c h) [ inl q ↦ rw q.1 late | inr q ↦ e.search.held_late v c q.1 ];
-            held_low = λ v c h. elim (entry v c h) [ inl q ↦ rw q.1 (omega (arith, near)) | inr q ↦ e.search.held_low v c q.1 ];
+            held_low =
+                λ v c h.
+                elim (entry v c h) [ inl q ↦ rw q.1 (omega (arith, near)) | inr q ↦ e.search.held_low v c q.1 ];
             settled_early = λ v st. let q = was v st in omega (arith, distances.1 v q.0, e.search.settled_early v q.1);
             sink_waits = λ st. e.search.sink_waits (was 0 st).1;
             reached = λ v l nr close. elim (cases_eq v o.to) [
@@ -192,11 +261,13 @@ module _ (n : Arcs) (f : Flow) (t : SearchTree) (held : ℕ → Option ℕ) (at 
             ];
             root_near = omega (arith, distance_down at.root, e.search.root_near);
             some = λ v l close. elim (cases_eq v o.to) [
-              | inl q ↦ rw q (omega (arith, amounts.0, it-is.amount, wide, e.search.some at.node e.node_in e.settled.reached))
+              | inl q ↦
+                  rw q (omega (arith, amounts.0, it-is.amount, wide, e.search.some at.node e.node_in e.settled.reached))
               | inr ne ↦ omega (arith, amounts.1 v ne, e.search.some v l (omega (arith, distances.1 v ne)))
             ];
             no_more = λ v l close. elim (cases_eq v o.to) [
-              | inl q ↦ rw q (omega (arith, amounts.0, it-is.amount, e.search.no_more at.node e.node_in e.settled.reached))
+              | inl q ↦
+                  rw q (omega (arith, amounts.0, it-is.amount, e.search.no_more at.node e.node_in e.settled.reached))
               | inr ne ↦ omega (arith, amounts.1 v ne, e.search.no_more v l (omega (arith, distances.1 v ne)))
             ];
           };
@@ -205,13 +276,18 @@ module _ (n : Arcs) (f : Flow) (t : SearchTree) (held : ℕ → Option ℕ) (at 
               let same = distances.1 (from n j c) q.0 in
               elim (look_next k d seen' next j c l look) [
                 | inl is ↦
-                    let there : distance t' (to n j c) ≡ o.distance = rw (is.0, is.1) (rw it-is.enters at distances.0) in
+                    let there : distance t' (to n j c) ≡ o.distance =
+                    rw (is.0, is.1) (rw it-is.enters at distances.0) in
                     let here : distance t (from n j c) ≡ at.distance = rw (is.0, is.1) start in
-                    let sum : o.distance + gives n (prices f) j c ≡ at.distance + takes n (prices f) j c = rw (is.0, is.1) it-is.exact in
+                    let sum : o.distance + gives n (prices f) j c ≡ at.distance + takes n (prices f) j c =
+                    rw (is.0, is.1) it-is.exact in
                     record { no_farther = omega arith; reached = omega (arith, near) }
                 | inr past ↦
                     let r = e.search.relaxed j c l residual_capacity q.1 past in
-                    record { no_farther = omega (arith, r.no_farther, distance_down (to n j c)); reached = omega (arith, r.reached, distance_down (to n j c)) }
+                    record {
+                      no_farther = omega (arith, r.no_farther, distance_down (to n j c));
+                      reached = omega (arith, r.reached, distance_down (to n j c));
+                    }
               ];
         }
 
@@ -244,6 +320,9 @@ module _ (n : Arcs) (f : Flow) (t : SearchTree) (held : ℕ → Option ℕ) (at 
       way_offered it = elim (cases_lt o.distance (distance t o.to)) [
         | inl less ↦ taken (it.took less) less
         | inr more ↦
-            let at-end : distance t (to n k d) ≡ distance t o.to = ap (λ m. slice_index t.distance.now m) (sym it-is.enters) in
-            rw ((it.kept more).0, (it.kept more).1) (kept k d seen' next (λ wide. record { no_farther = omega (arith, it-is.exact, start); reached = omega (arith, near) }))
+            let at-end : distance t (to n k d) ≡ distance t o.to =
+            ap (λ m. slice_index t.distance.now m) (sym it-is.enters) in
+            rw ((it.kept more).0, (it.kept more).1)
+            (kept k d seen' next
+            (λ wide. record { no_farther = omega (arith, it-is.exact, start); reached = omega (arith, near) }))
       ]

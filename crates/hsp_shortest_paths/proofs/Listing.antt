@@ -1,12 +1,14 @@
 -- The arcs of a node that a walk back along their chain has seen.
-use Rattle.std.proofs.Common.{◌≡◌, ℕ, ◌-◌, ◌<◌, ◌≤◌, ◌⊎◌, inl, inr, Bool, true, false, List, length, slice_index, refl, sym, ◌∙◌, arith}
+use Rattle.std.proofs.Common.{◌≡◌, ℕ, ◌-◌, ◌<◌, ◌≤◌, ◌⊎◌, inl, inr, Bool, true, false, List, length, slice_index, refl}
+use Rattle.std.proofs.Common.{sym, ◌∙◌, arith}
 use Rattle.std.proofs.lemmas.Bool.{cases_eq, cases_lt}
 use Rattle.hsp_shortest_paths.specs.Index.{IsLast}
 use Rattle.hsp_shortest_paths.specs.Residual.{Arcs, ends, from}
 use Rattle.hsp_shortest_paths.specs.Search.{Earlier, Looked}
 
 -- between an arc and the one before it in its chain there is no other
-pub next_in_chain : (ends : List ℕ) (v arc earlier k : ℕ) → slice_index ends arc ≡ v → IsLast ends (slice_index ends arc) arc earlier →
+pub next_in_chain : (ends : List ℕ) (v arc earlier k : ℕ) → slice_index ends arc ≡ v
+    → IsLast ends (slice_index ends arc) arc earlier →
     earlier ≤ k → slice_index ends k ≡ v → arc ≤ k
 next_in_chain ends v arc earlier k at is past here = elim (cases_lt k arc) [
   | inl less ↦ absurd (is.none_after k past less (here ∙ sym at))
@@ -19,7 +21,8 @@ Seen along last k d = Earlier along k d ⊎ ((d ≡ along) × (last ≤ k))
 
 -- an arc more
 pub seen_next : (n : Arcs) (v last earlier : ℕ) (along : Bool) → 0 < last → slice_index (ends n along) (last - 1) ≡ v →
-    IsLast (ends n along) (slice_index (ends n along) (last - 1)) (last - 1) earlier → (k : ℕ) (d : Bool) → from n k d ≡ v → Seen along earlier k d →
+    IsLast (ends n along) (slice_index (ends n along) (last - 1)) (last - 1) earlier → (k : ℕ) (d : Bool)
+    → from n k d ≡ v → Seen along earlier k d →
     ((k ≡ last - 1) × (d ≡ along)) ⊎ Seen along last k d
 seen_next n v last earlier along some at is k d here (inl old) = inr (inl old)
 seen_next n v last earlier along some at is k d here (inr new) =
@@ -30,7 +33,8 @@ seen_next n v last earlier along some at is k d here (inr new) =
     ]
 
 -- before the first, and behind the last
-pub seen_none : (n : Arcs) (v last : ℕ) (along : Bool) → IsLast (ends n along) v (length (ends n along)) last → (k : ℕ) (d : Bool) → k < length (ends n along) →
+pub seen_none : (n : Arcs) (v last : ℕ) (along : Bool) → IsLast (ends n along) v (length (ends n along)) last
+    → (k : ℕ) (d : Bool) → k < length (ends n along) →
     from n k d ≡ v → Seen along last k d → Earlier along k d
 seen_none n v last along is k d l here (inl old) = old
 seen_none n v last along is k d l here (inr new) = absurd (is.none_after k new.1 l (rw new.0 at here))

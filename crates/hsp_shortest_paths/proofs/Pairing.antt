@@ -1,5 +1,7 @@
 -- The pairs of a heap beside the keys of the nodes that are held.
-use Rattle.std.proofs.Common.{◌≡◌, ◌≢◌, ℕ, ◌<◌, ◌≤◌, inl, inr, Bool, true, false, List, [], ◌∷◌, length, Option, Some, None, refl, ap, sym, ◌∙◌, arith, eqb-true, eq-eqb, lt-ltb, slice_index_or, slice_set, IsSomeAnd, subst, get_or-set_same, get_or-set_other}
+use Rattle.std.proofs.Common.{◌≡◌, ◌≢◌, ℕ, ◌<◌, ◌≤◌, inl, inr, Bool, true, false, List, [], ◌∷◌, length, Option, Some}
+use Rattle.std.proofs.Common.{None, refl, ap, sym, ◌∙◌, arith, eqb-true, eq-eqb, lt-ltb, slice_index_or, slice_set}
+use Rattle.std.proofs.Common.{IsSomeAnd, subst, get_or-set_same, get_or-set_other}
 use Rattle.std.proofs.lemmas.Bool.{and_parts, and_from, or_cases, or_left, or_right, cases_eq, cases_lt}
 use Rattle.std.proofs.lemmas.List.{get_or_past}
 use Rattle.std.proofs.lemmas.List.Sorted.{list_any-IsPermutation}
@@ -15,7 +17,8 @@ use Rattle.hsp_shortest_paths.proofs.Searching.{cases_option}
 -- a pair of the node and key is one of the pairs still where another one left
 module _ (held : ℕ → Option ℕ) (xs : List (Reverse (ℕ × ℕ))) (paired : Pairs held xs) where
   -- a node's new key comes with a pair of its own
-  pub pairs_pushed : (pair : Reverse (ℕ × ℕ)) (ys : List (Reverse (ℕ × ℕ))) → IsPermutation (pair ∷ xs) ys → (held' : ℕ → Option ℕ) →
+  pub pairs_pushed : (pair : Reverse (ℕ × ℕ)) (ys : List (Reverse (ℕ × ℕ))) → IsPermutation (pair ∷ xs) ys
+      → (held' : ℕ → Option ℕ) →
       Changes held held' pair.0.1 (Some pair.0.0) → Pairs held' ys
   pairs_pushed pair ys same held' change = λ v key h.
       sym (list_any-IsPermutation (is_pair v key) (pair ∷ xs) ys same) ∙ elim (cases_eq v pair.0.1) [
@@ -29,11 +32,13 @@ module _ (held : ℕ → Option ℕ) (xs : List (Reverse (ℕ × ℕ))) (paired 
       ]
 
   -- a pair that is of no held node's key may go
-  pub pairs_popped : (pair : Reverse (ℕ × ℕ)) (ys : List (Reverse (ℕ × ℕ))) → IsPermutation xs (pair ∷ ys) → (held' : ℕ → Option ℕ) →
+  pub pairs_popped : (pair : Reverse (ℕ × ℕ)) (ys : List (Reverse (ℕ × ℕ))) → IsPermutation xs (pair ∷ ys)
+      → (held' : ℕ → Option ℕ) →
       ((v key : ℕ) → held' v ≡ Some key → (held v ≡ Some key) × (pair.0.0 ≡ key → pair.0.1 ≡ v → ⊥)) → Pairs held' ys
   pairs_popped pair ys same held' still = λ v key h.
       let s = still v key h in
-      elim (or_cases (is_pair v key pair) _ (sym (list_any-IsPermutation (is_pair v key) xs (pair ∷ ys) same) ∙ paired v key s.0)) [
+      elim (or_cases (is_pair v key pair) _
+      (sym (list_any-IsPermutation (is_pair v key) xs (pair ∷ ys) same) ∙ paired v key s.0)) [
         | inl this ↦ let parts = and_parts _ _ this in absurd (s.1 (eqb-true _ _ parts.0) (eqb-true _ _ parts.1))
         | inr other ↦ other
       ]
@@ -51,7 +56,8 @@ module _ (held : ℕ → Option ℕ) (xs : List (Reverse (ℕ × ℕ))) (paired 
 
 -- where no pair's node is held, none is
 pub all_forgotten : (held held' : ℕ → Option ℕ) (xs : List (Reverse (ℕ × ℕ))) → Pairs held xs →
-    ((v key : ℕ) → held' v ≡ Some key → held v ≡ Some key) → ((v key : ℕ) → list_any (is_pair v key) xs ≡ true → held' v ≡ None) → (v : ℕ) → held' v ≡ None
+    ((v key : ℕ) → held' v ≡ Some key → held v ≡ Some key)
+    → ((v key : ℕ) → list_any (is_pair v key) xs ≡ true → held' v ≡ None) → (v : ℕ) → held' v ≡ None
 all_forgotten held held' xs paired kept gone v = elim (cases_option (held' v)) [
   | inl none ↦ none
   | inr w ↦ gone v w.0 (paired v w.0 (kept v w.0 w.1))
@@ -67,7 +73,8 @@ not_after x y o h = elim (cases_lt y x) [
 ]
 
 -- no pair on the heap has a smaller key than its first
-pub first_is_least : (pair : Reverse (ℕ × ℕ)) (xs : List (Reverse (ℕ × ℕ))) → IsUpperBound later_pair pair xs → (v key : ℕ) →
+pub first_is_least : (pair : Reverse (ℕ × ℕ)) (xs : List (Reverse (ℕ × ℕ))) → IsUpperBound later_pair pair xs
+    → (v key : ℕ) →
     list_any (is_pair v key) xs ≡ true → pair.0.0 ≤ key
 first_is_least pair [] bound v key there = absurd cc
 first_is_least pair (x ∷ xs) bound v key there = elim (or_cases (is_pair v key x) _ there) [
@@ -94,7 +101,8 @@ held_in keys node key h = elim (cases_lt node (length keys)) [
 ]
 
 -- a node that lost its key
-pub still_held : (keys : List (Option ℕ)) (node v key : ℕ) → node < length keys → slice_index_or (slice_set keys node None) v None ≡ Some key →
+pub still_held : (keys : List (Option ℕ)) (node v key : ℕ) → node < length keys
+    → slice_index_or (slice_set keys node None) v None ≡ Some key →
     (slice_index_or keys v None ≡ Some key) × (v ≢ node)
 still_held keys node v key l h =
     let c = changes_set keys node None l in
@@ -103,7 +111,8 @@ still_held keys node v key l h =
       | inr ne ↦ (sym (c.others v ne) ∙ h, ne)
     ]
 
-pub lowered_in : (keys : List (Option ℕ)) (node key : ℕ) → IsSomeAnd (slice_index_or keys node None) (λ present. key ≤ present) → node < length keys
+pub lowered_in : (keys : List (Option ℕ)) (node key : ℕ)
+    → IsSomeAnd (slice_index_or keys node None) (λ present. key ≤ present) → node < length keys
 lowered_in keys node key h = elim (cases_lt node (length keys)) [
   | inl l ↦ l
   | inr past ↦

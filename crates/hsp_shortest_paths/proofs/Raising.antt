@@ -1,11 +1,13 @@
 -- Raised prices.
 use Rattle.std.proofs.Common.{◌≡◌, ℕ, ◌<◌, inl, inr, true, false, length, slice_index, ◌∙◌, arith}
 use Rattle.std.proofs.lemmas.Bool.{cases_lt}
-use Rattle.hsp_shortest_paths.specs.Residual.{AreOptimal, AreRelaxed, Flow, Arcs, SearchTree, Sound, distance, from, nodes, raised}
+use Rattle.hsp_shortest_paths.specs.Residual.{AreOptimal, AreRelaxed, Flow, Arcs, SearchTree, Sound, distance, from}
+use Rattle.hsp_shortest_paths.specs.Residual.{nodes, raised}
 use Rattle.hsp_shortest_paths.proofs.Directions.{gives_raised, takes_raised}
 
 -- after a search no reduced cost is negative under the raised prices
-module _ (n : Arcs) (f : Flow) (t : SearchTree) (sound : Sound n f (λ v. slice_index f.price.now v)) (relaxed : AreRelaxed n f t) where
+module _ (n : Arcs) (f : Flow) (t : SearchTree) (sound : Sound n f (λ v. slice_index f.price.now v))
+    (relaxed : AreRelaxed n f t) where
   paid_raised : AreOptimal n f (raised f t)
   paid_raised k d l wide =
       let g = gives_raised n f t k d in
@@ -37,9 +39,11 @@ sound_same n f f' price price' some sound flows residual_capacity excess same = 
 }
   where
     ends_same : (k : ℕ) → k < length n.tails.now →
-        (price' (slice_index n.tails.now k) ≡ price (slice_index n.tails.now k)) × (price' (slice_index n.heads.now k) ≡ price (slice_index n.heads.now k))
+        (price' (slice_index n.tails.now k) ≡ price (slice_index n.tails.now k))
+        × (price' (slice_index n.heads.now k) ≡ price (slice_index n.heads.now k))
     ends_same k l = (same _ (n.graph.tails_in k l), same _ (omega (arith, n.graph.tails_in k l, n.graph.down k l)))
 
     pays : AreOptimal n f' price'
-    pays k true l wide = omega (arith, sound.paid k true l (rw residual_capacity at wide), (ends_same k l).0, (ends_same k l).1)
+    pays k true l wide =
+        omega (arith, sound.paid k true l (rw residual_capacity at wide), (ends_same k l).0, (ends_same k l).1)
     pays k false l wide = omega (arith, sound.paid k false l (rw flows at wide), (ends_same k l).0, (ends_same k l).1)

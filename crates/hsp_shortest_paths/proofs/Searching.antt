@@ -1,5 +1,6 @@
 -- The steps of a search.
-use Rattle.std.proofs.Common.{◌≡◌, ◌≢◌, ℕ, ◌<◌, ◌≤◌, ◌⊎◌, inl, inr, Bool, List, length, slice_index, slice_set, Option, Some, None, refl, ap, sym, ◌∙◌, arith, get_or-set_same, get_or-set_other}
+use Rattle.std.proofs.Common.{◌≡◌, ◌≢◌, ℕ, ◌<◌, ◌≤◌, ◌⊎◌, inl, inr, Bool, List, length, slice_index, slice_set, Option}
+use Rattle.std.proofs.Common.{Some, None, refl, ap, sym, ◌∙◌, arith, get_or-set_same, get_or-set_other}
 use Rattle.std.proofs.lemmas.Bool.{cases_eq, cases_lt}
 use Rattle.hsp_shortest_paths.specs.Frontier.{Changes, IsLeast}
 use Rattle.hsp_shortest_paths.specs.Residual.{Flow, Arcs, SearchTree, distance, from, nodes, width}
@@ -10,9 +11,11 @@ cases_option None = inl refl
 cases_option (Some d) = inr (d, refl)
 
 -- at the start only the root is reached
-pub root_only : (n : Arcs) (t : SearchTree) (held : ℕ → Option ℕ) (root amount : ℕ) → Begun t held root amount → length t.distance.now ≡ nodes n →
+pub root_only : (n : Arcs) (t : SearchTree) (held : ℕ → Option ℕ) (root amount : ℕ) → Begun t held root amount
+    → length t.distance.now ≡ nodes n →
     (v : ℕ) → v < nodes n → distance t v < top → v ≡ root
-root_only n t held root amount b many v l near = elim (cases_eq v root) [ inl e ↦ e | inr ne ↦ absurd (omega (arith, b.distance_rest v (omega arith) ne)) ]
+root_only n t held root amount b many v l near =
+    elim (cases_eq v root) [ inl e ↦ e | inr ne ↦ absurd (omega (arith, b.distance_rest v (omega arith) ne)) ]
 
 -- a list with one entry changed
 pub changed : (xs ys : List ℕ) (i x : ℕ) → ys ≡ slice_set xs i x → i < length xs →
@@ -20,12 +23,15 @@ pub changed : (xs ys : List ℕ) (i x : ℕ) → ys ≡ slice_set xs i x → i <
 changed xs ys i x is l = (rw is (get_or-set_same xs i x 0 l), λ v ne. rw is (get_or-set_other xs i v x 0 ne))
 
 -- the same of fewer arcs
-pub fewer : (n : Arcs) (f : Flow) (t : SearchTree) (held : ℕ → Option ℕ) (root now : ℕ) (looked looked' : ℕ → Bool → Type 0) →
+pub fewer : (n : Arcs) (f : Flow) (t : SearchTree) (held : ℕ → Option ℕ) (root now : ℕ)
+    (looked looked' : ℕ → Bool → Type 0) →
     ((k : ℕ) (d : Bool) → k < length n.tails.now → 0 < width f k d → looked' k d → looked k d) →
     Search n f t held root now looked → Search n f t held root now looked'
-fewer n f t held root now looked looked' old s = record { labels = s.labels; relaxed = λ k d l wide st look. s.relaxed k d l wide st (old k d l wide look) }
+fewer n f t held root now looked looked' old s =
+    record { labels = s.labels; relaxed = λ k d l wide st look. s.relaxed k d l wide st (old k d l wide look) }
 
-module _ (n : Arcs) (f : Flow) (t : SearchTree) (held : ℕ → Option ℕ) (root now : ℕ) (s : Search n f t held root now (λ _ _. Unit {0})) where
+module _ (n : Arcs) (f : Flow) (t : SearchTree) (held : ℕ → Option ℕ) (root now : ℕ)
+    (s : Search n f t held root now (λ _ _. Unit {0})) where
   -- a node that is nearer than the least that is held is settled
   sooner : (node near v : ℕ) → IsLeast held node near → distance t v < near → Settled held t v
   sooner node near v least less = record {
@@ -50,7 +56,8 @@ module _ (n : Arcs) (f : Flow) (t : SearchTree) (held : ℕ → Option ℕ) (roo
         search = fewer n f t held root now _ _ (λ k d l wide none. tt) s;
         sink_in = s.held_in 0 near least.there;
         sink_near = omega arith;
-        relaxed = λ k d l wide less. (s.relaxed k d l wide (sooner 0 near (from n k d) least (omega arith)) tt).no_farther;
+        relaxed =
+            λ k d l wide less. (s.relaxed k d l wide (sooner 0 near (from n k d) least (omega arith)) tt).no_farther;
       }
 
   -- there is nothing left to settle
@@ -61,11 +68,13 @@ module _ (n : Arcs) (f : Flow) (t : SearchTree) (held : ℕ → Option ℕ) (roo
       | inl near ↦ absurd (s.sink_waits (record { not_held = none 0; reached = near }))
       | inr far ↦ far
     ];
-    out = λ k d l wide near. (s.relaxed k d l wide (record { not_held = none (from n k d); reached = near }) tt).reached;
+    out =
+        λ k d l wide near. (s.relaxed k d l wide (record { not_held = none (from n k d); reached = near }) tt).reached;
   }
 
   -- the least node is settled, and its arcs are to be looked at
-  pub taken : (node near : ℕ) (held' : ℕ → Option ℕ) → IsLeast held node near → Changes held held' node None → node ≢ 0 →
+  pub taken : (node near : ℕ) (held' : ℕ → Option ℕ) → IsLeast held node near → Changes held held' node None → node ≢ 0
+      →
       Search n f t held' root near (λ k d. from n k d ≡ node → ⊥)
   taken node near held' least change away = record {
     labels = record {

@@ -1,10 +1,12 @@
 -- The turns of a search, from its start to its end.
-use Rattle.std.proofs.Common.{◌≡◌, ◌≢◌, ℕ, ◌+◌, ◌*◌, ◌<◌, ◌≤◌, inl, inr, Bool, true, false, length, slice_index, Option, Some, None, if◌then◌else◌, refl, ap, sym, ◌∙◌, arith, add-mul, mul-le-mul_right}
+use Rattle.std.proofs.Common.{◌≡◌, ◌≢◌, ℕ, ◌+◌, ◌*◌, ◌<◌, ◌≤◌, inl, inr, Bool, true, false, length, slice_index, Option}
+use Rattle.std.proofs.Common.{Some, None, if◌then◌else◌, refl, ap, sym, ◌∙◌, arith, add-mul, mul-le-mul_right}
 use Rattle.std.proofs.lemmas.Bool.{cases_eq, cases_lt}
 use Rattle.std.proofs.lemmas.List.{get_or_past}
 use Rattle.hsp_shortest_paths.specs.Frontier.{Changes, IsLeast}
 use Rattle.hsp_shortest_paths.specs.Residual.{Flow, Arcs, SearchTree, distance, from, nodes}
-use Rattle.hsp_shortest_paths.specs.Search.{Begun, Covers, Expanding, Running, Settled, Visit, settled_count, settled_test, top}
+use Rattle.hsp_shortest_paths.specs.Search.{Begun, Covers, Expanding, Running, Settled, Visit, settled_count}
+use Rattle.hsp_shortest_paths.specs.Search.{settled_test, top}
 use Rattle.hsp_network.specs.Sums.{sum_below}
 use Rattle.hsp_shortest_paths.proofs.Sums.{sum_below_low, sum_below_lt}
 use Rattle.hsp_shortest_paths.proofs.Directions.{from_in}
@@ -12,12 +14,15 @@ use Rattle.hsp_shortest_paths.proofs.Searching.{fewer, taken, cases_option, root
 use Rattle.hsp_shortest_paths.proofs.Expansion.{still_counted, test_from_settled}
 
 -- every number on the way fits
-pub far_fits : (turn nodes longest_arc now near top : ℕ) → turn < nodes → now ≤ turn * longest_arc → near ≤ now + longest_arc → (nodes + 1) * longest_arc < top → near + longest_arc < top
+pub far_fits : (turn nodes longest_arc now near top : ℕ) → turn < nodes → now ≤ turn * longest_arc
+    → near ≤ now + longest_arc → (nodes + 1) * longest_arc < top → near + longest_arc < top
 far_fits turn nodes longest_arc now near top l early n small =
-    let a : (turn + 2) * longest_arc ≤ (nodes + 1) * longest_arc = let h : turn + 2 ≤ nodes + 1 = omega arith in mul-le-mul_right longest_arc h in
+    let a : (turn + 2) * longest_arc ≤ (nodes + 1) * longest_arc = let h : turn + 2 ≤ nodes + 1 = omega arith in
+    mul-le-mul_right longest_arc h in
     omega (arith, add-mul turn 2 longest_arc)
 
-pub begun : (n : Arcs) (f : Flow) (t : SearchTree) (held : ℕ → Option ℕ) (root : ℕ) → Covers n t → root < nodes n → root ≢ 0 →
+pub begun : (n : Arcs) (f : Flow) (t : SearchTree) (held : ℕ → Option ℕ) (root : ℕ) → Covers n t → root < nodes n
+    → root ≢ 0 →
     0 < slice_index f.excess.now root → Begun t held root (slice_index f.excess.now root) → Running n f t held root 0
 begun n f t held root covers root-in away pos b = record {
   now = 0;
@@ -63,63 +68,67 @@ begun n f t held root covers root-in away pos b = record {
     root-only : (v : ℕ) → v < nodes n → distance t v < top → v ≡ root
     root-only = root_only n t held root _ b covers.distances_many
 
-module _ (n : Arcs) (f : Flow) (t : SearchTree) (held : ℕ → Option ℕ) (root turn : ℕ) (r : Running n f t held root turn) where
-  pub next_near : (node near : ℕ) → IsLeast held node near → near ≤ r.now + n.longest_arc
-  next_near node near least =
-      let k : distance t node ≡ near = r.search.held_distance node near least.there in
-      let low : near < top = r.search.held_low node near least.there in
-      omega (arith, r.counted.distance_low node (r.search.held_in node near least.there) (omega arith))
+module _ (n : Arcs) (f : Flow) (t : SearchTree) (held : ℕ → Option ℕ) (root turn : ℕ) (r : Running n f t held root turn)
+  where
+    pub next_near : (node near : ℕ) → IsLeast held node near → near ≤ r.now + n.longest_arc
+    next_near node near least =
+        let k : distance t node ≡ near = r.search.held_distance node near least.there in
+        let low : near < top = r.search.held_low node near least.there in
+        omega (arith, r.counted.distance_low node (r.search.held_in node near least.there) (omega arith))
 
-  pub turned : (at : Visit) → at.root ≡ root → at.turn ≡ turn → (held' : ℕ → Option ℕ) → IsLeast held at.node at.distance → Changes held held' at.node None → at.node ≢ 0 →
-      Expanding n f t held' at (λ _ _. ⊥)
-  turned at is when held' least change away =
-      let s = r.search in
-      let here : distance t at.node ≡ at.distance = s.held_distance at.node at.distance least.there in
-      let low : at.distance < top = s.held_low at.node at.distance least.there in
-      let in' : at.node < nodes n = s.held_in at.node at.distance least.there in
-      let late : r.now ≤ at.distance = s.held_late at.node at.distance least.there in
-      let st : Settled held' t at.node = record { not_held = change.at; reached = omega arith } in
-      let still : (v : ℕ) → Settled held t v → Settled held' t v = λ v q.
-      let ne : v ≢ at.node = λ e. let a : held v ≡ held at.node = ap held e in let b = q.not_held in let c = least.there in cc in
-      record { not_held = change.others v ne ∙ q.not_held; reached = q.reached } in
-      let before : settled_test held t at.node ≡ false = rw least.there refl in
-      let after : settled_test held' t at.node ≡ true = test_from_settled held' t at.node st in
-      record {
-        search = rw is (taken n f t held root r.now s at.node at.distance held' least change away);
-        visit = record {
-          settled = st;
-          here = here;
-          node_in = in';
-          shallow = omega (arith, r.counted.depth_low at.node in' (omega arith));
-          counted = record {
-            settled =
-                let more : settled_count n held t < settled_count n held' t =
-                sum_below_lt (nodes n) _ _ at.node in' (rw (before, after) (omega arith))
-                (λ v l. still_counted held held' t t v (still v)) in
-                omega (arith, r.counted.settled);
-            depth_low = λ v l q. omega (arith, r.counted.depth_low v l q);
-            distance_low = λ v l q. omega (arith, r.counted.distance_low v l q);
+    pub turned : (at : Visit) → at.root ≡ root → at.turn ≡ turn → (held' : ℕ → Option ℕ)
+        → IsLeast held at.node at.distance → Changes held held' at.node None → at.node ≢ 0 →
+        Expanding n f t held' at (λ _ _. ⊥)
+    turned at is when held' least change away =
+        let s = r.search in
+        let here : distance t at.node ≡ at.distance = s.held_distance at.node at.distance least.there in
+        let low : at.distance < top = s.held_low at.node at.distance least.there in
+        let in' : at.node < nodes n = s.held_in at.node at.distance least.there in
+        let late : r.now ≤ at.distance = s.held_late at.node at.distance least.there in
+        let st : Settled held' t at.node = record { not_held = change.at; reached = omega arith } in
+        let still : (v : ℕ) → Settled held t v → Settled held' t v = λ v q.
+        let ne : v ≢ at.node = λ e. let a : held v ≡ held at.node = ap held e in let b = q.not_held in
+        let c = least.there in cc in
+        record { not_held = change.others v ne ∙ q.not_held; reached = q.reached } in
+        let before : settled_test held t at.node ≡ false = rw least.there refl in
+        let after : settled_test held' t at.node ≡ true = test_from_settled held' t at.node st in
+        record {
+          search = rw is (taken n f t held root r.now s at.node at.distance held' least change away);
+          visit = record {
+            settled = st;
+            here = here;
+            node_in = in';
+            shallow = omega (arith, r.counted.depth_low at.node in' (omega arith));
+            counted = record {
+              settled =
+                  let more : settled_count n held t < settled_count n held' t =
+                  sum_below_lt (nodes n) _ _ at.node in' (rw (before, after) (omega arith))
+                  (λ v l. still_counted held held' t t v (still v)) in
+                  omega (arith, r.counted.settled);
+              depth_low = λ v l q. omega (arith, r.counted.depth_low v l q);
+              distance_low = λ v l q. omega (arith, r.counted.distance_low v l q);
+            };
           };
-        };
-      }
+        }
 
-  -- once every node has had its turn, none is held
-  pub all_done : nodes n ≤ turn → (v : ℕ) → held v ≡ None
-  all_done many v = elim (cases_option (held v)) [
-    | inl none ↦ none
-    | inr w ↦
-        let l : v < nodes n = r.search.held_in v w.0 w.1 in
-        let less : settled_count n held t < sum_below (nodes n) (λ _. 1) =
-        sum_below_lt (nodes n) _ (λ _. 1) v l (rw w.1 (omega arith)) (λ k q. at-most-one (settled_test held t k)) in
-        absurd (omega (arith, r.counted.settled, sum_below_low (nodes n) (λ _. 1) 1 (λ k q. omega arith)))
-  ]
-    where
-      at-most-one : (t : Bool) → (if t then 1 else 0) ≤ 1
-      at-most-one true = omega arith
-      at-most-one false = omega arith
+    -- once every node has had its turn, none is held
+    pub all_done : nodes n ≤ turn → (v : ℕ) → held v ≡ None
+    all_done many v = elim (cases_option (held v)) [
+      | inl none ↦ none
+      | inr w ↦
+          let l : v < nodes n = r.search.held_in v w.0 w.1 in
+          let less : settled_count n held t < sum_below (nodes n) (λ _. 1) =
+          sum_below_lt (nodes n) _ (λ _. 1) v l (rw w.1 (omega arith)) (λ k q. at-most-one (settled_test held t k)) in
+          absurd (omega (arith, r.counted.settled, sum_below_low (nodes n) (λ _. 1) 1 (λ k q. omega arith)))
+    ]
+      where
+        at-most-one : (t : Bool) → (if t then 1 else 0) ≤ 1
+        at-most-one true = omega arith
+        at-most-one false = omega arith
 
 -- after a node's arcs were looked at
-pub went : (n : Arcs) (f : Flow) (t : SearchTree) (held : ℕ → Option ℕ) (at : Visit) (now : ℕ) → at.distance ≤ now + n.longest_arc → now ≤ at.turn * n.longest_arc →
+pub went : (n : Arcs) (f : Flow) (t : SearchTree) (held : ℕ → Option ℕ) (at : Visit) (now : ℕ)
+    → at.distance ≤ now + n.longest_arc → now ≤ at.turn * n.longest_arc →
     Expanding n f t held at (λ _ _. Unit {0}) → Running n f t held at.root (at.turn + 1)
 went n f t held at now near early e = record {
   now = at.distance;

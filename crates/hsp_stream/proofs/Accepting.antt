@@ -21,25 +21,31 @@ use Rattle.hsp_headline.proofs.Steps.{went_on}
 use Rattle.hsp_stream.specs.AnswerRun.{AnswersAs, EndsLog, HasCosts, Refuses, Run}
 use Rattle.hsp_stream.specs.Faults.{fault_of_input}
 
-pub has_costs : (inputs : Inputs) (octets : List ℕ) (accepted : Accepted) → IsAcceptedOf inputs octets (Ok accepted) → HasCosts inputs
+pub has_costs : (inputs : Inputs) (octets : List ℕ) (accepted : Accepted) → IsAcceptedOf inputs octets (Ok accepted)
+    → HasCosts inputs
 has_costs inputs octets accepted is =
-    let read = went_on (IsInstanceOf inputs) (λ instance. Then (IsCertificate octets) (IsAccepted instance)) accepted is in
+    let read =
+    went_on (IsInstanceOf inputs) (λ instance. Then (IsCertificate octets) (IsAccepted instance)) accepted is in
     let settings = went_on _ _ read.0 read.1 in
     let values = went_on _ _ read.0 settings.2 in
     let demand = went_on _ _ read.0 values.2 in
     let costs = went_on _ _ read.0 demand.2 in
     (costs.0, costs.1)
 
-pub plan_for : (it : Instance) (claim : Claim) (plan : Best) → plan_in claim ≡ Ok plan → IsValid (network_of it) claim → IsPlanFor it claim
+pub plan_for : (it : Instance) (claim : Claim) (plan : Best) → plan_in claim ≡ Ok plan → IsValid (network_of it) claim
+    → IsPlanFor it claim
 plan_for it (best c) plan kind valid = valid
 plan_for it (short c) plan kind valid = absurd (cc kind)
 
-pub by_plan : (portion : Portion) (costs : List CostEntry) (it : Instance) (claim : Claim) (plan : Best) (run : Run) → plan_in claim ≡ Ok plan
+pub by_plan : (portion : Portion) (costs : List CostEntry) (it : Instance) (claim : Claim) (plan : Best) (run : Run)
+    → plan_in claim ≡ Ok plan
     → EndsLog costs it (portion_of portion (plan_of claim)) run → AnswersAs portion costs it claim run
 by_plan portion costs it (best c) plan run kind ends = ends
 by_plan portion costs it (short c) plan run kind ends = absurd (cc kind)
 
-pub by_shortage : (portion : Portion) (costs : List CostEntry) (it : Instance) (claim : Claim) (fault : Fault) (run : Run) → plan_in claim ≡ Err fault
+pub by_shortage : (portion : Portion) (costs : List CostEntry) (it : Instance) (claim : Claim) (fault : Fault)
+    (run : Run) → plan_in claim ≡ Err fault
     → Refuses (fault_of_input fault) run → AnswersAs portion costs it claim run
 by_shortage portion costs it (best c) fault run kind refuses = absurd (cc kind)
-by_shortage portion costs it (short c) fault run kind refuses = let same : WrongKind ≡ fault = cc kind in rw (← same) at refuses
+by_shortage portion costs it (short c) fault run kind refuses =
+    let same : WrongKind ≡ fault = cc kind in rw (← same) at refuses

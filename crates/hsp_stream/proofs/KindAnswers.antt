@@ -1,5 +1,6 @@
 -- Queries, answered by the rows of their kinds.
-use Rattle.std.proofs.Common.{◌≡◌, ◌<◌, ◌+◌, ◌∙◌, true, false, ℕ, zero, suc, List, [], ◌∷◌, length, Option, None, Some, IfSome, arith, refl, sym, ap, add-zero}
+use Rattle.std.proofs.Common.{◌≡◌, ◌<◌, ◌+◌, ◌∙◌, true, false, ℕ, zero, suc, List, [], ◌∷◌, length, Option, None, Some}
+use Rattle.std.proofs.Common.{IfSome, arith, refl, sym, ap, add-zero}
 use Rattle.std.specs.Prelude.{position}
 use Rattle.std.specs.List.{IsDistinct, position_from, slice_get}
 use Rattle.std.specs.Str.{bytes_eq}
@@ -25,12 +26,14 @@ use Rattle.hsp_stream.specs.declared.row_refusal.RowRefusal.{RowRefusal}
 
 -- ---- the row of an entry
 
-pub keys_of : (region handle : List ℕ) (row : Row) → has_keys region handle row ≡ true → (region ≡ row.region) × (handle ≡ row.handle)
+pub keys_of : (region handle : List ℕ) (row : Row) → has_keys region handle row ≡ true
+    → (region ≡ row.region) × (handle ≡ row.handle)
 keys_of region handle row has =
     let both = and_parts (bytes_eq region row.region) (bytes_eq handle row.handle) has in
     ((bytes_decides region row.region).0 both.0, (bytes_decides handle row.handle).0 both.1)
 
-has_own : (region handle : List ℕ) (row : Row) → region ≡ row.region → handle ≡ row.handle → has_keys region handle row ≡ true
+has_own : (region handle : List ℕ) (row : Row) → region ≡ row.region → handle ≡ row.handle
+    → has_keys region handle row ≡ true
 has_own region handle row r h = rw ((bytes_decides region row.region).1 r, (bytes_decides handle row.handle).1 h) refl
 
 -- rows of other keys are passed over
@@ -44,22 +47,27 @@ own_from n (first ∷ rows) zero row distinct at =
     let same : first ≡ row = cc in
     rw (same, has_own row.region row.handle row refl refl, add-zero) refl
 own_from n (first ∷ rows) (suc k) row distinct at =
-    let other = all_at (λ (later : Row). same_keys first later ≡ false) rows k row (IsDistinct-head same_keys first rows distinct) at in
+    let other =
+    all_at (λ (later : Row). same_keys first later ≡ false) rows k row
+    (IsDistinct-head same_keys first rows distinct) at in
     let next : n + 1 + k ≡ n + suc k = omega arith in
-    rw (apart first row other) (own_from (n + 1) rows k row (IsDistinct-tail same_keys first rows distinct) at ∙ ap Some next)
+    rw (apart first row other)
+    (own_from (n + 1) rows k row (IsDistinct-tail same_keys first rows distinct) at ∙ ap Some next)
 
 -- a row's region and handle are no other row's
 own_row : (it : Instance) (k : ℕ) (row : Row) → IsInstance it → slice_get it.rows k ≡ Some row
     → row_of it (record { region = row.region; handle = row.handle }) ≡ Some k
 own_row it k row is at =
     let zero_then : 0 + k ≡ k = omega arith in
-    position_from-zero (has_keys row.region row.handle) it.rows ∙ own_from 0 it.rows k row is.rows.apart at ∙ ap Some zero_then
+    position_from-zero (has_keys row.region row.handle) it.rows ∙ own_from 0 it.rows k row is.rows.apart at
+    ∙ ap Some zero_then
 
 none : Row
 none = record { region = []; handle = []; count = 0 }
 
 -- the row of a query is there
-pub row_within : (costs : List CostEntry) (it : Instance) (region handle : List ℕ) (k : ℕ) → row_for costs it region handle ≡ Some k → k < length it.rows
+pub row_within : (costs : List CostEntry) (it : Instance) (region handle : List ℕ) (k : ℕ)
+    → row_for costs it region handle ≡ Some k → k < length it.rows
 row_within costs it region handle k found = by (position (has_keys region handle) it.rows) refl
   where
     by : (own : Option ℕ) → position (has_keys region handle) it.rows ≡ own → k < length it.rows
@@ -69,11 +77,13 @@ row_within costs it region handle k found = by (position (has_keys region handle
     by None e = (position-Some (is_of_kind costs it.sites region handle) it.rows k none (rw e at found)).0
 
 -- the entry of a query is of the row that is found
-pub entry_row : (costs : List CostEntry) (it : Instance) (entry : Entry) (k : ℕ) → IsInstance it → row_for costs it entry.region entry.handle ≡ Some k
+pub entry_row : (costs : List CostEntry) (it : Instance) (entry : Entry) (k : ℕ) → IsInstance it
+    → row_for costs it entry.region entry.handle ≡ Some k
     → row_of it (entry_for costs it entry) ≡ Some k
 entry_row costs it entry k is found =
     let row = there it.rows k (row_within costs it entry.region entry.handle k found) in
-    let same : entry_for costs it entry ≡ record { region = row.0.region; handle = row.0.handle } = rw (found, row.1) refl in
+    let same : entry_for costs it entry ≡ record { region = row.0.region; handle = row.0.handle } =
+    rw (found, row.1) refl in
     ap (row_of it) same ∙ own_row it k row.0 is row.1
 
 -- a query without a row is as it was, and of no row
@@ -90,14 +100,19 @@ no_entry costs it entry found = rw found (by (position (has_keys entry.region en
 abbrev pub kinds_held : Finding → Held → KindsHeld
 kinds_held finder held = record { costs = finder.costs; held = held }
 
-nothing_left : (kind_dispatcher : KindsHeld) → IsSame (left_of kind_dispatcher.held) (rest kind_dispatcher.held.instance (left_of kind_dispatcher.held) [])
+nothing_left : (kind_dispatcher : KindsHeld)
+    → IsSame (left_of kind_dispatcher.held) (rest kind_dispatcher.held.instance (left_of kind_dispatcher.held) [])
 nothing_left kind_dispatcher = rest_none kind_dispatcher.held.instance (left_of kind_dispatcher.held)
 
-pub refused_so : (kind_dispatcher : KindsHeld) (refusal : RowRefusal) → IsGiven kind_dispatcher (bad refusal) kind_dispatcher (given.Refused refusal)
-refused_so kind_dispatcher refusal = record { costs = refl; instance = refl; among = tt; said_is = refl; left = nothing_left kind_dispatcher }
+pub refused_so : (kind_dispatcher : KindsHeld) (refusal : RowRefusal)
+    → IsGiven kind_dispatcher (bad refusal) kind_dispatcher (given.Refused refusal)
+refused_so kind_dispatcher refusal =
+    record { costs = refl; instance = refl; among = tt; said_is = refl; left = nothing_left kind_dispatcher }
 
-pub unknown_so : (finder new_finder : Finding) (held : Held) (entry : Entry) → finder.it ≡ held.instance → new_finder ≡ finder
-    → row_found finder entry.region entry.handle ≡ None → IsGiven (kinds_held finder held) (query entry) (kinds_held new_finder held) given.Unknown
+pub unknown_so : (finder new_finder : Finding) (held : Held) (entry : Entry) → finder.it ≡ held.instance
+    → new_finder ≡ finder
+    → row_found finder entry.region entry.handle ≡ None
+    → IsGiven (kinds_held finder held) (query entry) (kinds_held new_finder held) given.Unknown
 unknown_so finder new_finder held entry same new found =
     let none = no_entry finder.costs held.instance entry (rw same at found) in
     record {
@@ -112,13 +127,16 @@ said_taken : (it : Instance) (taken : Option ℕ) → said_of it (given_of taken
 said_taken it None = refl
 said_taken it (Some server) = refl
 
-among_taken : (servers : ℕ) (taken : Option ℕ) → IfSome taken (λ server. server < servers) → IsAmong servers (given_of taken)
+among_taken : (servers : ℕ) (taken : Option ℕ) → IfSome taken (λ server. server < servers)
+    → IsAmong servers (given_of taken)
 among_taken servers None within = tt
 among_taken servers (Some server) within = within
 
-pub taken_so : (finder new_finder : Finding) (held new : Held) (entry : Entry) (k : ℕ) (taken : Option ℕ) → IsInstance held.instance → finder.it ≡ held.instance
+pub taken_so : (finder new_finder : Finding) (held new : Held) (entry : Entry) (k : ℕ) (taken : Option ℕ)
+    → IsInstance held.instance → finder.it ≡ held.instance
     → new_finder ≡ finder → row_found finder entry.region entry.handle ≡ Some k → new.instance ≡ held.instance
-    → taken_answer held.instance taken ≡ first_answer held k → IfSome taken (λ server. server < length held.instance.servers) → IsRestOf held k new
+    → taken_answer held.instance taken ≡ first_answer held k
+    → IfSome taken (λ server. server < length held.instance.servers) → IsRestOf held k new
     → IsGiven (kinds_held finder held) (query entry) (kinds_held new_finder new) (given_of taken)
 taken_so finder new_finder held new entry k taken is same same_finder found instance answer within left =
     let own = entry_row finder.costs held.instance entry k is (rw same at found) in
@@ -126,6 +144,8 @@ taken_so finder new_finder held new entry k taken is same same_finder found inst
       costs = ap (λ (f : Finding). f.costs) same_finder;
       instance = instance;
       among = among_taken (length held.instance.servers) taken within;
-      said_is = said_taken held.instance taken ∙ ap answered (answer ∙ sym (ap (answer_in held.instance (left_of held) []) own));
+      said_is =
+          said_taken held.instance taken
+          ∙ ap answered (answer ∙ sym (ap (answer_in held.instance (left_of held) []) own));
       left = left (entry_for finder.costs held.instance entry) own;
     }

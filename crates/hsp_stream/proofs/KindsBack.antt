@@ -1,5 +1,6 @@
 -- A printed table is read back as the table.
-use Rattle.std.proofs.Common.{◌≡◌, ◌∙◌, ◌+◌, ◌<◌, ◌≤◌, nat_le, ℕ, zero, suc, true, false, cond, List, [], ◌∷◌, ◌++◌, Ok, codes, length, length-append, map, refl, ap, add-one, arith}
+use Rattle.std.proofs.Common.{◌≡◌, ◌∙◌, ◌+◌, ◌<◌, ◌≤◌, nat_le, ℕ, zero, suc, true, false, cond, List, [], ◌∷◌, ◌++◌, Ok}
+use Rattle.std.proofs.Common.{codes, length, length-append, map, refl, ap, add-one, arith}
 use Rattle.std.proofs.lemmas.Bool.{le-leb}
 use Rattle.std.proofs.lemmas.List.{length-map}
 use Rattle.std.specs.Cmp.Lexicographic.{bytes_decides}
@@ -27,21 +28,27 @@ use Rattle.hsp_stream.specs.KindsTable.{fields_of_row, lines_of, records_of_rows
 -- ---- records
 
 at_least_one : (fields : Fields) (tail : List ℕ) → length tail + 1 ≤ length (row_text default_writer fields ++ tail)
-at_least_one fields tail = one_more (row_body default_writer fields) (cond (is_blank default_writer fields) (34 ∷ 34 ∷ []) []) tail
+at_least_one fields tail =
+    one_more (row_body default_writer fields) (cond (is_blank default_writer fields) (34 ∷ 34 ∷ []) []) tail
   where
     one_more : (a b tail : List ℕ) → length tail + 1 ≤ length ((a ++ (b ++ 10 ∷ [])) ++ tail)
-    one_more a b tail = omega (arith, length-append (a ++ (b ++ 10 ∷ [])) tail, length-append a (b ++ 10 ∷ []), length-append b (10 ∷ []))
+    one_more a b tail =
+        omega
+        (arith, length-append (a ++ (b ++ 10 ∷ [])) tail, length-append a (b ++ 10 ∷ []), length-append b (10 ∷ []))
 
-lines_back : (rows : List Row) (fuel : ℕ) → length rows < fuel → records_from default_config fuel st.StartRecord (lines_of (records_of_rows rows)) ≡ records_of_rows rows
+lines_back : (rows : List Row) (fuel : ℕ) → length rows < fuel
+    → records_from default_config fuel st.StartRecord (lines_of (records_of_rows rows)) ≡ records_of_rows rows
 unfolding records_from next_record
 lines_back rows zero less = absurd (omega arith)
 lines_back [] (suc fuel) less = refl
 lines_back (row ∷ rows) (suc fuel) less =
-    rw (read-write (fields_of_row row) (lines_of (records_of_rows rows))) (ap (λ t. fields_of_row row ∷ t) (lines_back rows fuel (omega arith)))
+    rw (read-write (fields_of_row row) (lines_of (records_of_rows rows)))
+    (ap (λ t. fields_of_row row ∷ t) (lines_back rows fuel (omega arith)))
 
 lines_long : (rows : List Row) → length rows ≤ length (lines_of (records_of_rows rows))
 lines_long [] = omega arith
-lines_long (row ∷ rows) = omega (arith, at_least_one (fields_of_row row) (lines_of (records_of_rows rows)), lines_long rows)
+lines_long (row ∷ rows) =
+    omega (arith, at_least_one (fields_of_row row) (lines_of (records_of_rows rows)), lines_long rows)
 
 abbrev header : Fields
 header = codes "region" ∷ codes "handle" ∷ codes "count" ∷ []
@@ -57,8 +64,11 @@ records_back rows =
     ap (records default_config) (no_mark (lines_of (records_of_rows rows)))
     ∙ back (length (table_text rows)) (at_least_one header (lines_of (records_of_rows rows)))
   where
-    back : (n : ℕ) → length (lines_of (records_of_rows rows)) + 1 ≤ n → records_from default_config (n + 1) st.StartRecord (table_text rows) ≡ header ∷ records_of_rows rows
-    back n long = rw (add-one, read-write header (lines_of (records_of_rows rows))) (ap (λ t. header ∷ t) (lines_back rows n (omega (arith, lines_long rows))))
+    back : (n : ℕ) → length (lines_of (records_of_rows rows)) + 1 ≤ n
+        → records_from default_config (n + 1) st.StartRecord (table_text rows) ≡ header ∷ records_of_rows rows
+    back n long =
+        rw (add-one, read-write header (lines_of (records_of_rows rows)))
+        (ap (λ t. header ∷ t) (lines_back rows n (omega (arith, lines_long rows))))
 
 -- ---- rows
 
@@ -75,7 +85,8 @@ module _ (digits : DigitsSpellTheirNumber) where
   row_back : (n : ℕ) (row : Row) → IsNamed row → IsCounted row → demand_in n (fields_of_row row) ≡ Ok (entry_of row)
   row_back n row named few = rw (named.region, named.handle, count_back row.count few) refl
 
-  rows_back : (n : ℕ) (rows : List Row) → AllByRecursion IsNamed rows → AllByRecursion IsCounted rows → SpellRows demand_table n (records_of_rows rows) (map entry_of rows)
+  rows_back : (n : ℕ) (rows : List Row) → AllByRecursion IsNamed rows → AllByRecursion IsCounted rows
+      → SpellRows demand_table n (records_of_rows rows) (map entry_of rows)
   rows_back n [] named few = tt
   rows_back n (row ∷ rows) named few = (row_back n row named.0 few.0, rows_back (n + 1) rows named.1 few.1)
 
@@ -86,17 +97,20 @@ module _ (costs : List CostEntry) (sites : List Site) where
       let own = places_at (sites_for costs sites a.region) in
       grind (arith, bytes_decides a.handle b.handle, bytes_decides (own a.handle) (own b.handle))
 
-  names_apart : (row : Row) (rows : List Row) → AllByRecursion (λ y. is_same_kind costs sites row y ≡ false) rows → AllByRecursion (λ y. same_demand (entry_of row) y ≡ false) (map entry_of rows)
+  names_apart : (row : Row) (rows : List Row) → AllByRecursion (λ y. is_same_kind costs sites row y ≡ false) rows
+      → AllByRecursion (λ y. same_demand (entry_of row) y ≡ false) (map entry_of rows)
   names_apart row [] all = tt
   names_apart row (other ∷ rows) all = (two_names row other all.0, names_apart row rows all.1)
 
-  all_apart : (rows : List Row) → IsDistinct (is_same_kind costs sites) rows → IsDistinct same_demand (map entry_of rows)
+  all_apart : (rows : List Row) → IsDistinct (is_same_kind costs sites) rows
+      → IsDistinct same_demand (map entry_of rows)
   unfolding IsDistinct
   all_apart [] apart = tt
   all_apart (row ∷ rows) apart = (names_apart row rows apart.0, all_apart rows apart.1)
 
   -- the text of a table of kinds is read as the table
-  pub table_back : DigitsSpellTheirNumber → ReadsAsItsRelation demand_table → (rows : List Row) → IsKindTable costs sites rows → AllByRecursion IsCounted rows
+  pub table_back : DigitsSpellTheirNumber → ReadsAsItsRelation demand_table → (rows : List Row)
+      → IsKindTable costs sites rows → AllByRecursion IsCounted rows
       → tables.table_of demand_table (records_of (table_text rows)) ≡ Ok (map entry_of rows)
   table_back digits reads rows are few =
       rw (records_back rows) ((reads.rows (header ∷ records_of_rows rows) (map entry_of rows)).1 (record {

@@ -9,10 +9,12 @@ use Rattle.hsp_stream.specs.declared.kinds_log.CountForm.TheVariants.{Counts, On
 
 -- ---- fields
 
-pub ones_are : (fields : Fields) (a b : List ℕ) → fields ≡ a ∷ b ∷ [] → Some (record { region = a; handle = b; count = None }) ≡ parts_in Ones fields
+pub ones_are : (fields : Fields) (a b : List ℕ) → fields ≡ a ∷ b ∷ []
+    → Some (record { region = a; handle = b; count = None }) ≡ parts_in Ones fields
 ones_are fields a b e = rw e refl
 
-pub counts_are : (fields : Fields) (a b c : List ℕ) → fields ≡ a ∷ b ∷ c ∷ [] → Some (record { region = a; handle = b; count = Some c }) ≡ parts_in Counts fields
+pub counts_are : (fields : Fields) (a b c : List ℕ) → fields ≡ a ∷ b ∷ c ∷ []
+    → Some (record { region = a; handle = b; count = Some c }) ≡ parts_in Counts fields
 counts_are fields a b c e = rw e refl
 
 pub no_ones : (fields : Fields) → length fields ≢ 2 → ◌≡◌ {A = Option Parts} None (parts_in Ones fields)
@@ -34,6 +36,8 @@ pub ruleset ones = (ones_are, no_ones)
 pub ruleset counts = (counts_are, no_counts)
 
 -- a row more
-module _ (costs : List CostEntry) (sites : List Site) (form : CountForm) (row : ℕ) (table next : List Row) (fields : Fields) (more : List Fields) where
-  pub row_more : with_record costs sites form row table fields ≡ Ok next → rows_from costs sites form row table (fields ∷ more) ≡ rows_from costs sites form (row + 1) next more
+module _ (costs : List CostEntry) (sites : List Site) (form : CountForm) (row : ℕ) (table next : List Row)
+    (fields : Fields) (more : List Fields) where
+  pub row_more : with_record costs sites form row table fields ≡ Ok next
+      → rows_from costs sites form row table (fields ∷ more) ≡ rows_from costs sites form (row + 1) next more
   row_more is = rw is refl

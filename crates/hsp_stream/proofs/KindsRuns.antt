@@ -17,10 +17,12 @@ module _ (inputs : KindsInputs) (word : Option (List ℕ)) (records : List Field
   unit_stops fault is = (Err fault, sym is, refl)
 
   -- a file is at fault
-  pub files_stop : (unit : ℕ) (fault : Fault) → unit_at word ≡ Ok unit → AreFilesIn inputs (Err fault) → IsKindsText inputs word records (Err (fault_of_input fault))
+  pub files_stop : (unit : ℕ) (fault : Fault) → unit_at word ≡ Ok unit → AreFilesIn inputs (Err fault)
+      → IsKindsText inputs word records (Err (fault_of_input fault))
   files_stop unit fault is files = (Ok unit, sym is, (Err (fault_of_input fault), (Err fault, files, refl), refl))
 
   -- the log has a table, or is at fault
-  pub text_is : (unit : ℕ) (files : Files) (answer : Result (List ℕ) StreamFault) → unit_at word ≡ Ok unit → AreFilesIn inputs (Ok files) → kinds_text files.costs files.sites unit records ≡ answer
+  pub text_is : (unit : ℕ) (files : Files) (answer : Result (List ℕ) StreamFault) → unit_at word ≡ Ok unit
+      → AreFilesIn inputs (Ok files) → kinds_text files.costs files.sites unit records ≡ answer
       → IsKindsText inputs word records answer
   text_is unit files answer is of text = (Ok unit, sym is, (Ok files, (Ok files, of, refl), sym text))

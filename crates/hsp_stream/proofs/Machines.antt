@@ -17,14 +17,20 @@ use Rattle.hsp_stream.specs.Asking.{Asked}
 use Rattle.hsp_stream.specs.KindAnswers.{entries_in}
 
 -- the portions of all fronts add up to the number in units
-portions_add_up : (unit fronts number : ℕ) → 0 < fronts → sum_below fronts (λ front. part_of (portion_at_front unit fronts front) number) ≡ unit * number
+portions_add_up : (unit fronts number : ℕ) → 0 < fronts
+    → sum_below fronts (λ front. part_of (portion_at_front unit fronts front) number) ≡ unit * number
 portions_add_up unit fronts number some =
-    sym (sum_below_times fronts unit (λ front. share fronts front number)) ∙ ap (λ n. unit * n) (shares_add_up fronts number some)
+    sym (sum_below_times fronts unit (λ front. share fronts front number))
+    ∙ ap (λ n. unit * n) (shares_add_up fronts number some)
 
 pub machines_keep_within : MachinesKeepWithin
 machines_keep_within costs it x unit fronts asked row site some =
     let each =
-    sum_below_le fronts (λ front. assigned_in it (portion_of (portion_at_front unit fronts front) x) (entries_in costs it (asked front)) row site)
+    sum_below_le fronts
+    (λ front.
+    assigned_in it (portion_of (portion_at_front unit fronts front) x) (entries_in costs it (asked front)) row site)
     (λ front. part_of (portion_at_front unit fronts front) (x row site))
-    (λ front inside. never_exceeds it (portion_of (portion_at_front unit fronts front) x) (entries_in costs it (asked front)) row site) in
+    (λ front inside.
+    never_exceeds it (portion_of (portion_at_front unit fronts front) x) (entries_in costs it (asked front)) row
+    site) in
     omega (arith, each, portions_add_up unit fronts (x row site) some)

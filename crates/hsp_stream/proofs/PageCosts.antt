@@ -19,7 +19,8 @@ one_number : (a b : ℕ) → a ≤ GREATEST_COST → b ≤ GREATEST_COST → dec
 one_number a b few_a few_b e =
     let one = whole_is_read GREATEST_COST a (omega arith) few_a in
     let other = whole_is_read GREATEST_COST b (omega arith) few_b in
-    let both : ◌≡◌ {A = Result ℕ WholeFault} (Ok a) (Ok b) = sym one ∙ ap (λ w. whole_within GREATEST_COST w) e ∙ other in
+    let both : ◌≡◌ {A = Result ℕ WholeFault} (Ok a) (Ok b) =
+    sym one ∙ ap (λ w. whole_within GREATEST_COST w) e ∙ other in
     cc (both)
 
 one_cost : (a b : CostEntry) → a.cost ≤ GREATEST_COST → b.cost ≤ GREATEST_COST → cost_fields a ≡ cost_fields b → a ≡ b
@@ -28,10 +29,12 @@ one_cost a b few_a few_b e =
     let site : a.site ≡ b.site = cc (e) in
     let digits : decimal a.cost ≡ decimal b.cost = cc (e) in
     let cost = one_number a.cost b.cost few_a few_b digits in
-    let same : ◌≡◌ {A = CostEntry} (record { region = a.region; site = a.site; cost = a.cost }) (record { region = b.region; site = b.site; cost = b.cost }) = cc (region, site, cost) in
+    let same : ◌≡◌ {A = CostEntry} (record { region = a.region; site = a.site; cost = a.cost })
+    (record { region = b.region; site = b.site; cost = b.cost }) = cc (region, site, cost) in
     same
 
-one_table : (sites : List Site) (a b : List CostEntry) → AllByRecursion IsCostEntry a → AllByRecursion (IsCost sites) b → map cost_fields a ≡ map cost_fields b → a ≡ b
+one_table : (sites : List Site) (a b : List CostEntry) → AllByRecursion IsCostEntry a → AllByRecursion (IsCost sites) b
+    → map cost_fields a ≡ map cost_fields b → a ≡ b
 one_table sites [] [] all_a all_b e = refl
 one_table sites [] (d ∷ b) all_a all_b e = cc (e)
 one_table sites (c ∷ a) [] all_a all_b e = cc (e)
@@ -43,7 +46,8 @@ one_table sites (c ∷ a) (d ∷ b) all_a all_b e =
     let rest = one_table sites a b all_a.1 all_b.1 there in
     cc (first, rest)
 
-pub costs_of_page : (inputs : Inputs) (it : Instance) (costs : List CostEntry) → Defines inputs it → ReadsCosts inputs.costs.items (Ok costs) → AreCosts it.sites inputs.costs.items costs
+pub costs_of_page : (inputs : Inputs) (it : Instance) (costs : List CostEntry) → Defines inputs it
+    → ReadsCosts inputs.costs.items (Ok costs) → AreCosts it.sites inputs.costs.items costs
 costs_of_page inputs it costs page is =
     let read = (table_rows.costs_are (records_of inputs.costs.items) costs).0 (stated_well Costs _ costs is) in
     let both = sym read.0 ∙ page.are_costs.0.records in

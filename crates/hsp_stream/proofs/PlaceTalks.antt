@@ -12,24 +12,34 @@ use Rattle.hsp_stream.specs.declared.fault.RowFault.TheVariants as row
 
 module _ (sites : List Site) (first last : PlacesState) (start : first ≡ at_start sites) where
   -- all rows were answered after a header
-  pub all_answered : (old new : Known) → is_some last.form ≡ true → Went old new (HeldToTheEnd TakesHandle first last) → Went old new (AreAnswered sites)
-  all_answered old new has (events, goes, so) = (events, goes, (last, subst (λ f. HeldToTheEnd TakesHandle f last events) start so, has))
+  pub all_answered : (old new : Known) → is_some last.form ≡ true → Went old new (HeldToTheEnd TakesHandle first last)
+      → Went old new (AreAnswered sites)
+  all_answered old new has (events, goes, so) =
+      (events, goes, (last, subst (λ f. HeldToTheEnd TakesHandle f last events) start so, has))
 
   -- no header came
-  pub no_header : (old new : Known) → is_some last.form ≡ false → Went old new (HeldToTheEnd TakesHandle first last) → Went old new (IsStoppedBy sites row.Header)
-  no_header old new none (events, goes, so) = (events, goes, inr (last, subst (λ f. HeldToTheEnd TakesHandle f last events) start so, none))
+  pub no_header : (old new : Known) → is_some last.form ≡ false → Went old new (HeldToTheEnd TakesHandle first last)
+      → Went old new (IsStoppedBy sites row.Header)
+  no_header old new none (events, goes, so) =
+      (events, goes, inr (last, subst (λ f. HeldToTheEnd TakesHandle f last events) start so, none))
 
   -- the talk stopped
-  pub has_stopped : (old new : Known) (found by : Stop RowFault) (Q : List Event → Type 0) → found ≡ by → ((events : List Event) → HasStopped sites by events → Q events)
+  pub has_stopped : (old new : Known) (found by : Stop RowFault) (Q : List Event → Type 0) → found ≡ by
+      → ((events : List Event) → HasStopped sites by events → Q events)
       → Went old new (λ events. StoppedBy TakesHandle RefusesHandle first last events found) → Went old new Q
   has_stopped old new found by Q is shows (events, goes, so) = (
     events,
     goes,
-    shows events (last, subst (λ s. StoppedBy TakesHandle RefusesHandle (at_start sites) last events s) is (subst (λ f. StoppedBy TakesHandle RefusesHandle f last events found) start so)),
+    shows events (
+      last,
+      subst (λ s. StoppedBy TakesHandle RefusesHandle (at_start sites) last events s) is
+          (subst (λ f. StoppedBy TakesHandle RefusesHandle f last events found) start so),
+    ),
   )
 
 -- a row was refused by a fault
-pub by_fault : (sites : List Site) (fault : RowFault) (events : List Event) → HasStopped sites (stop.Fault fault) events → IsStoppedBy sites fault events
+pub by_fault : (sites : List Site) (fault : RowFault) (events : List Event) → HasStopped sites (stop.Fault fault) events
+    → IsStoppedBy sites fault events
 by_fault sites row.ReadFailed events so = inr so
 by_fault sites row.WriteFailed events so = inr so
 by_fault sites row.Header events so = inl so

@@ -1,12 +1,14 @@
 -- Rows that were answered in turn.
-use Rattle.std.proofs.Common.{◌≡◌, ◌≢◌, ◌+◌, ◌∙◌, ◌++◌, Bool, ℕ, suc, List, [], ◌∷◌, length, map, Option, None, Some, count_by, arith, refl, sym, ap, cond, append_assoc, append-nil}
+use Rattle.std.proofs.Common.{◌≡◌, ◌≢◌, ◌+◌, ◌∙◌, ◌++◌, Bool, ℕ, suc, List, [], ◌∷◌, length, map, Option, None, Some}
+use Rattle.std.proofs.Common.{count_by, arith, refl, sym, ap, cond, append_assoc, append-nil}
 use Rattle.std.specs.List.{slice_get}
 use Rattle.std.proofs.lemmas.List.{map_push}
 use Rattle.std.proofs.lemmas.List.Sums.{sum_by_push}
 use Rattle.hsp_tables.specs.Costs.{CostEntry}
 use Rattle.hsp_instance.specs.Instance.{Instance, Server}
 use Rattle.hsp_check.specs.Plan.{Plan}
-use Rattle.hsp_dispatch.specs.Dispatch.{Entry, IsSame, answer_to, answers, answers_after, is_assigned, is_spent, is_unknown, rest}
+use Rattle.hsp_dispatch.specs.Dispatch.{Entry, IsSame, answer_to, answers, answers_after, is_assigned, is_spent}
+use Rattle.hsp_dispatch.specs.Dispatch.{is_unknown, rest}
 use Rattle.hsp_dispatch.specs.Lines.{served_by}
 use Rattle.hsp_dispatch.specs.Shares.{Held, left_of}
 use Rattle.hsp_dispatch.specs.declared.answer.Answer.{Answer}
@@ -18,17 +20,20 @@ use Rattle.hsp_talk.specs.Talk.{AreTaken}
 use Rattle.hsp_stream.specs.Asking.{AreAsked, Asked, AsksAt}
 use Rattle.hsp_stream.specs.Asking.Asked.{bad, nothing, query}
 use Rattle.hsp_tally.specs.Tally.{capped}
-use Rattle.hsp_stream.specs.Saying.{IsAmong, Said, is_answered, is_refused, none_said, said, said_line, said_of, sums_said, with_given}
+use Rattle.hsp_stream.specs.Saying.{IsAmong, Said, is_answered, is_refused, none_said, said, said_line, said_of}
+use Rattle.hsp_stream.specs.Saying.{sums_said, with_given}
 use Rattle.hsp_tally.specs.Tally.{capped}
 use Rattle.hsp_stream.specs.Saying.Said.{answered}
-use Rattle.hsp_stream.specs.KindAnswers.{Answering, AreAnswered, IsGiven, TakesRow, KindsHeld, entries_in, entry_for, said_by}
+use Rattle.hsp_stream.specs.KindAnswers.{Answering, AreAnswered, IsGiven, TakesRow, KindsHeld, entries_in, entry_for}
+use Rattle.hsp_stream.specs.KindAnswers.{said_by}
 use Rattle.hsp_stream.specs.declared.given.Given.{Given}
 use Rattle.hsp_stream.specs.declared.given.Given.TheVariants as given
 use Rattle.hsp_stream.specs.declared.given.StreamSums.{StreamSums}
 
 -- ---- what rows ask
 
-asked_more : (first middle last : Option Form) (rows : List (List ℕ)) (asked : List Asked) (row : List ℕ) (one : Asked) → AreAsked first rows asked middle
+asked_more : (first middle last : Option Form) (rows : List (List ℕ)) (asked : List Asked) (row : List ℕ) (one : Asked)
+    → AreAsked first rows asked middle
     → AsksAt middle row one last → AreAsked first (rows ++ row ∷ []) (asked ++ one ∷ []) last
 asked_more first middle last [] [] row one are asks = (last, subst_first are, refl)
   where
@@ -36,20 +41,24 @@ asked_more first middle last [] [] row one are asks = (last, subst_first are, re
     subst_first same = rw same at asks
 asked_more first middle last [] (a ∷ asked) row one are asks = absurd are
 asked_more first middle last (r ∷ rows) [] row one are asks = absurd are
-asked_more first middle last (r ∷ rows) (a ∷ asked) row one are asks = (are.0, are.1, asked_more are.0 middle last rows asked row one are.2 asks)
+asked_more first middle last (r ∷ rows) (a ∷ asked) row one are asks =
+    (are.0, are.1, asked_more are.0 middle last rows asked row one are.2 asks)
 
 -- ---- their entries
 
-entries_then : (costs : List CostEntry) (it : Instance) (asked more : List Asked) → entries_in costs it (asked ++ more) ≡ entries_in costs it asked ++ entries_in costs it more
+entries_then : (costs : List CostEntry) (it : Instance) (asked more : List Asked)
+    → entries_in costs it (asked ++ more) ≡ entries_in costs it asked ++ entries_in costs it more
 entries_then costs it [] more = refl
 entries_then costs it (nothing ∷ asked) more = entries_then costs it asked more
-entries_then costs it (query entry ∷ asked) more = ap (λ (es : List Entry). entry_for costs it entry ∷ es) (entries_then costs it asked more)
+entries_then costs it (query entry ∷ asked) more =
+    ap (λ (es : List Entry). entry_for costs it entry ∷ es) (entries_then costs it asked more)
 entries_then costs it (bad refusal ∷ asked) more = entries_then costs it asked more
 
 -- ---- what is said
 
 -- there is an answer for each query
-as_many : (it : Instance) (x : Plan) (earlier entries : List Entry) → length (answers_after it x earlier entries) ≡ length entries
+as_many : (it : Instance) (x : Plan) (earlier entries : List Entry)
+    → length (answers_after it x earlier entries) ≡ length entries
 unfolding answers_after
 as_many it x earlier [] = refl
 as_many it x earlier (entry ∷ entries) = ap suc (as_many it x (earlier ++ entry ∷ []) entries)
@@ -63,7 +72,8 @@ said_then costs it [] (a ∷ given) more one many = absurd (omega arith)
 said_then costs it (nothing ∷ asked) given more one many = rw (said_then costs it asked given more one many) refl
 said_then costs it (bad refusal ∷ asked) given more one many = rw (said_then costs it asked given more one many) refl
 said_then costs it (query e ∷ asked) [] more one many = absurd (omega arith)
-said_then costs it (query e ∷ asked) (a ∷ given) more one many = rw (said_then costs it asked given more one (omega arith)) refl
+said_then costs it (query e ∷ asked) (a ∷ given) more one many =
+    rw (said_then costs it asked given more one (omega arith)) refl
 
 -- all that is said by a plan
 abbrev pub all_said : List CostEntry → Instance → Plan → List Asked → List Said
@@ -72,7 +82,8 @@ all_said costs it x asked = said asked (answers it x (entries_in costs it asked)
 -- what is said to one row more, where earlier rows left `held` of the plan
 said_one : (costs : List CostEntry) (x : Plan) (held : Held) (entries : List Entry) (one : Asked)
     → IsSame (left_of held) (rest held.instance x entries)
-    → said (one ∷ []) (answers_after held.instance x entries (entries_in costs held.instance (one ∷ []))) ≡ said_by (record { costs = costs; held = held }) one ∷ []
+    → said (one ∷ []) (answers_after held.instance x entries (entries_in costs held.instance (one ∷ [])))
+    ≡ said_by (record { costs = costs; held = held }) one ∷ []
 unfolding answers_after
 said_one costs x held entries nothing left = refl
 said_one costs x held entries (bad refusal) left = refl
@@ -82,7 +93,8 @@ said_one costs x held entries (query entry) left =
 
 said_more : (costs : List CostEntry) (x : Plan) (held : Held) (asked : List Asked) (one : Asked)
     → IsSame (left_of held) (rest held.instance x (entries_in costs held.instance asked))
-    → all_said costs held.instance x (asked ++ one ∷ []) ≡ all_said costs held.instance x asked ++ said_by (record { costs = costs; held = held }) one ∷ []
+    → all_said costs held.instance x (asked ++ one ∷ []) ≡ all_said costs held.instance x asked
+    ++ said_by (record { costs = costs; held = held }) one ∷ []
 unfolding answers_after
 said_more costs x held asked one left =
     let it = held.instance in
@@ -95,7 +107,8 @@ said_more costs x held asked one left =
 
 -- ---- sums
 
-counted_more : (kind : Said → Bool) (all : List Said) (one : Said) → count_by kind (all ++ one ∷ []) ≡ count_by kind all + cond (kind one) 1 0
+counted_more : (kind : Said → Bool) (all : List Said) (one : Said)
+    → count_by kind (all ++ one ∷ []) ≡ count_by kind all + cond (kind one) 1 0
 counted_more kind all one = sum_by_push (λ (s : Said). cond (kind s) 1 0) all one
 
 -- sums with what is said to one row more
@@ -109,14 +122,21 @@ with_said sums one = record {
 
 sums_more : (all : List Said) (one : Said) → sums_said (all ++ one ∷ []) ≡ with_said (sums_said all) one
 sums_more all one =
-    rw (counted_more (is_answered is_assigned) all one, counted_more (is_answered is_spent) all one, counted_more (is_answered is_unknown) all one, counted_more is_refused all one)
+    rw (
+      counted_more (is_answered is_assigned) all one,
+      counted_more (is_answered is_spent) all one,
+      counted_more (is_answered is_unknown) all one,
+      counted_more is_refused all one,
+    )
     (grind arith)
 
-served : (all : List Said) (server : Option Server) (number : ℕ) → server ≢ None → with_given (sums_said all) (given.Server number) ≡ with_said (sums_said all) (answered (served_by server))
+served : (all : List Said) (server : Option Server) (number : ℕ) → server ≢ None
+    → with_given (sums_said all) (given.Server number) ≡ with_said (sums_said all) (answered (served_by server))
 served all None number there = absurd (there refl)
 served all (Some server) number there = grind arith
 
-given_sums : (it : Instance) (all : List Said) (how : Given) → IsAmong (length it.servers) how → with_given (sums_said all) how ≡ with_said (sums_said all) (said_of it how)
+given_sums : (it : Instance) (all : List Said) (how : Given) → IsAmong (length it.servers) how
+    → with_given (sums_said all) how ≡ with_said (sums_said all) (said_of it how)
 given_sums it all (given.Server number) among =
     let past = none_from it.servers number in
     served all (slice_get it.servers number) number (λ none. absurd (omega (arith, past none, among)))
@@ -131,7 +151,8 @@ given_sums it all (given.Refused refusal) among = grind arith
 pub record HasAnswered (first last : Answering) (rows lines : List (List ℕ)) : Type 0 where
   pub costs : last.kind_dispatcher.costs ≡ first.kind_dispatcher.costs
   pub instance : last.kind_dispatcher.held.instance ≡ first.kind_dispatcher.held.instance
-  pub answered : AreAnswered first.kind_dispatcher.costs first.kind_dispatcher.held.instance (left_of first.kind_dispatcher.held) (left_of last.kind_dispatcher.held) first.form last.form rows lines last.sums
+  pub answered : AreAnswered first.kind_dispatcher.costs first.kind_dispatcher.held.instance
+      (left_of first.kind_dispatcher.held) (left_of last.kind_dispatcher.held) first.form last.form rows lines last.sums
 
 pub answers_none : (first : Answering) → first.sums ≡ none_said → HasAnswered first first [] []
 unfolding answers_after
@@ -148,9 +169,12 @@ answers_none first none = record {
 }
 
 -- a row more is answered
-row_more : (t new : KindsHeld) (x : Plan) (first form last : Option Form) (rows lines : List (List ℕ)) (sums : StreamSums) (row : List ℕ) (one : Asked) (how : Given)
-    → AsksAt form row one last → IsGiven t one new how → AreAnswered t.costs t.held.instance x (left_of t.held) first form rows lines sums
-    → AreAnswered t.costs t.held.instance x (left_of new.held) first last (rows ++ row ∷ []) (lines ++ said_line t.held.instance (said_of t.held.instance how) ∷ []) (with_given sums how)
+row_more : (t new : KindsHeld) (x : Plan) (first form last : Option Form) (rows lines : List (List ℕ))
+    (sums : StreamSums) (row : List ℕ) (one : Asked) (how : Given)
+    → AsksAt form row one last → IsGiven t one new how
+    → AreAnswered t.costs t.held.instance x (left_of t.held) first form rows lines sums
+    → AreAnswered t.costs t.held.instance x (left_of new.held) first last (rows ++ row ∷ [])
+    (lines ++ said_line t.held.instance (said_of t.held.instance how) ∷ []) (with_given sums how)
 row_more t new x first form last rows lines sums row one how asks is so =
     let it = t.held.instance in
     let entries = entries_in t.costs it so.asked in
@@ -160,21 +184,31 @@ row_more t new x first form last rows lines sums row one how asks is so =
     record {
       asked = so.asked ++ one ∷ [];
       asks = asked_more first form last rows so.asked row one so.asks asks;
-      lines_are = ap (λ (ls : List (List ℕ)). ls ++ said_line it (said_of it how) ∷ []) so.lines_are ∙ sym (map_push (said_line it) all (said_of it how))
+      lines_are =
+          ap (λ (ls : List (List ℕ)). ls ++ said_line it (said_of it how) ∷ []) so.lines_are
+          ∙ sym (map_push (said_line it) all (said_of it how))
           ∙ ap (map (said_line it)) (sym saying);
-      sums_are = ap (λ (s : StreamSums). with_given s how) so.sums_are ∙ given_sums it all how is.among ∙ sym (sums_more all (said_of it how)) ∙ ap sums_said (sym saying);
+      sums_are =
+          ap (λ (s : StreamSums). with_given s how) so.sums_are ∙ given_sums it all how is.among
+          ∙ sym (sums_more all (said_of it how)) ∙ ap sums_said (sym saying);
       left_is = λ r site.
-          is.left r site ∙ rest_same it (left_of t.held) (rest it x entries) (entries_in t.costs it (one ∷ [])) so.left_is r site
+          is.left r site
+          ∙ rest_same it (left_of t.held) (rest it x entries) (entries_in t.costs it (one ∷ [])) so.left_is r site
           ∙ rest_parts it x entries (entries_in t.costs it (one ∷ [])) r site
           ∙ ap (λ (es : List Entry). rest it x es r site) (sym (entries_then t.costs it so.asked (one ∷ [])));
     }
 
-answers_row : (first old new : Answering) (rows lines : List (List ℕ)) (row answer : List ℕ) → HasAnswered first old rows lines → TakesRow old row new answer
+answers_row : (first old new : Answering) (rows lines : List (List ℕ)) (row answer : List ℕ)
+    → HasAnswered first old rows lines → TakesRow old row new answer
     → HasAnswered first new (rows ++ row ∷ []) (lines ++ answer ∷ [])
 answers_row first old new rows lines row answer so takes =
     let x = left_of first.kind_dispatcher.held in
-    let inner : AreAnswered old.kind_dispatcher.costs old.kind_dispatcher.held.instance x (left_of old.kind_dispatcher.held) first.form old.form rows lines old.sums = rw (so.costs, so.instance) so.answered in
-    let more = row_more old.kind_dispatcher new.kind_dispatcher x first.form old.form new.form rows lines old.sums row takes.asked takes.given takes.asks takes.is inner in
+    let inner : AreAnswered old.kind_dispatcher.costs old.kind_dispatcher.held.instance x
+    (left_of old.kind_dispatcher.held) first.form old.form rows lines old.sums =
+    rw (so.costs, so.instance) so.answered in
+    let more =
+    row_more old.kind_dispatcher new.kind_dispatcher x first.form old.form new.form rows lines old.sums row
+    takes.asked takes.given takes.asks takes.is inner in
     record {
       costs = takes.is.costs ∙ so.costs;
       instance = takes.is.instance ∙ so.instance;
@@ -182,11 +216,13 @@ answers_row first old new rows lines row answer so takes =
     }
 
 -- all rows that were taken
-pub answers_all : (first old last : Answering) (rows lines more answers : List (List ℕ)) → HasAnswered first old rows lines → AreTaken TakesRow old more last answers
+pub answers_all : (first old last : Answering) (rows lines more answers : List (List ℕ))
+    → HasAnswered first old rows lines → AreTaken TakesRow old more last answers
     → HasAnswered first last (rows ++ more) (lines ++ answers)
 answers_all first old last rows lines [] [] so same = rw (append-nil rows, append-nil lines, same) so
 answers_all first old last rows lines [] (a ∷ answers) so taken = absurd taken
 answers_all first old last rows lines (row ∷ more) [] so taken = absurd taken
 answers_all first old last rows lines (row ∷ more) (a ∷ answers) so taken =
     rw (← append_assoc rows (row ∷ []) more, ← append_assoc lines (a ∷ []) answers)
-    (answers_all first taken.0 last (rows ++ row ∷ []) (lines ++ a ∷ []) more answers (answers_row first old taken.0 rows lines row a so taken.1) taken.2)
+    (answers_all first taken.0 last (rows ++ row ∷ []) (lines ++ a ∷ []) more answers
+    (answers_row first old taken.0 rows lines row a so taken.1) taken.2)

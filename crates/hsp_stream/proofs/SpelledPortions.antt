@@ -1,5 +1,6 @@
 -- Words that spell a portion are read as it, and no others are.
-use Rattle.std.proofs.Common.{◌≡◌, ◌≢◌, ◌∙◌, ◌<◌, ◌≤◌, ◌^◌, ℕ, List, Option, None, Some, Result, Ok, Err, IfErr, Bool, true, false, decimal, if◌then◌else◌, option_map, refl, ap, sym, arith}
+use Rattle.std.proofs.Common.{◌≡◌, ◌≢◌, ◌∙◌, ◌<◌, ◌≤◌, ◌^◌, ℕ, List, Option, None, Some, Result, Ok, Err, IfErr, Bool}
+use Rattle.std.proofs.Common.{true, false, decimal, if◌then◌else◌, option_map, refl, ap, sym, arith}
 use Rattle.std.specs.Prelude.{nat_lt}
 use Rattle.std.proofs.lemmas.Bool.{lt-ltb, ne_eqb}
 use Rattle.std.proofs.lemmas.Bool.Decides.{nat_tests}
@@ -10,23 +11,24 @@ use Rattle.hsp_text.specs.declared.whole.WholeFault.{WholeFault}
 use Rattle.hsp_tables.proofs.TableRows.{whole_is, whole_is_read}
 use Rattle.hsp_dispatch.specs.declared.portion.Portion.{Portion}
 use Rattle.hsp_dispatch.specs.declared.portion.TheConstants.{GREATEST_UNIT}
-use Rattle.hsp_faults.specs.declared.fault.Fault.{Fault}
 use Rattle.hsp_faults.specs.declared.fault.Fault.TheVariants.{BadFronts}
 use Rattle.hsp_runs.specs.Counts.{above_none, count_at}
 use Rattle.hsp_stream.specs.AnswersShown.{SpellsOr, SpellsPortion}
-use Rattle.hsp_stream.specs.Words.{below, front_at, fronts_at, or_else_fault, portion_among, portion_at, portion_with, spelled_unit, unit_at, word_or}
+use Rattle.hsp_stream.specs.Words.{below, front_at, fronts_at, or_else_fault, portion_among, portion_at, portion_with}
+use Rattle.hsp_stream.specs.Words.{spelled_unit, unit_at, word_or}
 use Rattle.hsp_stream.specs.declared.fault.RowFault.{RowFault}
 use Rattle.hsp_stream.specs.declared.fault.StreamFault.{StreamFault}
 use Rattle.hsp_stream.specs.declared.fault.StreamFault.TheVariants.{BadFront, BadUnit, Input, Log}
 use Rattle.hsp_stream.specs.declared.portions.PortionWords.{PortionWords}
-use Rattle.hsp_stream.proofs.KindsWhole.{step}
+use Rattle.hsp_text.proofs.Steps.{first_step}
 
 -- ---- numbers
 
 given_as : {X E F : Type 0} (fault : F) (r : Result X E) (x : X) → or_else_fault fault r ≡ Ok x → r ≡ Ok x
 given_as fault r x e = grind arith
 
-count_is : (most : ℕ) (word : List ℕ) (n : ℕ) → most < 2 ^ 64 → count_at BadFronts most word ≡ Ok n → (word ≡ decimal n) × (1 ≤ n) × (n ≤ most)
+count_is : (most : ℕ) (word : List ℕ) (n : ℕ) → most < 2 ^ 64 → count_at BadFronts most word ≡ Ok n
+    → (word ≡ decimal n) × (1 ≤ n) × (n ≤ most)
 count_is most word n small e =
     let read : (1 ≤ n) × (whole_within most word ≡ Ok n) = grind (arith, nat_tests) in
     let whole = whole_is most word n small read.1 in
@@ -41,45 +43,57 @@ count_is_read most n small some few =
 
 pub unit_is : (word : Option (List ℕ)) (n : ℕ) → unit_at word ≡ Ok n → SpellsOr word 1 n × (1 ≤ n) × (n ≤ GREATEST_UNIT)
 unit_is None n e = let one : 1 ≡ n = cc (e) in rw (← one) (refl, omega arith, omega arith)
-unit_is (Some word) n e = count_is GREATEST_UNIT word n (omega arith) (given_as BadUnit (count_at BadFronts GREATEST_UNIT word) n e)
+unit_is (Some word) n e =
+    count_is GREATEST_UNIT word n (omega arith) (given_as BadUnit (count_at BadFronts GREATEST_UNIT word) n e)
 
 unit_is_read : (word : Option (List ℕ)) (n : ℕ) → SpellsOr word 1 n → 1 ≤ n → n ≤ GREATEST_UNIT → unit_at word ≡ Ok n
 unit_is_read None n is some few = ap (λ k. Ok k) (sym is)
 unit_is_read (Some word) n is some few =
-    ap (λ w. spelled_unit w) is ∙ ap (λ r. or_else_fault BadUnit r) (count_is_read GREATEST_UNIT n (omega arith) some few)
+    ap (λ w. spelled_unit w) is
+    ∙ ap (λ r. or_else_fault BadUnit r) (count_is_read GREATEST_UNIT n (omega arith) some few)
 
 -- ---- the number of fronts
 
-many_is : (word : Option (List ℕ)) (n : ℕ) → word_or word 1 fronts_at ≡ Ok n → SpellsOr word 1 n × (1 ≤ n) × (n ≤ MOST_FRONTS)
+many_is : (word : Option (List ℕ)) (n : ℕ) → word_or word 1 fronts_at ≡ Ok n
+    → SpellsOr word 1 n × (1 ≤ n) × (n ≤ MOST_FRONTS)
 many_is None n e = let one : 1 ≡ n = cc (e) in rw (← one) (refl, omega arith, omega arith)
-many_is (Some word) n e = count_is MOST_FRONTS word n (omega arith) (given_as (Input BadFronts) (count_at BadFronts MOST_FRONTS word) n e)
+many_is (Some word) n e =
+    count_is MOST_FRONTS word n (omega arith) (given_as (Input BadFronts) (count_at BadFronts MOST_FRONTS word) n e)
 
-many_is_read : (word : Option (List ℕ)) (n : ℕ) → SpellsOr word 1 n → 1 ≤ n → n ≤ MOST_FRONTS → word_or word 1 fronts_at ≡ Ok n
+many_is_read : (word : Option (List ℕ)) (n : ℕ) → SpellsOr word 1 n → 1 ≤ n → n ≤ MOST_FRONTS
+    → word_or word 1 fronts_at ≡ Ok n
 many_is_read None n is some few = ap (λ k. Ok k) (sym is)
 many_is_read (Some word) n is some few =
-    ap (λ w. fronts_at w) is ∙ ap (λ r. or_else_fault (Input BadFronts) r) (count_is_read MOST_FRONTS n (omega arith) some few)
+    ap (λ w. fronts_at w) is
+    ∙ ap (λ r. or_else_fault (Input BadFronts) r) (count_is_read MOST_FRONTS n (omega arith) some few)
 
 -- ---- the front
 
-front_is : (fronts : ℕ) (word : Option (List ℕ)) (n : ℕ) → 1 ≤ fronts → word_or word 0 (front_at fronts) ≡ Ok n → SpellsOr word 0 n × (n < fronts)
+front_is : (fronts : ℕ) (word : Option (List ℕ)) (n : ℕ) → 1 ≤ fronts → word_or word 0 (front_at fronts) ≡ Ok n
+    → SpellsOr word 0 n × (n < fronts)
 front_is fronts None n some e = let none : 0 ≡ n = cc (e) in rw (← none) (refl, omega (arith, some))
 front_is fronts (Some word) n some e =
     let read : (n < fronts) × (whole_within MOST_FRONTS word ≡ Ok n) = grind (arith, nat_tests) in
     ((whole_is MOST_FRONTS word n (omega arith) read.1).0, read.0)
 
-front_is_read : (fronts : ℕ) (word : Option (List ℕ)) (n : ℕ) → SpellsOr word 0 n → n < fronts → fronts ≤ MOST_FRONTS → word_or word 0 (front_at fronts) ≡ Ok n
+front_is_read : (fronts : ℕ) (word : Option (List ℕ)) (n : ℕ) → SpellsOr word 0 n → n < fronts → fronts ≤ MOST_FRONTS
+    → word_or word 0 (front_at fronts) ≡ Ok n
 front_is_read fronts None n is inside few = ap (λ k. Ok k) (sym is)
 front_is_read fronts (Some word) n is inside few =
     let there : below fronts (Ok n) ≡ Ok n = rw (lt-ltb n fronts inside) refl in
-    ap (λ w. front_at fronts w) is ∙ ap (λ r. below fronts r) (whole_is_read MOST_FRONTS n (omega arith) (omega arith)) ∙ there
+    ap (λ w. front_at fronts w) is ∙ ap (λ r. below fronts r) (whole_is_read MOST_FRONTS n (omega arith) (omega arith))
+    ∙ there
 
 -- ---- the portion
 
-pub portion_is : (words : PortionWords) (portion : Portion) → portion_at words ≡ Ok portion → SpellsPortion words portion
+pub portion_is : (words : PortionWords) (portion : Portion) → portion_at words ≡ Ok portion
+    → SpellsPortion words portion
 portion_is words portion e =
-    let unit = step (unit_at (option_map (λ v. v.items) words.unit)) (portion_with words) portion e in
-    let fronts = step (word_or (option_map (λ v. v.items) words.fronts) 1 fronts_at) (portion_among words unit.0) portion unit.2 in
-    let front = step (word_or (option_map (λ v. v.items) words.front) 0 (front_at fronts.0)) _ portion fronts.2 in
+    let unit = first_step (unit_at (option_map (λ v. v.items) words.unit)) (portion_with words) portion e in
+    let fronts =
+    first_step (word_or (option_map (λ v. v.items) words.fronts) 1 fronts_at) (portion_among words unit.0) portion
+    unit.2 in
+    let front = first_step (word_or (option_map (λ v. v.items) words.front) 0 (front_at fronts.0)) _ portion fronts.2 in
     let own = unit_is _ unit.0 unit.1 in
     let many = many_is _ fronts.0 fronts.1 in
     let one = front_is fronts.0 _ front.0 many.1 front.1 in
@@ -92,10 +106,14 @@ portion_is words portion e =
       few = many.2;
     })
 
-pub portion_is_read : (words : PortionWords) (portion : Portion) → SpellsPortion words portion → portion_at words ≡ Ok portion
+pub portion_is_read : (words : PortionWords) (portion : Portion) → SpellsPortion words portion
+    → portion_at words ≡ Ok portion
 portion_is_read words portion is =
-    ap (λ r. r >>= portion_with words) (unit_is_read (option_map (λ v. v.items) words.unit) portion.unit is.unit is.is.least is.is.most)
-    ∙ ap (λ r. r >>= portion_among words portion.unit) (many_is_read (option_map (λ v. v.items) words.fronts) portion.fronts is.fronts (omega (arith, is.is.some)) is.few)
+    ap (λ r. r >>= portion_with words)
+    (unit_is_read (option_map (λ v. v.items) words.unit) portion.unit is.unit is.is.least is.is.most)
+    ∙ ap (λ r. r >>= portion_among words portion.unit)
+    (many_is_read (option_map (λ v. v.items) words.fronts) portion.fronts is.fronts (omega (arith, is.is.some))
+    is.few)
     ∙ ap (λ r. r >>= λ front. Ok (record { fronts = portion.fronts; front = front; unit = portion.unit }))
     (front_is_read portion.fronts (option_map (λ v. v.items) words.front) portion.front is.front is.is.front is.few)
 
@@ -105,15 +123,18 @@ portion_is_read words portion is =
 abbrev pub HasNoLog : {X : Type 0} → Result X StreamFault → Type 0
 HasNoLog r = IfErr r (λ fault. (of : RowFault) → fault ≢ Log of)
 
-then_none : {X Y : Type 0} (r : Result X StreamFault) (f : X → Result Y StreamFault) → HasNoLog r → ((x : X) → HasNoLog (f x)) → HasNoLog (r >>= f)
+then_none : {X Y : Type 0} (r : Result X StreamFault) (f : X → Result Y StreamFault) → HasNoLog r
+    → ((x : X) → HasNoLog (f x)) → HasNoLog (r >>= f)
 then_none (Ok x) f first next = next x
 then_none (Err e) f first next = first
 
-else_none : {X E : Type 0} (fault : StreamFault) (r : Result X E) → ((of : RowFault) → fault ≢ Log of) → HasNoLog (or_else_fault fault r)
+else_none : {X E : Type 0} (fault : StreamFault) (r : Result X E) → ((of : RowFault) → fault ≢ Log of)
+    → HasNoLog (or_else_fault fault r)
 else_none fault (Ok x) apart = tt
 else_none fault (Err e) apart = apart
 
-word_none : (word : Option (List ℕ)) (usual : ℕ) (spelled : List ℕ → Result ℕ StreamFault) → ((octets : List ℕ) → HasNoLog (spelled octets)) → HasNoLog (word_or word usual spelled)
+word_none : (word : Option (List ℕ)) (usual : ℕ) (spelled : List ℕ → Result ℕ StreamFault)
+    → ((octets : List ℕ) → HasNoLog (spelled octets)) → HasNoLog (word_or word usual spelled)
 word_none None usual spelled none = tt
 word_none (Some octets) usual spelled none = none octets
 
@@ -128,8 +149,11 @@ below_none fronts (Ok n) = by (nat_lt n fronts)
 pub words_none : (words : PortionWords) → HasNoLog (portion_at words)
 words_none words =
     then_none (unit_at (option_map (λ v. v.items) words.unit)) (portion_with words)
-    (word_none (option_map (λ v. v.items) words.unit) 1 spelled_unit (λ octets. else_none BadUnit (count_at BadFronts GREATEST_UNIT octets) (λ of e. cc (e)))) (λ unit.
+    (word_none (option_map (λ v. v.items) words.unit) 1 spelled_unit
+    (λ octets. else_none BadUnit (count_at BadFronts GREATEST_UNIT octets) (λ of e. cc (e)))) (λ unit.
     then_none (word_or (option_map (λ v. v.items) words.fronts) 1 fronts_at) (portion_among words unit)
-    (word_none (option_map (λ v. v.items) words.fronts) 1 fronts_at (λ octets. else_none (Input BadFronts) (count_at BadFronts MOST_FRONTS octets) (λ of e. cc (e)))) (λ fronts.
+    (word_none (option_map (λ v. v.items) words.fronts) 1 fronts_at
+    (λ octets. else_none (Input BadFronts) (count_at BadFronts MOST_FRONTS octets) (λ of e. cc (e)))) (λ fronts.
     then_none (word_or (option_map (λ v. v.items) words.front) 0 (front_at fronts)) _
-    (word_none (option_map (λ v. v.items) words.front) 0 (front_at fronts) (λ octets. below_none fronts (whole_within MOST_FRONTS octets))) (λ front. tt)))
+    (word_none (option_map (λ v. v.items) words.front) 0 (front_at fronts)
+    (λ octets. below_none fronts (whole_within MOST_FRONTS octets))) (λ front. tt)))

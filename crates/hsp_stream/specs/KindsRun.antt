@@ -20,7 +20,8 @@ kinds_text costs sites unit records = table_of costs sites [] records >>= text_i
 
 -- what the files define, with their faults as those of the run
 abbrev pub AreFiles : KindsInputs → Result Files StreamFault → Type 0
-AreFiles inputs answer = (files : Result Files Fault) × AreFilesIn inputs files × (answer ≡ fault_as fault_of_input files)
+AreFiles inputs answer =
+    (files : Result Files Fault) × AreFilesIn inputs files × (answer ≡ fault_as fault_of_input files)
 
 -- the text of the table of a log, or the first fault of the unit, the files, the log and the table
 abbrev pub IsKindsText : KindsInputs → Option (List ℕ) → List Fields → Result (List ℕ) StreamFault → Type 0

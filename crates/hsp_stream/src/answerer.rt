@@ -11,8 +11,8 @@ ghost use Rattle.hsp_stream.specs.KindAnswers.{TakesRow};
 
 use crate::given::{StreamSums, push_given};
 use crate::kind_dispatcher::KindDispatcher;
-use hsp_dispatch::{Dispatcher, Form, ServerLines};
 use hsp_csv::{RowFields, RowReader, without_mark};
+use hsp_dispatch::{Dispatcher, Form, ServerLines};
 use hsp_tables::Costs;
 use hsp_talk::{Desk, Refusal};
 use std::alloc::{AllocError, Global};

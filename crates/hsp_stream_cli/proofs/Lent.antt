@@ -32,7 +32,8 @@ as_it_was old new same = ap (λ (k : Known). k.lent) same
 
 -- ---- places
 
-until : (settings : List ℕ) (values : Option (List ℕ)) (old new : Known) (by : StreamFault) → ArePlacedUntil settings values old new by → IsKept old new
+until : (settings : List ℕ) (values : Option (List ℕ)) (old new : Known) (by : StreamFault)
+    → ArePlacedUntil settings values old new by → IsKept old new
 until settings values old new (fault.Input e) (read, same) = as_it_was old new same
 until settings values old new (fault.Log e) (sites, read, (events, goes, so)) = goes.same
 until settings values old new fault.OutOfMemory so = elim so [
@@ -42,7 +43,8 @@ until settings values old new fault.OutOfMemory so = elim so [
 until settings values old new fault.BadUnit so = absurd so
 until settings values old new fault.BadFront so = absurd so
 
-pub places_keep : (sources : Sources) (ended : Ended) (old new : Known) → EndsPlaces sources ended old new → IsKept old new
+pub places_keep : (sources : Sources) (ended : Ended) (old new : Known) → EndsPlaces sources ended old new
+    → IsKept old new
 places_keep sources (Ok None) old new (sites, read, (events, goes, so)) = goes.same
 places_keep sources (Ok (Some sums)) old new so = absurd so
 places_keep sources (Err (Refused by)) old new so = until _ _ old new by so
@@ -56,22 +58,27 @@ places_keep sources (Err Write) old new so = absurd so
 refused : (by : StreamFault) (run : Run) → Refuses by run → IsKept run.before run.after
 refused by run (same, answer) = as_it_was run.before run.after same
 
-by_claim : (portion : Portion) (costs : List CostEntry) (it : Instance) (claim : Claim) (run : Run) → AnswersAs portion costs it claim run → IsKept run.before run.after
+by_claim : (portion : Portion) (costs : List CostEntry) (it : Instance) (claim : Claim) (run : Run)
+    → AnswersAs portion costs it claim run → IsKept run.before run.after
 by_claim portion costs it (best c) run ends = elim ends [ inl refuses ↦ refused _ run refuses | inr so ↦ so.1.same ]
 by_claim portion costs it (short c) run refuses = refused _ run refuses
 
-by_accepted : (portion : Portion) (inputs : Inputs) (accepted : Result Accepted Fault) (run : Run) → AnswersWhere portion inputs accepted run → IsKept run.before run.after
-by_accepted portion inputs (Ok accepted) run (costs, read, so) = by_claim portion costs accepted.instance accepted.certificate run so
+by_accepted : (portion : Portion) (inputs : Inputs) (accepted : Result Accepted Fault) (run : Run)
+    → AnswersWhere portion inputs accepted run → IsKept run.before run.after
+by_accepted portion inputs (Ok accepted) run (costs, read, so) =
+    by_claim portion costs accepted.instance accepted.certificate run so
 by_accepted portion inputs (Err e) run refuses = refused _ run refuses
 
-by_portion : (inputs : Inputs) (octets : List ℕ) (run : Run) (portion : Result Portion StreamFault) → AnswersPortion inputs octets run portion → IsKept run.before run.after
+by_portion : (inputs : Inputs) (octets : List ℕ) (run : Run) (portion : Result Portion StreamFault)
+    → AnswersPortion inputs octets run portion → IsKept run.before run.after
 by_portion inputs octets run (Err e) refuses = refused e run refuses
 by_portion inputs octets run (Ok portion) so = elim so [
   | inl refuses ↦ refused _ run refuses
   | inr rest ↦ by_accepted portion inputs rest.0 run rest.2
 ]
 
-pub answers_keep : (inputs : Inputs) (octets : List ℕ) (words : PortionWords) (ended : Ended) (old new : Known) → EndsAnswers inputs octets words ended old new → IsKept old new
+pub answers_keep : (inputs : Inputs) (octets : List ℕ) (words : PortionWords) (ended : Ended) (old new : Known)
+    → EndsAnswers inputs octets words ended old new → IsKept old new
 answers_keep inputs octets words (Ok (Some sums)) old new so = by_portion inputs octets _ (portion_at words) so
 answers_keep inputs octets words (Ok None) old new so = absurd so
 answers_keep inputs octets words (Err (Refused by)) old new so = by_portion inputs octets _ (portion_at words) so
@@ -87,18 +94,21 @@ pub same_name : (a b : GName) → Some a ≡ Some b → a ≡ b
 same_name a b e = cc e
 
 -- what holds of a writer that is lent holds of the writer that is given back
-pub given_back : {W : Type 0} (Holds : W → Type 0) (writer last : W) (before after : GName) → (before ≡ after → writer ≡ last) → after ≡ before → Holds last → Holds writer
+pub given_back : {W : Type 0} (Holds : W → Type 0) (writer last : W) (before after : GName)
+    → (before ≡ after → writer ≡ last) → after ≡ before → Holds last → Holds writer
 given_back Holds writer last before after back same so = subst Holds (sym (back (sym same))) so
 
 -- ---- outputs
 
-pub hands : (old new : Known) (ended : Ended) → IsKnownHanded old new ⊎ IsFailedWrite ended → IsHandedOn old.written old.handed new.written new.handed ended
+pub hands : (old new : Known) (ended : Ended) → IsKnownHanded old new ⊎ IsFailedWrite ended
+    → IsHandedOn old.written old.handed new.written new.handed ended
 hands old new ended (inl (inl none)) = inl (none.written, none.handed)
 hands old new ended (inl (inr all)) = inr (inl all)
 hands old new ended (inr failed) = inr (inr failed)
 
 -- a reader may fail only where its file may
-may_weaker : (MayReadFail DiskFails MayFail : Type 0) (ended : Ended) (old new : Known) → (MayReadFail → DiskFails) → MayEnd MayReadFail MayFail ended old new → MayEnd DiskFails MayFail ended old new
+may_weaker : (MayReadFail DiskFails MayFail : Type 0) (ended : Ended) (old new : Known) → (MayReadFail → DiskFails)
+    → MayEnd MayReadFail MayFail ended old new → MayEnd DiskFails MayFail ended old new
 may_weaker MayReadFail DiskFails MayFail (Err (Refused (fault.Log row.ReadFailed))) old new weaker may = elim may [
   | inl fails ↦ inl (weaker fails)
   | inr all ↦ inr all
@@ -108,7 +118,8 @@ may_weaker MayReadFail DiskFails MayFail (Err (Refused (fault.Log other))) old n
 may_weaker MayReadFail DiskFails MayFail (Err (Refused other)) old new weaker may = tt
 may_weaker MayReadFail DiskFails MayFail ended old new weaker may = tt
 
-pub talks_weaker : (MayReadFail DiskFails MayFail : Type 0) (left old new : Option (List ℕ)) (ended : Ended) (Holds : Known → Known → Type 0) → (MayReadFail → DiskFails) →
+pub talks_weaker : (MayReadFail DiskFails MayFail : Type 0) (left old new : Option (List ℕ)) (ended : Ended)
+    (Holds : Known → Known → Type 0) → (MayReadFail → DiskFails) →
     TalksOver MayReadFail MayFail left old new ended Holds → TalksOver DiskFails MayFail left old new ended Holds
 talks_weaker MayReadFail DiskFails MayFail left old new ended Holds weaker so = record {
   before = so.before;

@@ -1,6 +1,6 @@
 -- Rows of a table that are kept in a map by their keys, in the order of insertion.
-use Rattle.std.proofs.Common.{◌≡◌, ◌∙◌, ◌<◌, ◌≤◌, ℕ, Bool, true, false, List, [], ◌∷◌, ◌++◌, is_some, Option, None, Ok, Err, length, map, nat_le, nat_lt, refl, sym, ap, arith}
-use Rattle.std.proofs.lemmas.Bool.Decides.{nat_tests}
+use Rattle.std.proofs.Common.{◌≡◌, ◌∙◌, ◌<◌, ◌≤◌, ℕ, Bool, true, false, List, [], ◌∷◌, ◌++◌, is_some, Option, None, Ok}
+use Rattle.std.proofs.Common.{Err, length, map, nat_le, refl, sym, ap, arith}
 use Rattle.std.proofs.lemmas.List.{length-map, map-append}
 use Rattle.std.proofs.lemmas.Map.Made.{is_some-lookup}
 use Rattle.std.specs.List.{list_any}
@@ -14,14 +14,13 @@ use Rattle.hsp_tables.specs.InTurn.{with_row}
 use Rattle.hsp_tables.specs.Table.{Table, regions_of, row_after, seen_with}
 use Rattle.hsp_tables.proofs.KeyedReading.{nat_le-over}
 use Rattle.hsp_tables.proofs.TableLaws.{nat_lt-upto, regions_of-append}
+use Rattle.hsp_text.proofs.Steps.{lt_true}
 
 none_is : {A : Type 0} (o : Option A) → is_some o ≡ false → o ≡ None
 none_is o e = grind arith
 
-nat_lt-below : (m n : ℕ) → m < n → nat_lt m n ≡ true
-nat_lt-below m n below = grind (arith, nat_tests)
-
-module _ {K Row S : Type 0} (table : Table Row) (entry : K × ℕ → Row) (eq : K → K → Bool) (same : (a b : K × ℕ) → table.same_key (entry a) (entry b) ≡ eq a.0 b.0)
+module _ {K Row S : Type 0} (table : Table Row) (entry : K × ℕ → Row) (eq : K → K → Bool)
+    (same : (a b : K × ℕ) → table.same_key (entry a) (entry b) ≡ eq a.0 b.0)
     (m : IndexMap K ℕ S) (key : K) (value : ℕ) where
   abbrev e : K × ℕ
   e = (key, value)
@@ -45,26 +44,33 @@ module _ {K Row S : Type 0} (table : Table Row) (entry : K × ℕ → Row) (eq :
     at_number : number ≡ length rows
     at_number = is.numbered ∙ sym (length-map m.entries entry)
 
-    first_tests : (nat_le table.most_rows (length rows) ≡ false) × (table.row_in (length rows) fields ≡ Ok (entry e)) × (list_any (table.same_key (entry e)) rows ≡ is_some old)
-    first_tests =
-        (rw (← at_number) (nat_le-over table.most_rows number is.room), rw (← at_number) is.spells, among m.entries ∙ sym (is_some-lookup (eq key) m.entries) ∙ ap is_some (sym is.looked))
+    first_tests : (nat_le table.most_rows (length rows) ≡ false) × (table.row_in (length rows) fields ≡ Ok (entry e))
+        × (list_any (table.same_key (entry e)) rows ≡ is_some old)
+    first_tests = (
+      rw (← at_number) (nat_le-over table.most_rows number is.room),
+      rw (← at_number) is.spells,
+      among m.entries ∙ sym (is_some-lookup (eq key) m.entries) ∙ ap is_some (sym is.looked),
+    )
 
     -- its key is an earlier one's
     pub kept_twice : is_some old ≡ true → with_row (row_after table) rows fields ≡ Err (RowTwice number)
     kept_twice there = rw (first_tests.0, first_tests.1, first_tests.2, there, at_number) refl
 
-    module _ (new : is_some old ≡ false) (seen : List (List ℕ)) (regions : seen ≡ seen_with table (regions_of table rows) (entry e)) where
+    module _ (new : is_some old ≡ false) (seen : List (List ℕ))
+        (regions : seen ≡ seen_with table (regions_of table rows) (entry e)) where
       seen_are : regions_of table (rows ++ entry e ∷ []) ≡ seen
       seen_are = regions_of-append table rows (entry e) ∙ sym regions
 
       -- its region is one too many
       pub kept_too_many : MOST_REGIONS < length seen → with_row (row_after table) rows fields ≡ Err TooManyRegions
-      kept_too_many many = rw (first_tests.0, first_tests.1, first_tests.2, new, seen_are, nat_lt-below _ _ many) refl
+      kept_too_many many = rw (first_tests.0, first_tests.1, first_tests.2, new, seen_are, lt_true _ _ many) refl
 
       -- or it is the next row
       module _ (entries : List (K × ℕ)) (inserted : entries ≡ insert_entry eq m.entries key value) where
         next : map entry entries ≡ rows ++ entry e ∷ []
-        next = ap (map entry) (inserted ∙ insert_entry-new eq m key value (sym is.looked ∙ none_is old new)) ∙ map-append entry m.entries (e ∷ [])
+        next =
+            ap (map entry) (inserted ∙ insert_entry-new eq m key value (sym is.looked ∙ none_is old new))
+            ∙ map-append entry m.entries (e ∷ [])
 
         pub kept_next : length seen ≤ MOST_REGIONS → with_row (row_after table) rows fields ≡ Ok (map entry entries)
         kept_next few = rw (next, first_tests.0, first_tests.1, first_tests.2, new, seen_are, nat_lt-upto _ _ few) refl

@@ -1,5 +1,6 @@
 -- What holds of lines.
-use Rattle.std.proofs.Common.{◌≡◌, ◌≢◌, ℕ, ◌==◌, true, false, true≢false, List, [], ◌∷◌, ◌++◌, All, flat_map, if◌then◌else◌, refl, ap, sym, ◌∙◌, append_assoc, append-nil, eqb-true, eq-eqb}
+use Rattle.std.proofs.Common.{◌≡◌, ◌≢◌, ℕ, ◌==◌, true, false, true≢false, List, [], ◌∷◌, ◌++◌, All, flat_map}
+use Rattle.std.proofs.Common.{if◌then◌else◌, refl, ap, sym, ◌∙◌, append_assoc, append-nil, eqb-true, eq-eqb}
 use Rattle.std.proofs.lemmas.List.Elements.{All-append, All-cons, All-nil}
 use Rattle.hsp_talk.specs.Laws.{IsOneLine, LinesEndOnce, LinesMakeOctets}
 use Rattle.hsp_talk.specs.Talk.{last_line, whole_lines}
@@ -11,9 +12,11 @@ joined : (begun octets : List ℕ) → begun ++ octets ≡ with_ends (whole_line
 joined begun [] = append-nil begun
 joined begun (x ∷ xs) =
     elim (x == 10) as (λ b. (x == 10) ≡ b → begun ++ x ∷ xs
-    ≡ with_ends (if b then begun ∷ whole_lines [] xs else whole_lines (begun ++ x ∷ []) xs) ++ (if b then last_line [] xs else last_line (begun ++ x ∷ []) xs)) [
+    ≡ with_ends (if b then begun ∷ whole_lines [] xs else whole_lines (begun ++ x ∷ []) xs)
+    ++ (if b then last_line [] xs else last_line (begun ++ x ∷ []) xs)) [
       | true ↦ λ t.
-          ap (λ c. begun ++ c ∷ xs) (eqb-true x 10 t) ∙ sym (append_assoc begun (10 ∷ []) xs) ∙ ap (λ r. (begun ++ 10 ∷ []) ++ r) (joined [] xs)
+          ap (λ c. begun ++ c ∷ xs) (eqb-true x 10 t) ∙ sym (append_assoc begun (10 ∷ []) xs)
+          ∙ ap (λ r. (begun ++ 10 ∷ []) ++ r) (joined [] xs)
           ∙ sym (append_assoc (begun ++ 10 ∷ []) (with_ends (whole_lines [] xs)) (last_line [] xs))
       | false ↦ λ f. sym (append_assoc begun (x ∷ []) xs) ∙ joined (begun ++ x ∷ []) xs
     ] refl
@@ -23,12 +26,16 @@ octets_again octets = joined [] octets
 
 one_more : (line : List ℕ) (x : ℕ) → IsOneLine line → (x == 10) ≡ false → IsOneLine (line ++ x ∷ [])
 one_more line x so f =
-    All-append (λ c. c ≢ 10) line (x ∷ []) so (All-cons (λ c. c ≢ 10) x [] (λ e. true≢false (sym (eq-eqb x 10 e) ∙ f)) (All-nil (λ c. c ≢ 10)))
+    All-append (λ c. c ≢ 10) line (x ∷ []) so
+    (All-cons (λ c. c ≢ 10) x [] (λ e. true≢false (sym (eq-eqb x 10 e) ∙ f)) (All-nil (λ c. c ≢ 10)))
 
-apart : (begun octets : List ℕ) → IsOneLine begun → All IsOneLine (whole_lines begun octets) × IsOneLine (last_line begun octets)
+apart : (begun octets : List ℕ) → IsOneLine begun
+    → All IsOneLine (whole_lines begun octets) × IsOneLine (last_line begun octets)
 apart begun [] so = (All-nil IsOneLine, so)
 apart begun (x ∷ xs) so =
-    elim (x == 10) as (λ b. (x == 10) ≡ b → All IsOneLine (if b then begun ∷ whole_lines [] xs else whole_lines (begun ++ x ∷ []) xs)
+    elim (x == 10)
+    as (λ b. (x == 10) ≡ b
+    → All IsOneLine (if b then begun ∷ whole_lines [] xs else whole_lines (begun ++ x ∷ []) xs)
     × IsOneLine (if b then last_line [] xs else last_line (begun ++ x ∷ []) xs)) [
       | true ↦ λ t.
           let rest = apart [] xs (All-nil (λ c. c ≢ 10)) in

@@ -1,5 +1,8 @@
 -- Lines, rows, and desks that take them.
-use Rattle.std.proofs.Common.{◌≡◌, ℕ, zero, suc, min, ◌+◌, ◌-◌, ◌<◌, ◌≤◌, ◌==◌, Bool, true, false, cond, ltb, not, Some, None, get_or, take, drop, length-drop, List, [], ◌∷◌, ◌++◌, length, if◌then◌else◌, refl, ap, sym, ◌∙◌, subst, append_assoc, append-nil, arith, add-one, eq-eqb, eqb-true, true≢false}
+use Rattle.std.proofs.Common.{◌≡◌, ℕ, zero, suc, min, ◌+◌, ◌-◌, ◌<◌, ◌≤◌, ◌==◌, Bool, true, false, cond, ltb, not, Some}
+use Rattle.std.proofs.Common.{None, get_or, take, drop, length-drop, List, [], ◌∷◌, ◌++◌, length, if◌then◌else◌, refl}
+use Rattle.std.proofs.Common.{ap, sym, ◌∙◌, subst, append_assoc, append-nil, arith, add-one, eq-eqb, eqb-true}
+use Rattle.std.proofs.Common.{true≢false}
 use Rattle.std.specs.List.{concat, position, position_or_len}
 use Rattle.std.proofs.Math.Seq.{take-append-add, take-length}
 use Rattle.std.proofs.lemmas.List.{drop-drop, length-take, take_all, take_min}
@@ -15,11 +18,13 @@ use Rattle.hsp_talk.specs.declared.stop.Refusal.TheVariants as refusal
 
 -- ---- lines
 
-pub lines_then : (begun xs ys : List ℕ) → whole_lines begun (xs ++ ys) ≡ whole_lines begun xs ++ whole_lines (last_line begun xs) ys
+pub lines_then : (begun xs ys : List ℕ)
+    → whole_lines begun (xs ++ ys) ≡ whole_lines begun xs ++ whole_lines (last_line begun xs) ys
 lines_then begun [] ys = refl
 lines_then begun (x ∷ xs) ys =
     elim (x == 10) as (λ b. (if b then begun ∷ whole_lines [] (xs ++ ys) else whole_lines (begun ++ x ∷ []) (xs ++ ys))
-    ≡ (if b then begun ∷ whole_lines [] xs else whole_lines (begun ++ x ∷ []) xs) ++ whole_lines (if b then last_line [] xs else last_line (begun ++ x ∷ []) xs) ys) [
+    ≡ (if b then begun ∷ whole_lines [] xs else whole_lines (begun ++ x ∷ []) xs)
+    ++ whole_lines (if b then last_line [] xs else last_line (begun ++ x ∷ []) xs) ys) [
       | true ↦ ap (λ lines. begun ∷ lines) (lines_then [] xs ys)
       | false ↦ lines_then (begun ++ x ∷ []) xs ys
     ]
@@ -63,18 +68,25 @@ within_cut a = omega (arith, length-take (LONGEST_ROW + 1) a)
 
 -- of octets after a line as many are left as there is room
 taken_after : (n : ℕ) (a b : List ℕ) → length a ≤ n → take n (a ++ b) ≡ a ++ take (n - length a) b
-taken_after n a b few = let e : n ≡ length a + (n - length a) = omega arith in ap (λ k. take k (a ++ b)) e ∙ take-append-add a b (n - length a)
+taken_after n a b few =
+    let e : n ≡ length a + (n - length a) =
+    omega arith in ap (λ k. take k (a ++ b)) e ∙ take-append-add a b (n - length a)
 
 taken_least : (n count : ℕ) (b : List ℕ) → count ≡ min (length b) n → take count b ≡ take n b
 taken_least n count b e = let least : count ≡ min n (length b) = omega arith in rw least (take_min n b)
 
-pub cut_within : (a b : List ℕ) (count : ℕ) → length a ≤ LONGEST_ROW + 1 → count ≡ min (length b) (LONGEST_ROW + 1 - length a) → a ++ take count b ≡ cut (a ++ b)
+pub cut_within : (a b : List ℕ) (count : ℕ) → length a ≤ LONGEST_ROW + 1
+    → count ≡ min (length b) (LONGEST_ROW + 1 - length a) → a ++ take count b ≡ cut (a ++ b)
 unfolding cut
-cut_within a b count few is = ap (λ t. a ++ t) (taken_least (LONGEST_ROW + 1 - length a) count b is) ∙ sym (taken_after (LONGEST_ROW + 1) a b few)
+cut_within a b count few is =
+    ap (λ t. a ++ t) (taken_least (LONGEST_ROW + 1 - length a) count b is) ∙ sym (taken_after (LONGEST_ROW + 1) a b few)
 
 -- the octets after a place
-pub all_after : (octets more : List ℕ) (place : ℕ) → more ≡ drop place octets → take (length more - 1) (drop 1 more) ≡ drop (suc place) octets
-all_after octets more place is = rw (← length-drop 1 more) (take-length (drop 1 more)) ∙ ap (drop 1) is ∙ drop-drop 1 place octets ∙ ap (λ k. drop k octets) (add-one place)
+pub all_after : (octets more : List ℕ) (place : ℕ) → more ≡ drop place octets
+    → take (length more - 1) (drop 1 more) ≡ drop (suc place) octets
+all_after octets more place is =
+    rw (← length-drop 1 more) (take-length (drop 1 more)) ∙ ap (drop 1) is ∙ drop-drop 1 place octets
+    ∙ ap (λ k. drop k octets) (add-one place)
 
 -- lines that are cut to the same, and go on
 goes_on_so : (a b more : List ℕ) → cut a ≡ cut b → cut (a ++ more) ≡ cut (b ++ more)
@@ -94,7 +106,9 @@ row_so (x ∷ a) (y ∷ b) lines e = ap (λ row. row ∷ rows_of lines) e
 pub rows_so : (a b octets : List ℕ) → cut a ≡ cut b → rows_of (whole_lines a octets) ≡ rows_of (whole_lines b octets)
 rows_so a b [] e = refl
 rows_so a b (x ∷ xs) e =
-    elim (x == 10) as (λ t. rows_of (if t then a ∷ whole_lines [] xs else whole_lines (a ++ x ∷ []) xs) ≡ rows_of (if t then b ∷ whole_lines [] xs else whole_lines (b ++ x ∷ []) xs)) [
+    elim (x == 10)
+    as (λ t. rows_of (if t then a ∷ whole_lines [] xs else whole_lines (a ++ x ∷ []) xs)
+    ≡ rows_of (if t then b ∷ whole_lines [] xs else whole_lines (b ++ x ∷ []) xs)) [
       | true ↦ row_so a b (whole_lines [] xs) e
       | false ↦ rows_so (a ++ x ∷ []) (b ++ x ∷ []) xs (goes_on_so a b (x ∷ []) e)
     ]
@@ -102,7 +116,9 @@ rows_so a b (x ∷ xs) e =
 pub last_so : (a b octets : List ℕ) → cut a ≡ cut b → cut (last_line a octets) ≡ cut (last_line b octets)
 last_so a b [] e = e
 last_so a b (x ∷ xs) e =
-    elim (x == 10) as (λ t. cut (if t then last_line [] xs else last_line (a ++ x ∷ []) xs) ≡ cut (if t then last_line [] xs else last_line (b ++ x ∷ []) xs)) [
+    elim (x == 10)
+    as (λ t. cut (if t then last_line [] xs else last_line (a ++ x ∷ []) xs)
+    ≡ cut (if t then last_line [] xs else last_line (b ++ x ∷ []) xs)) [
       | true ↦ refl
       | false ↦ last_so (a ++ x ∷ []) (b ++ x ∷ []) xs (goes_on_so a b (x ∷ []) e)
     ]
@@ -120,22 +136,33 @@ pub record EndsAt (line octets : List ℕ) (place : ℕ) : Type 0 where
   pub lines : whole_lines line octets ≡ (line ++ take place octets) ∷ whole_lines [] (drop (suc place) octets)
   pub last : last_line line octets ≡ last_line [] (drop (suc place) octets)
 
-ends_there : (line octets : List ℕ) (place : ℕ) → place < length octets → is_line_feed (get_or octets place 0) ≡ true → ((k : ℕ) → k < place → is_line_feed (get_or octets k 0) ≡ false) → EndsAt line octets place
+ends_there : (line octets : List ℕ) (place : ℕ) → place < length octets → is_line_feed (get_or octets place 0) ≡ true
+    → ((k : ℕ) → k < place → is_line_feed (get_or octets k 0) ≡ false) → EndsAt line octets place
 ends_there line [] place less here before = absurd (omega arith)
-ends_there line (x ∷ octets) zero less here before = record { lines = rw (here, append-nil line) refl; last = rw here refl }
+ends_there line (x ∷ octets) zero less here before =
+    record { lines = rw (here, append-nil line) refl; last = rw here refl }
 ends_there line (x ∷ octets) (suc place) less here before =
     let first = before 0 (omega arith) in
     let more = ends_there (line ++ x ∷ []) octets place (omega arith) here (λ k lt. before (suc k) (omega arith)) in
-    record { lines = rw first (more.lines ∙ ap (λ l. l ∷ whole_lines [] (drop (suc place) octets)) (append_assoc line (x ∷ []) (take place octets))); last = rw first more.last }
+    record {
+      lines =
+          rw first
+          (more.lines
+          ∙ ap (λ l. l ∷ whole_lines [] (drop (suc place) octets)) (append_assoc line (x ∷ []) (take place octets)));
+      last = rw first more.last;
+    }
 
 pub ends_at : (line octets : List ℕ) (place : ℕ) → position is_line_feed octets ≡ Some place → EndsAt line octets place
-ends_at line octets place e = let p = position-Some is_line_feed octets place 0 e in ends_there line octets place p.0 p.1 p.2
+ends_at line octets place e =
+    let p = position-Some is_line_feed octets place 0 e in ends_there line octets place p.0 p.1 p.2
 
 pub record HasNoEnd (line octets : List ℕ) : Type 0 where
   pub lines : whole_lines line octets ≡ []
   pub last : last_line line octets ≡ line ++ octets
 
-by_no_octet : (line octets : List ℕ) (x later : ℕ) (b : Bool) → (x == 10) ≡ b → ((later < length octets → ⊥) → HasNoEnd (line ++ x ∷ []) octets) → (cond (not b) (1 + later) 0 < length (x ∷ octets) → ⊥)
+by_no_octet : (line octets : List ℕ) (x later : ℕ) (b : Bool) → (x == 10) ≡ b
+    → ((later < length octets → ⊥) → HasNoEnd (line ++ x ∷ []) octets)
+    → (cond (not b) (1 + later) 0 < length (x ∷ octets) → ⊥)
     → HasNoEnd line (x ∷ octets)
 by_no_octet line octets x later true is rest none = absurd (none (omega arith))
 by_no_octet line octets x later false is rest none =
@@ -144,12 +171,14 @@ by_no_octet line octets x later false is rest none =
 
 no_end_there : (line octets : List ℕ) → (first_end octets < length octets → ⊥) → HasNoEnd line octets
 no_end_there line [] none = record { lines = refl; last = sym (append-nil line) }
-no_end_there line (x ∷ octets) none = by_no_octet line octets x (first_end octets) (x == 10) refl (no_end_there (line ++ x ∷ []) octets) none
+no_end_there line (x ∷ octets) none =
+    by_no_octet line octets x (first_end octets) (x == 10) refl (no_end_there (line ++ x ∷ []) octets) none
 
 pub no_end : (line octets : List ℕ) → position is_line_feed octets ≡ None → HasNoEnd line octets
 no_end line octets e = by (ltb (first_end octets) (length octets)) refl e
   where
-    by : (b : Bool) → ltb (first_end octets) (length octets) ≡ b → cond b (Some (first_end octets)) None ≡ None → HasNoEnd line octets
+    by : (b : Bool) → ltb (first_end octets) (length octets) ≡ b → cond b (Some (first_end octets)) None ≡ None
+        → HasNoEnd line octets
     by true is same = cc same
     by false is same = no_end_there line octets (λ less. let most = ltb-false _ _ is in omega arith)
 
@@ -158,7 +187,8 @@ unfolding cut
 cut_none = refl
 
 -- a line that no octets follow
-pub cut_at_end : (line piece : List ℕ) → length piece ≡ 0 → length line ≤ LONGEST_ROW + 1 → line ≡ cut (last_line line piece)
+pub cut_at_end : (line piece : List ℕ) → length piece ≡ 0 → length line ≤ LONGEST_ROW + 1
+    → line ≡ cut (last_line line piece)
 cut_at_end line [] none few = sym (cut_short line few)
 cut_at_end line (x ∷ piece) none few = absurd (omega arith)
 
@@ -175,14 +205,18 @@ no_row (x ∷ xs) e = absurd (omega arith)
 -- ---- desks
 
 module _ {D : Type 0} (Takes : TakesRow D) where
-  pub taken_then : (first : D) (rs : List (List ℕ)) (at : D) (for_as bs : List (List ℕ)) (last : D) (for_bs : List (List ℕ)) →
-      AreTaken Takes first rs at for_as → AreTaken Takes at bs last for_bs → AreTaken Takes first (rs ++ bs) last (for_as ++ for_bs)
+  pub taken_then : (first : D) (rs : List (List ℕ)) (at : D) (for_as bs : List (List ℕ)) (last : D)
+      (for_bs : List (List ℕ)) →
+      AreTaken Takes first rs at for_as → AreTaken Takes at bs last for_bs
+      → AreTaken Takes first (rs ++ bs) last (for_as ++ for_bs)
   taken_then first [] at [] bs last for_bs so after = subst (λ d. AreTaken Takes d bs last for_bs) so after
-  taken_then first (a ∷ rs) at (x ∷ xs) bs last for_bs so after = (so.0, so.1, taken_then so.0 rs at xs bs last for_bs so.2 after)
+  taken_then first (a ∷ rs) at (x ∷ xs) bs last for_bs so after =
+      (so.0, so.1, taken_then so.0 rs at xs bs last for_bs so.2 after)
   taken_then first [] at (x ∷ xs) bs last for_bs so after = absurd so
   taken_then first (a ∷ rs) at [] bs last for_bs so after = absurd so
 
-  pub as_many : (first : D) (rs : List (List ℕ)) (last : D) (answers : List (List ℕ)) → AreTaken Takes first rs last answers → length rs ≡ length answers
+  pub as_many : (first : D) (rs : List (List ℕ)) (last : D) (answers : List (List ℕ))
+      → AreTaken Takes first rs last answers → length rs ≡ length answers
   as_many first [] last [] so = refl
   as_many first (a ∷ rs) last (x ∷ xs) so = let rest = as_many so.0 rs last xs so.2 in omega arith
   as_many first [] last (x ∷ xs) so = absurd so
@@ -192,15 +226,18 @@ module _ {D : Type 0} (Takes : TakesRow D) where
   none_owed at owed = ([], refl, sym (append-nil owed))
 
   pub owed_then : (first at last : D) (rs bs : List (List ℕ)) (owed now after : List ℕ) →
-      AreOwed Takes first at rs owed now → AreOwed Takes at last bs now after → AreOwed Takes first last (rs ++ bs) owed after
+      AreOwed Takes first at rs owed now → AreOwed Takes at last bs now after
+      → AreOwed Takes first last (rs ++ bs) owed after
   owed_then first at last rs bs owed now after so more = (
     so.0 ++ more.0,
     taken_then first rs at so.0 bs last more.0 so.1 more.1,
-    more.2 ∙ ap (λ o. o ++ concat more.0) so.2 ∙ append_assoc owed (concat so.0) (concat more.0) ∙ ap (λ o. owed ++ o) (sym (concat-append so.0 more.0)),
+    more.2 ∙ ap (λ o. o ++ concat more.0) so.2 ∙ append_assoc owed (concat so.0) (concat more.0)
+        ∙ ap (λ o. owed ++ o) (sym (concat-append so.0 more.0)),
   )
 
   -- a row is taken
-  pub one_owed : (first last : D) (line owed answer now : List ℕ) → (length line ≡ 0 → ⊥) → length line ≤ LONGEST_ROW + 1 → Takes first line last answer → now ≡ owed ++ answer →
+  pub one_owed : (first last : D) (line owed answer now : List ℕ) → (length line ≡ 0 → ⊥)
+      → length line ≤ LONGEST_ROW + 1 → Takes first line last answer → now ≡ owed ++ answer →
       AreOwed Takes first last (rows_of (line ∷ [])) owed now
   one_owed first last line owed answer now ne few so is =
       subst (λ rows. AreOwed Takes first last rows owed now) (sym (one_row line ne few))
@@ -224,18 +261,23 @@ module _ {D : Type 0} (Takes : TakesRow D) where
     begun = ap (λ r. cut (last_line line r)) e;
   }
 
-  module _ (first at : D) (all : List (List ℕ)) (begins line rest owed now : List ℕ) (so : SoFar first at all begins line rest owed now) (place : ℕ) (next : position is_line_feed rest ≡ Some place)
+  module _ (first at : D) (all : List (List ℕ)) (begins line rest owed now : List ℕ)
+      (so : SoFar first at all begins line rest owed now) (place : ℕ) (next : position is_line_feed rest ≡ Some place)
       (ended : List ℕ) (is : ended ≡ cut (line ++ take place rest)) where
     -- the rows from the line that ends on
     rows_from : all ≡ so.rows ++ rows_of (ended ∷ []) ++ rows_of (whole_lines [] (drop (suc place) rest))
     rows_from =
         so.left ∙ ap (λ l. so.rows ++ rows_of l) (ends_at line rest place next).lines
-        ∙ ap (λ r. so.rows ++ r) (sym (row_so ended (line ++ take place rest) (whole_lines [] (drop (suc place) rest)) (ap cut is ∙ cut_twice (line ++ take place rest))))
+        ∙ ap (λ r. so.rows ++ r)
+        (sym
+        (row_so ended (line ++ take place rest) (whole_lines [] (drop (suc place) rest))
+        (ap cut is ∙ cut_twice (line ++ take place rest))))
         ∙ ap (λ r. so.rows ++ r) (rows_of-append (ended ∷ []) (whole_lines [] (drop (suc place) rest)))
         ∙ sym (append_assoc so.rows (rows_of (ended ∷ [])) (rows_of (whole_lines [] (drop (suc place) rest))))
 
     -- a line ends, and `left` is left of the octets
-    pub line_ends : (after : D) (owing begun left : List ℕ) → AreOwed Takes at after (rows_of (ended ∷ [])) now owing → begun ≡ [] → left ≡ drop (suc place) rest → SoFar first after all begins begun left owed owing
+    pub line_ends : (after : D) (owing begun left : List ℕ) → AreOwed Takes at after (rows_of (ended ∷ [])) now owing
+        → begun ≡ [] → left ≡ drop (suc place) rest → SoFar first after all begins begun left owed owing
     line_ends after owing begun left more none from = rw (none, from) (record {
       rows = so.rows ++ rows_of (ended ∷ []);
       left = rows_from;
@@ -244,49 +286,71 @@ module _ {D : Type 0} (Takes : TakesRow D) where
     })
 
   -- no line ends any more
-  pub all_taken : (first at : D) (all : List (List ℕ)) (begins line rest owed now : List ℕ) → SoFar first at all begins line rest owed now → position is_line_feed rest ≡ None
+  pub all_taken : (first at : D) (all : List (List ℕ)) (begins line rest owed now : List ℕ)
+      → SoFar first at all begins line rest owed now → position is_line_feed rest ≡ None
       → AreOwed Takes first at all owed now
   all_taken first at all begins line rest owed now so none =
-      subst (λ rows. AreOwed Takes first at rows owed now) (sym (so.left ∙ ap (λ l. so.rows ++ rows_of l) (no_end line rest none).lines ∙ append-nil so.rows)) so.taken
+      subst (λ rows. AreOwed Takes first at rows owed now)
+      (sym (so.left ∙ ap (λ l. so.rows ++ rows_of l) (no_end line rest none).lines ∙ append-nil so.rows)) so.taken
 
-  pub all_begun : (first at : D) (all : List (List ℕ)) (begins line rest owed now : List ℕ) → SoFar first at all begins line rest owed now → position is_line_feed rest ≡ None
+  pub all_begun : (first at : D) (all : List (List ℕ)) (begins line rest owed now : List ℕ)
+      → SoFar first at all begins line rest owed now → position is_line_feed rest ≡ None
       → cut (line ++ rest) ≡ begins
   all_begun first at all begins line rest owed now so none = sym (so.begun ∙ ap cut (no_end line rest none).last)
 
   -- ---- refusals
 
   module _ {F : Type 0} (Refuses : RefusesRow D F) where
-    refused_then : (at : D) (rows more : List (List ℕ)) (last : D) (by : Refusal F) → IsRefused Refuses at rows last by → IsRefused Refuses at (rows ++ more) last by
+    refused_then : (at : D) (rows more : List (List ℕ)) (last : D) (by : Refusal F) → IsRefused Refuses at rows last by
+        → IsRefused Refuses at (rows ++ more) last by
     refused_then at rows more last (refusal.Fault fault) so = (so.0, so.1 ++ more, ap (λ r. r ++ more) so.2, so.3)
     refused_then at rows more last refusal.OutOfMemory so = so
 
     -- a row is refused at once
-    pub cut_here : (at last : D) (rows : List (List ℕ)) (owed : List ℕ) (by : Refusal F) → IsRefused Refuses at rows last by → AreCut Takes Refuses at last rows owed owed by
-    cut_here at last rows owed by so = record { at = at; rows = []; later = rows; parted = refl; taken = none_owed at owed; refused = so }
+    pub cut_here : (at last : D) (rows : List (List ℕ)) (owed : List ℕ) (by : Refusal F)
+        → IsRefused Refuses at rows last by → AreCut Takes Refuses at last rows owed owed by
+    cut_here at last rows owed by so =
+        record { at = at; rows = []; later = rows; parted = refl; taken = none_owed at owed; refused = so }
 
     -- rows were taken, and after one is refused
-    pub cut_after : (first at last : D) (taken rows later all : List (List ℕ)) (owed now after : List ℕ) (by : Refusal F) → all ≡ taken ++ rows ++ later →
-        AreOwed Takes first at taken owed now → AreCut Takes Refuses at last rows now after by → AreCut Takes Refuses first last all owed after by
+    pub cut_after : (first at last : D) (taken rows later all : List (List ℕ)) (owed now after : List ℕ)
+        (by : Refusal F) → all ≡ taken ++ rows ++ later →
+        AreOwed Takes first at taken owed now → AreCut Takes Refuses at last rows now after by
+        → AreCut Takes Refuses first last all owed after by
     cut_after first at last taken rows later all owed now after by e so cut = record {
       at = cut.at;
       rows = taken ++ cut.rows;
       later = cut.later ++ later;
-      parted = e ∙ ap (λ r. taken ++ r ++ later) cut.parted ∙ ap (λ r. r ++ later) (sym (append_assoc taken cut.rows cut.later)) ∙ append_assoc (taken ++ cut.rows) cut.later later;
+      parted =
+          e ∙ ap (λ r. taken ++ r ++ later) cut.parted
+          ∙ ap (λ r. r ++ later) (sym (append_assoc taken cut.rows cut.later))
+          ∙ append_assoc (taken ++ cut.rows) cut.later later;
       taken = owed_then first at cut.at taken cut.rows owed now after so cut.taken;
       refused = refused_then cut.at cut.later later last by cut.refused;
     }
 
-    pub line_cut : (first at last : D) (all : List (List ℕ)) (begins line rest owed now after : List ℕ) (by : Refusal F) (so : SoFar first at all begins line rest owed now) (place : ℕ)
-        → position is_line_feed rest ≡ Some place → (ended : List ℕ) → ended ≡ cut (line ++ take place rest) → AreCut Takes Refuses at last (rows_of (ended ∷ [])) now after by
+    pub line_cut : (first at last : D) (all : List (List ℕ)) (begins line rest owed now after : List ℕ) (by : Refusal F)
+        (so : SoFar first at all begins line rest owed now) (place : ℕ)
+        → position is_line_feed rest ≡ Some place → (ended : List ℕ) → ended ≡ cut (line ++ take place rest)
+        → AreCut Takes Refuses at last (rows_of (ended ∷ [])) now after by
         → AreCut Takes Refuses first last all owed after by
     line_cut first at last all begins line rest owed now after by so place next ended is cut =
-        cut_after first at last so.rows (rows_of (ended ∷ [])) (rows_of (whole_lines [] (drop (suc place) rest))) all owed now after by
+        cut_after first at last so.rows (rows_of (ended ∷ [])) (rows_of (whole_lines [] (drop (suc place) rest))) all
+        owed now after by
         (rows_from first at all begins line rest owed now so place next ended is) so.taken cut
 
     -- memory runs out within a line
-    pub octet_cut : (first at : D) (all : List (List ℕ)) (begins line rest owed now : List ℕ) → SoFar first at all begins line rest owed now → AreCut Takes Refuses first at all owed now refusal.OutOfMemory
+    pub octet_cut : (first at : D) (all : List (List ℕ)) (begins line rest owed now : List ℕ)
+        → SoFar first at all begins line rest owed now → AreCut Takes Refuses first at all owed now refusal.OutOfMemory
     octet_cut first at all begins line rest owed now so =
-        record { at = at; rows = so.rows; later = rows_of (whole_lines line rest); parted = so.left; taken = so.taken; refused = tt }
+        record {
+          at = at;
+          rows = so.rows;
+          later = rows_of (whole_lines line rest);
+          parted = so.left;
+          taken = so.taken;
+          refused = tt;
+        }
 
 -- ---- tests
 
@@ -297,7 +361,8 @@ pub is_none : (n : ℕ) → (n == 0) ≡ true → n ≡ 0
 is_none n t = eqb-true n 0 t
 
 -- why a desk refuses a row
-pub refused_by : {D F : Type 0} (Refuses : RefusesRow D F) (at last : D) (line : List ℕ) (by : Refusal F) → (length line ≡ 0 → ⊥) → length line ≤ LONGEST_ROW + 1 → IsRefusal (Refuses at line last) by →
+pub refused_by : {D F : Type 0} (Refuses : RefusesRow D F) (at last : D) (line : List ℕ) (by : Refusal F)
+    → (length line ≡ 0 → ⊥) → length line ≤ LONGEST_ROW + 1 → IsRefusal (Refuses at line last) by →
     IsRefused Refuses at (rows_of (line ∷ [])) last by
 refused_by Refuses at last line (refusal.Fault fault) some few so = (line, [], one_row line some few, so)
 refused_by Refuses at last line refusal.OutOfMemory some few so = tt

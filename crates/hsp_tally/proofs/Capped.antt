@@ -24,13 +24,21 @@ capped_kinds_are_classes costs sites =
     named a n = record { region = a.region; handle = a.handle; count = n }
 
 module _ (costs : List CostEntry) (sites : List Site) where
-  one_more : (table : List Row) (row : Row) → IsKept row → counted (by_capped costs sites) (map capped_row table) row ≡ map capped_row (counted (by_kind costs sites) table row)
-  one_more [] row kept = let same : row.count ≡ capped row.count = omega arith in ap (λ n. record { region = row.region; handle = row.handle; count = n } ∷ []) same
+  one_more : (table : List Row) (row : Row) → IsKept row
+      → counted (by_capped costs sites) (map capped_row table) row
+      ≡ map capped_row (counted (by_kind costs sites) table row)
+  one_more [] row kept =
+      let same : row.count ≡ capped row.count = omega arith in
+      ap (λ n. record { region = row.region; handle = row.handle; count = n } ∷ []) same
   one_more (first ∷ table) row kept = grind (arith, one_more table row kept)
 
-  all_more : (table rows : List Row) → AllByRecursion IsKept rows → counted_all (by_capped costs sites) (map capped_row table) rows ≡ map capped_row (counted_all (by_kind costs sites) table rows)
+  all_more : (table rows : List Row) → AllByRecursion IsKept rows
+      → counted_all (by_capped costs sites) (map capped_row table) rows
+      ≡ map capped_row (counted_all (by_kind costs sites) table rows)
   all_more table [] kept = refl
-  all_more table (row ∷ rows) kept = ap (λ t. counted_all (by_capped costs sites) t rows) (one_more table row kept.0) ∙ all_more (counted (by_kind costs sites) table row) rows kept.1
+  all_more table (row ∷ rows) kept =
+      ap (λ t. counted_all (by_capped costs sites) t rows) (one_more table row kept.0)
+      ∙ all_more (counted (by_kind costs sites) table row) rows kept.1
 
 pub tables_are_capped : TablesAreCapped
 tables_are_capped costs sites rows kept = all_more costs sites [] rows kept

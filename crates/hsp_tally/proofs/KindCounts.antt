@@ -1,5 +1,6 @@
 -- Rows that are counted: their regions, their places, and the rows that were seen.
-use Rattle.std.proofs.Common.{◌≡◌, ◌∙◌, ◌⊎◌, ◌<◌, ◌≤◌, nat_lt, inl, inr, ℕ, zero, suc, Bool, true, List, [], ◌∷◌, ◌++◌, Some, Ok, Err, fold, length, length-append, map, refl, ap, sym, arith}
+use Rattle.std.proofs.Common.{◌≡◌, ◌∙◌, ◌⊎◌, ◌<◌, ◌≤◌, nat_lt, inl, inr, ℕ, zero, suc, Bool, true, List, [], ◌∷◌, ◌++◌}
+use Rattle.std.proofs.Common.{Some, Ok, Err, fold, length, length-append, map, refl, ap, sym, arith}
 use Rattle.std.proofs.lemmas.Bool.{cases_Bool, false≢true}
 use Rattle.std.proofs.lemmas.Cmp.{nat_list_eq_equiv}
 use Rattle.std.proofs.lemmas.List.{map-append}
@@ -32,50 +33,66 @@ any_last p [] y e = grind arith
 any_last p (x ∷ xs) y e = grind (arith, any_last p xs y)
 
 module _ (name : List ℕ) where
-  inserted_kept : (names : List (List ℕ)) (other : List ℕ) → list_any (bytes_eq name) names ≡ true → list_any (bytes_eq name) (insert_key bytes_eq names other) ≡ true
+  inserted_kept : (names : List (List ℕ)) (other : List ℕ) → list_any (bytes_eq name) names ≡ true
+      → list_any (bytes_eq name) (insert_key bytes_eq names other) ≡ true
   inserted_kept names other e = grind (arith, any_append (bytes_eq name) names (other ∷ []) e)
 
-  inserted_there : (names : List (List ℕ)) (other : List ℕ) → bytes_eq name other ≡ true → list_any (bytes_eq name) (insert_key bytes_eq names other) ≡ true
+  inserted_there : (names : List (List ℕ)) (other : List ℕ) → bytes_eq name other ≡ true
+      → list_any (bytes_eq name) (insert_key bytes_eq names other) ≡ true
   inserted_there names other e =
       let is : name ≡ other = (bytes_decides name other).0 e in
       grind (arith, any_last (bytes_eq name) names other e)
 
-  all_kept : (more names : List (List ℕ)) → list_any (bytes_eq name) names ≡ true → list_any (bytes_eq name) (fold (insert_key bytes_eq) names more) ≡ true
+  all_kept : (more names : List (List ℕ)) → list_any (bytes_eq name) names ≡ true
+      → list_any (bytes_eq name) (fold (insert_key bytes_eq) names more) ≡ true
   all_kept [] names e = e
   all_kept (other ∷ more) names e = all_kept more (insert_key bytes_eq names other) (inserted_kept names other e)
 
-  all_there : (more names : List (List ℕ)) → list_any (bytes_eq name) more ≡ true → list_any (bytes_eq name) (fold (insert_key bytes_eq) names more) ≡ true
+  all_there : (more names : List (List ℕ)) → list_any (bytes_eq name) more ≡ true
+      → list_any (bytes_eq name) (fold (insert_key bytes_eq) names more) ≡ true
   all_there [] names e = absurd (false≢true e)
   all_there (other ∷ more) names e =
       let with = insert_key bytes_eq names other in
       grind (arith, all_kept more with, inserted_there names other, all_there more with)
 
-pub there_already : (regions : List (List ℕ)) (region : List ℕ) → list_any (bytes_eq region) regions ≡ true → with_region regions region ≡ regions
+pub there_already : (regions : List (List ℕ)) (region : List ℕ) → list_any (bytes_eq region) regions ≡ true
+    → with_region regions region ≡ regions
 there_already regions region e = rw e refl
 
 -- regions stay few where the region is known, or where there are not as many as there may be
-pub few_regions : (regions : List (List ℕ)) (region : List ℕ) → length regions ≤ MOST_REGIONS → (list_any (bytes_eq region) regions ≡ true) ⊎ (length regions < MOST_REGIONS) → length (with_region regions region) ≤ MOST_REGIONS
+pub few_regions : (regions : List (List ℕ)) (region : List ℕ) → length regions ≤ MOST_REGIONS
+    → (list_any (bytes_eq region) regions ≡ true) ⊎ (length regions < MOST_REGIONS)
+    → length (with_region regions region) ≤ MOST_REGIONS
 few_regions regions region few (inl known) = rw (there_already regions region known) few
 few_regions regions region few (inr room) = grind (arith, length-append regions (region ∷ []))
 
-pub region_added : (rows : List Row) (row : Row) → regions_of (rows ++ row ∷ []) ≡ with_region (regions_of rows) row.region
-region_added rows row = ap first_seen (map-append (λ (r : Row). r.region) rows (row ∷ [])) ∙ first_seen-append (map (λ (r : Row). r.region) rows) row.region
+pub region_added : (rows : List Row) (row : Row)
+    → regions_of (rows ++ row ∷ []) ≡ with_region (regions_of rows) row.region
+region_added rows row =
+    ap first_seen (map-append (λ (r : Row). r.region) rows (row ∷ []))
+    ∙ first_seen-append (map (λ (r : Row). r.region) rows) row.region
 
 module _ (costs : List CostEntry) (sites : List Site) (row : Row) where
-  region_there : (rows : List Row) → list_any (λ r. is_same_kind costs sites r row) rows ≡ true → list_any (bytes_eq row.region) (map (λ (r : Row). r.region) rows) ≡ true
+  region_there : (rows : List Row) → list_any (λ r. is_same_kind costs sites r row) rows ≡ true
+      → list_any (bytes_eq row.region) (map (λ (r : Row). r.region) rows) ≡ true
   region_there [] e = absurd (false≢true e)
   region_there (first ∷ rows) e = grind (arith, region_there rows, nat_list_eq_equiv.symm row.region first.region)
 
   -- a kind that is there has its region there
-  pub known_region : (rows : List Row) → list_any (λ r. is_same_kind costs sites r row) rows ≡ true → with_region (regions_of rows) row.region ≡ regions_of rows
-  known_region rows e = there_already (regions_of rows) row.region (all_there row.region (map (λ (r : Row). r.region) rows) [] (region_there rows e))
+  pub known_region : (rows : List Row) → list_any (λ r. is_same_kind costs sites r row) rows ≡ true
+      → with_region (regions_of rows) row.region ≡ regions_of rows
+  known_region rows e =
+      there_already (regions_of rows) row.region
+      (all_there row.region (map (λ (r : Row). r.region) rows) [] (region_there rows e))
 
-  same_regions : (rows : List Row) → list_any (λ r. is_same_kind costs sites r row) rows ≡ true → map (λ (r : Row). r.region) (counted (by_capped costs sites) rows row) ≡ map (λ (r : Row). r.region) rows
+  same_regions : (rows : List Row) → list_any (λ r. is_same_kind costs sites r row) rows ≡ true
+      → map (λ (r : Row). r.region) (counted (by_capped costs sites) rows row) ≡ map (λ (r : Row). r.region) rows
   same_regions [] e = absurd (false≢true e)
   same_regions (first ∷ rows) e = grind (arith, same_regions rows)
 
   -- the regions of counted rows are those of the rows and that of the row
-  pub counted_regions : (rows : List Row) → regions_of (counted (by_capped costs sites) rows row) ≡ with_region (regions_of rows) row.region
+  pub counted_regions : (rows : List Row)
+      → regions_of (counted (by_capped costs sites) rows row) ≡ with_region (regions_of rows) row.region
   counted_regions rows = elim (cases_Bool (list_any (λ r. is_same_kind costs sites r row) rows)) [
     | inl there ↦ ap first_seen (same_regions rows there) ∙ sym (known_region rows there)
     | inr none ↦ ap regions_of (counted_last (by_capped costs sites) rows row none) ∙ region_added rows row
@@ -83,42 +100,51 @@ module _ (costs : List CostEntry) (sites : List Site) (row : Row) where
 
   -- ---- what is counted
 
-  pub counted_well : (rows : List Row) → length (with_region (regions_of rows) row.region) ≤ MOST_REGIONS → length (counted (by_capped costs sites) rows row) ≤ MOST_DEMAND_ROWS
+  pub counted_well : (rows : List Row) → length (with_region (regions_of rows) row.region) ≤ MOST_REGIONS
+      → length (counted (by_capped costs sites) rows row) ≤ MOST_DEMAND_ROWS
       → with_counted costs sites rows row ≡ Ok (counted (by_capped costs sites) rows row)
   counted_well rows regions kinds = grind (arith, region_added rows row)
 
-  pub kinds_too_many : (rows : List Row) → length (with_region (regions_of rows) row.region) ≤ MOST_REGIONS → nat_lt MOST_DEMAND_ROWS (length (counted (by_capped costs sites) rows row)) ≡ true
+  pub kinds_too_many : (rows : List Row) → length (with_region (regions_of rows) row.region) ≤ MOST_REGIONS
+      → nat_lt MOST_DEMAND_ROWS (length (counted (by_capped costs sites) rows row)) ≡ true
       → with_counted costs sites rows row ≡ Err TooManyKinds
   kinds_too_many rows regions kinds = grind (arith, region_added rows row)
 
   -- ---- a kind that is there
 
   -- where the place of a kind is within the rows, the kind is there
-  pub kind_there : (rows : List Row) → position_or_len (λ r. is_same_kind costs sites r row) rows < length rows → list_any (λ r. is_same_kind costs sites r row) rows ≡ true
+  pub kind_there : (rows : List Row) → position_or_len (λ r. is_same_kind costs sites r row) rows < length rows
+      → list_any (λ r. is_same_kind costs sites r row) rows ≡ true
   kind_there [] less = absurd (omega arith)
   kind_there (first ∷ rows) less = grind (arith, kind_there rows)
 
   -- and takes the count
-  pub joined_rows : (es : List KindEntry) → position_or_len (λ r. is_same_kind costs sites r row) (map row_in es) < length (map row_in es)
-      → map row_in (joined es (position_or_len (λ r. is_same_kind costs sites r row) (map row_in es)) row.count) ≡ counted (by_capped costs sites) (map row_in es) row
+  pub joined_rows : (es : List KindEntry)
+      → position_or_len (λ r. is_same_kind costs sites r row) (map row_in es) < length (map row_in es)
+      → map row_in (joined es (position_or_len (λ r. is_same_kind costs sites r row) (map row_in es)) row.count)
+      ≡ counted (by_capped costs sites) (map row_in es) row
   joined_rows [] less = absurd (omega arith)
   joined_rows (e ∷ es) less = grind (arith, joined_rows es)
 
 -- a kind stands by its key after it took a count
-pub joined_keyed : (costs : List CostEntry) (sites : List Site) (es : List KindEntry) (number count : ℕ) → AllByRecursion (HasKey costs sites) es → AllByRecursion (HasKey costs sites) (joined es number count)
+pub joined_keyed : (costs : List CostEntry) (sites : List Site) (es : List KindEntry) (number count : ℕ)
+    → AllByRecursion (HasKey costs sites) es → AllByRecursion (HasKey costs sites) (joined es number count)
 joined_keyed costs sites [] number count all = tt
 joined_keyed costs sites (e ∷ es) zero count all = (all.0, all.1)
 joined_keyed costs sites (e ∷ es) (suc number) count all = (all.0, joined_keyed costs sites es number count all.1)
 
 -- ---- rows that were seen
 
-pub place_within : {A : Type 0} (p : A → Bool) (xs : List A) (i : ℕ) → position p xs ≡ Some i → (position_or_len p xs ≡ i) × (i < length xs)
+pub place_within : {A : Type 0} (p : A → Bool) (xs : List A) (i : ℕ) → position p xs ≡ Some i
+    → (position_or_len p xs ≡ i) × (i < length xs)
 place_within p xs i e = grind arith
 
 module _ (costs : List CostEntry) (sites : List Site) (row : Row) where
   -- a kind that is there keeps its place as a row is counted
-  place_stays : (seen : Row) (rows : List Row) → position_or_len (λ r. is_same_kind costs sites r seen) rows < length rows
-      → position_or_len (λ r. is_same_kind costs sites r seen) (counted (by_capped costs sites) rows row) ≡ position_or_len (λ r. is_same_kind costs sites r seen) rows
+  place_stays : (seen : Row) (rows : List Row)
+      → position_or_len (λ r. is_same_kind costs sites r seen) rows < length rows
+      → position_or_len (λ r. is_same_kind costs sites r seen) (counted (by_capped costs sites) rows row)
+      ≡ position_or_len (λ r. is_same_kind costs sites r seen) rows
   place_stays seen [] less = absurd (omega arith)
   place_stays seen (first ∷ rows) less = grind (arith, place_stays seen rows)
 
@@ -127,16 +153,21 @@ module _ (costs : List CostEntry) (sites : List Site) (row : Row) where
   longer [] = omega arith
   longer (first ∷ rows) = grind (arith, longer rows)
 
-  pub seen_stays : (rows : List Row) (seen : Seen) → IsSeenAs costs sites rows seen → IsSeenAs costs sites (counted (by_capped costs sites) rows row) seen
+  pub seen_stays : (rows : List Row) (seen : Seen) → IsSeenAs costs sites rows seen
+      → IsSeenAs costs sites (counted (by_capped costs sites) rows row) seen
   seen_stays rows seen is =
       let at = place_within (λ r. is_same_kind costs sites r (seen_row seen)) rows seen.number is.place in
       record {
         named = is.named;
-        place = place_is (λ r. is_same_kind costs sites r (seen_row seen)) (counted (by_capped costs sites) rows row) seen.number
+        place =
+            place_is (λ r. is_same_kind costs sites r (seen_row seen)) (counted (by_capped costs sites) rows row)
+            seen.number
             (place_stays (seen_row seen) rows (rw (at.0) (at.1)) ∙ at.0) (omega (arith, longer rows));
       }
 
-pub all_stay : (costs : List CostEntry) (sites : List Site) (row : Row) (rows : List Row) (seen : List Seen) → AllByRecursion (IsSeenAs costs sites rows) seen
+pub all_stay : (costs : List CostEntry) (sites : List Site) (row : Row) (rows : List Row) (seen : List Seen)
+    → AllByRecursion (IsSeenAs costs sites rows) seen
     → AllByRecursion (IsSeenAs costs sites (counted (by_capped costs sites) rows row)) seen
 all_stay costs sites row rows [] all = tt
-all_stay costs sites row rows (one ∷ seen) all = (seen_stays costs sites row rows one all.0, all_stay costs sites row rows seen all.1)
+all_stay costs sites row rows (one ∷ seen) all =
+    (seen_stays costs sites row rows one all.0, all_stay costs sites row rows seen all.1)

@@ -21,22 +21,26 @@ unfolding IsDistinct
 no_kinds costs sites = record { named = tt; few = omega arith; regions = omega arith; apart = tt }
 
 -- what was counted is within the limits
-pub counted_is : (costs : List CostEntry) (sites : List Site) (rows : List Row) (row : Row) (next : List Row) → with_counted costs sites rows row ≡ Ok next
-    → (next ≡ counted (by_capped costs sites) rows row) × (length (regions_of next) ≤ MOST_REGIONS) × (length next ≤ MOST_DEMAND_ROWS)
+pub counted_is : (costs : List CostEntry) (sites : List Site) (rows : List Row) (row : Row) (next : List Row)
+    → with_counted costs sites rows row ≡ Ok next
+    → (next ≡ counted (by_capped costs sites) rows row) × (length (regions_of next) ≤ MOST_REGIONS)
+    × (length next ≤ MOST_DEMAND_ROWS)
 counted_is costs sites rows row next is =
     let same : next ≡ counted (by_capped costs sites) rows row = grind arith in
     let regions = counted_regions costs sites row rows ∙ sym (region_added rows row) in
     (same, rw (same, regions) (grind arith), grind arith)
 
 module _ (costs : List CostEntry) (sites : List Site) (row : Row) where
-  named_more : (rows : List Row) → AllByRecursion IsNamed rows → IsNamed row → AllByRecursion IsNamed (counted (by_capped costs sites) rows row)
+  named_more : (rows : List Row) → AllByRecursion IsNamed rows → IsNamed row
+      → AllByRecursion IsNamed (counted (by_capped costs sites) rows row)
   named_more [] all own = (own, tt)
   named_more (first ∷ rows) all own = elim (cases_Bool (is_same_kind costs sites first row)) [
     | inl t ↦ rw t (record { region = all.0.region; handle = all.0.handle }, all.1)
     | inr f ↦ rw f (all.0, named_more rows all.1 own)
   ]
 
-  apart_more : (first : Row) (rows : List Row) → is_same_kind costs sites first row ≡ false → AllByRecursion (λ y. is_same_kind costs sites first y ≡ false) rows
+  apart_more : (first : Row) (rows : List Row) → is_same_kind costs sites first row ≡ false
+      → AllByRecursion (λ y. is_same_kind costs sites first y ≡ false) rows
       → AllByRecursion (λ y. is_same_kind costs sites first y ≡ false) (counted (by_capped costs sites) rows row)
   apart_more first [] own all = (own, tt)
   apart_more first (other ∷ rows) own all = elim (cases_Bool (is_same_kind costs sites other row)) [
@@ -44,7 +48,8 @@ module _ (costs : List CostEntry) (sites : List Site) (row : Row) where
     | inr f ↦ rw f (all.0, apart_more first rows own all.1)
   ]
 
-  apart_still : (rows : List Row) → IsDistinct (is_same_kind costs sites) rows → IsDistinct (is_same_kind costs sites) (counted (by_capped costs sites) rows row)
+  apart_still : (rows : List Row) → IsDistinct (is_same_kind costs sites) rows
+      → IsDistinct (is_same_kind costs sites) (counted (by_capped costs sites) rows row)
   unfolding IsDistinct
   apart_still [] apart = (tt, tt)
   apart_still (first ∷ rows) apart = elim (cases_Bool (is_same_kind costs sites first row)) [
@@ -53,7 +58,8 @@ module _ (costs : List CostEntry) (sites : List Site) (row : Row) where
   ]
 
   -- a table with a row counted is one
-  pub kinds_more : (rows next : List Row) → IsKindTable costs sites rows → IsNamed row → with_counted costs sites rows row ≡ Ok next → IsKindTable costs sites next
+  pub kinds_more : (rows next : List Row) → IsKindTable costs sites rows → IsNamed row
+      → with_counted costs sites rows row ≡ Ok next → IsKindTable costs sites next
   kinds_more rows next are own is =
       let counts = counted_is costs sites rows row next is in
       record {

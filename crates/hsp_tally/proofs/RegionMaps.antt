@@ -1,5 +1,7 @@
 -- The sites where a region has costs, and the map that holds those of the regions that were sought.
-use Rattle.std.proofs.Common.{◌≡◌, ◌∙◌, ◌+◌, ◌<◌, ℕ, zero, suc, Bool, true, false, cond, List, [], ◌∷◌, ◌++◌, Option, Some, None, inl, inr, Vec, Global, is_some, length, map, filter, option_map, take, refl, ap, sym, arith}
+use Rattle.std.proofs.Common.{◌≡◌, ◌∙◌, ◌+◌, ◌<◌, ℕ, Bool, true, false, cond, List, [], ◌∷◌, ◌++◌, Option, Some, None}
+use Rattle.std.proofs.Common.{inl, inr, Vec, Global, is_some, length, map, filter, option_map, take, refl, ap, sym}
+use Rattle.std.proofs.Common.{arith}
 use Rattle.std.proofs.lemmas.Bool.{cases_Bool}
 use Rattle.std.proofs.lemmas.List.{append-nil, map-append}
 use Rattle.std.proofs.lemmas.List.Elements.{filter_more}
@@ -23,22 +25,32 @@ use Rattle.hsp_tally.specs.Keys.{HasServer, HasSites, KnownSites, hash_of, name_
 
 -- ---- sites where a region has costs
 
-module _ (costs : List CostEntry) (sites : List Site) (region : List ℕ) (n : ℕ) (site : Site) (at : slice_get sites n ≡ Some site) where
+module _ (costs : List CostEntry) (sites : List Site) (region : List ℕ) (n : ℕ) (site : Site)
+    (at : slice_get sites n ≡ Some site) where
   abbrev has_cost : Site → Bool
   has_cost s = is_some (cost_of costs region s.name)
 
-  more_sites : sites_for costs (take (n + 1) sites) region ≡ sites_for costs (take n sites) region ++ cond (has_cost site) (site ∷ []) []
-  more_sites = rw (get_or_from_slice_get sites n site site at) at (filter_more has_cost sites n site (slice_get_within sites n site at))
+  more_sites : sites_for costs (take (n + 1) sites) region ≡ sites_for costs (take n sites) region
+      ++ cond (has_cost site) (site ∷ []) []
+  more_sites =
+      rw (get_or_from_slice_get sites n site site at) at
+      (filter_more has_cost sites n site (slice_get_within sites n site at))
 
-  pub next_site : is_some (cost_of costs region site.name) ≡ true → map hash_of (sites_for costs (take (n + 1) sites) region) ≡ map hash_of (sites_for costs (take n sites) region) ++ hash_of site ∷ []
+  pub next_site : is_some (cost_of costs region site.name) ≡ true
+      → map hash_of (sites_for costs (take (n + 1) sites) region) ≡ map hash_of (sites_for costs (take n sites) region)
+      ++ hash_of site ∷ []
   next_site is = rw (more_sites, is) (map-append hash_of (sites_for costs (take n sites) region) (site ∷ []))
 
-  pub no_next_site : is_some (cost_of costs region site.name) ≡ false → map hash_of (sites_for costs (take (n + 1) sites) region) ≡ map hash_of (sites_for costs (take n sites) region)
+  pub no_next_site : is_some (cost_of costs region site.name) ≡ false
+      → map hash_of (sites_for costs (take (n + 1) sites) region) ≡ map hash_of (sites_for costs (take n sites) region)
   no_next_site is = rw (more_sites, is, append-nil) refl
 
 -- a site by its parts
-pub site_there : (o : Option Site) (name : List ℕ) (option : HashOption) (servers : ℕ) → option_map (λ (s : Site). s.name) o ≡ Some name → option_map (λ (s : Site). s.option) o ≡ Some option
-    → option_map (λ (s : Site). length s.servers) o ≡ Some servers → (site : Site) × (o ≡ Some site) × (site.name ≡ name) × (hash_of site ≡ record { option = option; servers = servers })
+pub site_there : (o : Option Site) (name : List ℕ) (option : HashOption) (servers : ℕ)
+    → option_map (λ (s : Site). s.name) o ≡ Some name → option_map (λ (s : Site). s.option) o ≡ Some option
+    → option_map (λ (s : Site). length s.servers) o ≡ Some servers
+    → (site : Site) × (o ≡ Some site) × (site.name ≡ name)
+    × (hash_of site ≡ record { option = option; servers = servers })
 site_there None name option servers n o s = let none : ◌≡◌ {A = Option (List ℕ)} None (Some name) = n in cc
 site_there (Some site) name option servers n o s =
     let a : site.name ≡ name = cc n in
@@ -46,22 +58,19 @@ site_there (Some site) name option servers n o s =
     let c : length site.servers ≡ servers = cc s in
     (site, refl, a, rw (b, c) refl)
 
-pub site_named : (o : Option Site) (name : List ℕ) → option_map (λ (s : Site). s.name) o ≡ Some name → (site : Site) × (o ≡ Some site) × (site.name ≡ name)
+pub site_named : (o : Option Site) (name : List ℕ) → option_map (λ (s : Site). s.name) o ≡ Some name
+    → (site : Site) × (o ≡ Some site) × (site.name ≡ name)
 site_named None name n = let none : ◌≡◌ {A = Option (List ℕ)} None (Some name) = n in cc
 site_named (Some site) name n = let a : site.name ≡ name = cc n in (site, refl, a)
 
 -- each site where a region has a cost has a server
-pub all_have_servers : (p : Site → Bool) (sites : List Site) → AllByRecursion instance.HasServer sites → AllByRecursion HasServer (map hash_of (filter p sites))
+pub all_have_servers : (p : Site → Bool) (sites : List Site) → AllByRecursion instance.HasServer sites
+    → AllByRecursion HasServer (map hash_of (filter p sites))
 all_have_servers p [] all = tt
 all_have_servers p (site ∷ sites) all = elim (cases_Bool (p site)) [
   | inl t ↦ rw t (all.0, all_have_servers p sites all.1)
   | inr f ↦ rw f (all_have_servers p sites all.1)
 ]
-
-pub all_take : {A : Type 0} (P : A → Type 0) (n : ℕ) (xs : List A) → AllByRecursion P xs → AllByRecursion P (take n xs)
-all_take P zero xs all = tt
-all_take P (suc n) [] all = tt
-all_take P (suc n) (x ∷ xs) all = (all.0, all_take P n xs all.1)
 
 -- ---- the map
 
@@ -76,30 +85,36 @@ is_name name key = bytes_eq name key.items
 abbrev pub same : Vec ℕ Global → Vec ℕ Global → Bool
 same a b = bytes_eq a.items b.items
 
-among_names : (name : List ℕ) (es : List KnownSites) → list_any (is_name name) (keys_of es) ≡ list_any (bytes_eq name) (names_of es)
+among_names : (name : List ℕ) (es : List KnownSites)
+    → list_any (is_name name) (keys_of es) ≡ list_any (bytes_eq name) (names_of es)
 among_names name [] = refl
 among_names name (e ∷ es) = rw (among_names name es) refl
 
 -- a region is in the map where its name is among the names
-pub is_known : (name : List ℕ) (es : List KnownSites) → is_some (lookup (is_name name) es) ≡ list_any (bytes_eq name) (names_of es)
+pub is_known : (name : List ℕ) (es : List KnownSites)
+    → is_some (lookup (is_name name) es) ≡ list_any (bytes_eq name) (names_of es)
 is_known name es = is_some-lookup (is_name name) es ∙ among_names name es
 
 -- a region that is there changes no names
-pub known_before : (name : List ℕ) (es : List KnownSites) → is_some (lookup (is_name name) es) ≡ true → names_of es ≡ with_region (names_of es) name
+pub known_before : (name : List ℕ) (es : List KnownSites) → is_some (lookup (is_name name) es) ≡ true
+    → names_of es ≡ with_region (names_of es) name
 known_before name es there =
     rw (names_are es) (seen_before name (keys_of es) (sym (is_some-lookup (is_name name) es) ∙ there))
 
-stands : (name : List ℕ) (es : List KnownSites) → position_or_len (is_name name) (keys_of es) < length es → option_map name_of (slice_get es (position_or_len (is_name name) (keys_of es))) ≡ Some name
+stands : (name : List ℕ) (es : List KnownSites) → position_or_len (is_name name) (keys_of es) < length es
+    → option_map name_of (slice_get es (position_or_len (is_name name) (keys_of es))) ≡ Some name
 stands name [] less = absurd (omega arith)
 stands name (e ∷ es) less = grind (arith, stands name es, bytes_decides name e.0.items)
 
 -- the place of a region has its name
-pub known_place : (name : List ℕ) (es : List KnownSites) (i : ℕ) → i < length es → position (is_name name) (keys_of es) ≡ Some i → option_map name_of (slice_get es i) ≡ Some name
+pub known_place : (name : List ℕ) (es : List KnownSites) (i : ℕ) → i < length es
+    → position (is_name name) (keys_of es) ≡ Some i → option_map name_of (slice_get es i) ≡ Some name
 known_place name es i less at = grind (arith, stands name es)
 
 module _ (costs : List CostEntry) (sites : List Site) (key : Vec ℕ Global) (found : Vec SiteHash Global) where
   -- the sites of a region are added
-  pub sites_added : (es : List KnownSites) → HasSites costs sites (key, found) → AllByRecursion (HasSites costs sites) es
+  pub sites_added : (es : List KnownSites) → HasSites costs sites (key, found)
+      → AllByRecursion (HasSites costs sites) es
       → AllByRecursion (HasSites costs sites) (insert_entry same es key found)
   sites_added [] has all = (has, tt)
   sites_added (e ∷ es) has all = elim (cases_Bool (same key e.0)) [
@@ -108,20 +123,26 @@ module _ (costs : List CostEntry) (sites : List Site) (key : Vec ℕ Global) (fo
   ]
 
 -- and its name
-pub names_added : (key : Vec ℕ Global) (found : Vec SiteHash Global) (es : List KnownSites) → names_of (insert_entry same es key found) ≡ with_region (names_of es) key.items
+pub names_added : (key : Vec ℕ Global) (found : Vec SiteHash Global) (es : List KnownSites)
+    → names_of (insert_entry same es key found) ≡ with_region (names_of es) key.items
 names_added key found [] = refl
 names_added key found (e ∷ es) = grind (arith, names_added key found es)
 
 -- which stands at the place that it was given
 pub added_place : (key : Vec ℕ Global) (found : Vec SiteHash Global) (es : List KnownSites)
-    → option_map name_of (slice_get (insert_entry same es key found) (position_or_len (λ (k : Vec ℕ Global). bytes_eq key.items k.items) (keys_of es))) ≡ Some key.items
+    → option_map name_of
+    (slice_get (insert_entry same es key found)
+    (position_or_len (λ (k : Vec ℕ Global). bytes_eq key.items k.items) (keys_of es))) ≡ Some key.items
 added_place key found [] = refl
 added_place key found (e ∷ es) = grind (arith, added_place key found es, bytes_decides key.items e.0.items)
 
 -- what stands at the place of a region are its sites
-pub known_sites : (costs : List CostEntry) (sites : List Site) (region : List ℕ) (found : List SiteHash) (o : Option KnownSites) → option_map name_of o ≡ Some region → option_map sites_of o ≡ Some found
-    → ((e : KnownSites) → o ≡ Some e → HasSites costs sites e) → (found ≡ map hash_of (sites_for costs sites region)) × AllByRecursion HasServer found
-known_sites costs sites region found None name is has = let none : ◌≡◌ {A = Option (List ℕ)} None (Some region) = name in cc
+pub known_sites : (costs : List CostEntry) (sites : List Site) (region : List ℕ) (found : List SiteHash)
+    (o : Option KnownSites) → option_map name_of o ≡ Some region → option_map sites_of o ≡ Some found
+    → ((e : KnownSites) → o ≡ Some e → HasSites costs sites e)
+    → (found ≡ map hash_of (sites_for costs sites region)) × AllByRecursion HasServer found
+known_sites costs sites region found None name is has =
+    let none : ◌≡◌ {A = Option (List ℕ)} None (Some region) = name in cc
 known_sites costs sites region found (Some e) name is has =
     let n : name_of e ≡ region = cc name in
     let f : sites_of e ≡ found = cc is in

@@ -1,5 +1,6 @@
 -- What was taken from a reader, piece by piece.
-use Rattle.std.proofs.Common.{◌≡◌, ◌≢◌, ◌≤◌, ◌∙◌, ℕ, suc, List, [], ◌∷◌, ◌++◌, length, take, get_or, Option, Some, None, false, refl, sym, ap, arith, append_assoc}
+use Rattle.std.proofs.Common.{◌≡◌, ◌≢◌, ◌≤◌, ◌∙◌, ℕ, suc, List, [], ◌∷◌, ◌++◌, length, take, get_or, Option, Some, None}
+use Rattle.std.proofs.Common.{false, refl, sym, ap, arith}
 use Rattle.std.specs.Prelude.{IfSome}
 use Rattle.std.specs.List.{list_any, position_or_len}
 use Rattle.std.specs.Io.KnownBytes.{Consumes, IsAtEnd}
@@ -9,20 +10,9 @@ use Rattle.std.proofs.lemmas.Bool.{ne_eqb, or_parts, or_from}
 use Rattle.hsp_text.proofs.Cuts.{cut_parts}
 use Rattle.hsp_text.specs.Input.{is_lf, first_line_of}
 
--- nothing was taken yet
-pub consumes_none : (a : Option (List ℕ)) → Consumes a a []
-consumes_none None = tt
-consumes_none (Some x) = refl
-
--- one piece, then another
-pub consumes_more : (a b c : Option (List ℕ)) (xs ys : List ℕ) → Consumes a b xs → Consumes b c ys → Consumes a c (xs ++ ys)
-consumes_more None b c xs ys f g = tt
-consumes_more (Some x) None c xs ys f g = absurd f
-consumes_more (Some x) (Some y) None xs ys f g = absurd g
-consumes_more (Some x) (Some y) (Some z) xs ys f g = f ∙ ap (λ (t : List ℕ). xs ++ t) g ∙ sym (append_assoc xs ys z)
-
 -- at the end all was taken
-consumes_all : (a b c : Option (List ℕ)) (xs : List ℕ) → Consumes a b xs → Consumes b c [] → IsAtEnd c → IfSome a (λ text. xs ≡ text)
+consumes_all : (a b c : Option (List ℕ)) (xs : List ℕ) → Consumes a b xs → Consumes b c [] → IsAtEnd c
+    → IfSome a (λ text. xs ≡ text)
 consumes_all None b c xs f g e = tt
 consumes_all (Some x) None c xs f g e = absurd f
 consumes_all (Some x) (Some y) None xs f g e = absurd g
@@ -30,7 +20,9 @@ consumes_all (Some x) (Some y) (Some z) xs f g e = sym (f ∙ ap (λ (t : List �
 
 -- a line stays unbroken by an octet that is no LF
 pub unbroken_more : (xs : List ℕ) (o : ℕ) → list_any is_lf xs ≡ false → o ≢ 10 → list_any is_lf (xs ++ o ∷ []) ≡ false
-unbroken_more xs o u n = rw (list_any-append is_lf xs (o ∷ [])) (or_from (list_any is_lf xs) (list_any is_lf (o ∷ [])) u (or_from (is_lf o) false (ne_eqb o 10 n) refl))
+unbroken_more xs o u n =
+    rw (list_any-append is_lf xs (o ∷ []))
+    (or_from (list_any is_lf xs) (list_any is_lf (o ∷ [])) u (or_from (is_lf o) false (ne_eqb o 10 n) refl))
 
 -- a text without LF is its first line
 whole_line : (xs : List ℕ) → list_any is_lf xs ≡ false → first_line_of xs ≡ xs
@@ -41,12 +33,15 @@ whole_line (x ∷ xs) u =
     rw at (ap (λ (t : List ℕ). x ∷ t) (whole_line xs parts.1))
 
 -- the line ends with the text
-pub line_ends : (a b c : Option (List ℕ)) (xs : List ℕ) → list_any is_lf xs ≡ false → Consumes a b xs → Consumes b c [] → IsAtEnd c → IfSome a (λ text. xs ≡ first_line_of text)
+pub line_ends : (a b c : Option (List ℕ)) (xs : List ℕ) → list_any is_lf xs ≡ false → Consumes a b xs → Consumes b c []
+    → IsAtEnd c → IfSome a (λ text. xs ≡ first_line_of text)
 line_ends None b c xs u f g e = tt
-line_ends (Some x) b c xs u f g e = let all : xs ≡ x = consumes_all (Some x) b c xs f g e in rw (← all) (sym (whole_line xs u))
+line_ends (Some x) b c xs u f g e =
+    let all : xs ≡ x = consumes_all (Some x) b c xs f g e in rw (← all) (sym (whole_line xs u))
 
 -- the line ends at an LF
-pub line_feeds : (a b c : Option (List ℕ)) (xs : List ℕ) (o : ℕ) → list_any is_lf xs ≡ false → o ≡ 10 → Consumes a b xs → Consumes b c (o ∷ []) → IfSome a (λ text. xs ≡ first_line_of text)
+pub line_feeds : (a b c : Option (List ℕ)) (xs : List ℕ) (o : ℕ) → list_any is_lf xs ≡ false → o ≡ 10 → Consumes a b xs
+    → Consumes b c (o ∷ []) → IfSome a (λ text. xs ≡ first_line_of text)
 line_feeds None b c xs o u n f g = tt
 line_feeds (Some x) None c xs o u n f g = absurd f
 line_feeds (Some x) (Some y) None xs o u n f g = absurd g

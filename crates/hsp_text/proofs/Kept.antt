@@ -7,7 +7,8 @@ pub kept_behind : {A : Type 0} → (text more : List A) → take (length text) (
 kept_behind text more = take-append_seam text more
 
 -- the beginning of a text is that of the text with more behind it
-pub kept_on : {A : Type 0} → (start text more : List A) → take (length start) text ≡ start → take (length start) (text ++ more) ≡ start
+pub kept_on : {A : Type 0} → (start text more : List A) → take (length start) text ≡ start
+    → take (length start) (text ++ more) ≡ start
 kept_on [] text more kept = refl
 kept_on (s ∷ start) [] more kept = cc (kept)
 kept_on (s ∷ start) (x ∷ text) more kept =

@@ -1,13 +1,17 @@
 -- Numerals: digits and the number that they spell.
-use Rattle.std.proofs.Common.{◌≡◌, ◌<◌, ◌≤◌, ◌*◌, ◌+◌, ◌-◌, ◌/◌, ◌%◌, ◌^◌, ◌∙◌, ◌++◌, ◌==◌, ℕ, Bool, true, not, List, [], ◌∷◌, length, length-append, decimal, get_or, ap, sym, refl, arith, drop, suc, inl, inr, Err}
+use Rattle.std.proofs.Common.{◌≡◌, ◌<◌, ◌≤◌, ◌*◌, ◌+◌, ◌-◌, ◌/◌, ◌%◌, ◌^◌, ◌∙◌, ◌++◌, ◌==◌, ℕ, Bool, true, not, List}
+use Rattle.std.proofs.Common.{[], ◌∷◌, length, length-append, decimal, get_or, ap, sym, refl, arith, drop, suc, inl}
+use Rattle.std.proofs.Common.{inr, Err}
 use Rattle.std.specs.Prelude.{◌||◌}
 use Rattle.std.specs.Str.{all_ascii_digits}
 use Rattle.std.specs.Str.Parse.{digits_value, digits_value_after}
-use Rattle.std.proofs.lemmas.Fmt.{decimal_is_IsNumeral, decimal-digits_value, decimal_digit, decimal_step, first_decimal, length-decimal-le, decimal_step_wide, length-decimal-le_wide}
+use Rattle.std.proofs.lemmas.Fmt.{decimal_is_IsNumeral, decimal-digits_value, decimal_digit, decimal_step}
+use Rattle.std.proofs.lemmas.Fmt.{first_decimal, length-decimal-le, decimal_step_wide, length-decimal-le_wide}
 use Rattle.std.proofs.lemmas.Str.Parse.{IsNumeralModel, numerals_by_value, tells_all_ascii_digits}
 use Rattle.std.proofs.lemmas.Str.{digit_value_digit}
 use Rattle.std.proofs.Math.Seq.{drop-cons}
-use Rattle.std.proofs.lemmas.Bool.{eq-eqb, ne_eqb, eqb-true, lt-leb, and_parts, and_from, or_cases, or_left, or_right, both_ways, not_from_true, not_from_false, cases_eq, cases_lt}
+use Rattle.std.proofs.lemmas.Bool.{eq-eqb, ne_eqb, eqb-true, lt-leb, and_parts, and_from, or_cases, or_left, or_right}
+use Rattle.std.proofs.lemmas.Bool.{both_ways, not_from_true, not_from_false, cases_eq, cases_lt}
 use Rattle.std.specs.Char.{digit_value}
 use Rattle.hsp_text.specs.declared.whole.WholeFault.TheVariants.{TooLarge}
 use Rattle.hsp_text.specs.Whole.{is_whole, whole_within, DigitsSpellTheirNumber}
@@ -25,36 +29,47 @@ pub at_most_twenty : (n : ℕ) → n < 2 ^ 64 → length (decimal n) ≤ 20
 at_most_twenty n h = length-decimal-le 20 n (omega arith) (omega arith) h
 
 -- the last digit stands behind those of the tenth
-pub last_digit : (n : ℕ) → 10 ≤ n → n < 2 ^ 64 → (decimal n ≡ decimal (n / 10) ++ (48 + n % 10) ∷ []) × (length (decimal n) ≡ length (decimal (n / 10)) + 1)
-last_digit n low high = let e = decimal_step n low high in (e, ap length e ∙ length-append (decimal (n / 10)) ((48 + n % 10) ∷ []))
+pub last_digit : (n : ℕ) → 10 ≤ n → n < 2 ^ 64
+    → (decimal n ≡ decimal (n / 10) ++ (48 + n % 10) ∷ []) × (length (decimal n) ≡ length (decimal (n / 10)) + 1)
+last_digit n low high =
+    let e = decimal_step n low high in (e, ap length e ∙ length-append (decimal (n / 10)) ((48 + n % 10) ∷ []))
 
 -- a number of 128 bits has at most 39 digits, and its last digit stands behind those of the tenth
 pub at_most_39 : (n : ℕ) → n < 2 ^ 128 → length (decimal n) ≤ 39
 at_most_39 n h = length-decimal-le_wide 39 n (omega arith) (omega arith) (omega arith)
 
-pub last_digit_wide : (n : ℕ) → 10 ≤ n → n < 2 ^ 128 → (decimal n ≡ decimal (n / 10) ++ (48 + n % 10) ∷ []) × (length (decimal n) ≡ length (decimal (n / 10)) + 1)
+pub last_digit_wide : (n : ℕ) → 10 ≤ n → n < 2 ^ 128
+    → (decimal n ≡ decimal (n / 10) ++ (48 + n % 10) ∷ []) × (length (decimal n) ≡ length (decimal (n / 10)) + 1)
 last_digit_wide n low high =
-    let e = decimal_step_wide n low (omega arith) in (e, ap length e ∙ length-append (decimal (n / 10)) ((48 + n % 10) ∷ []))
+    let e =
+    decimal_step_wide n low (omega arith) in
+    (e, ap length e ∙ length-append (decimal (n / 10)) ((48 + n % 10) ∷ []))
 
 -- a number above the limit is too large
-above_limit : (max : ℕ) (text : List ℕ) → is_whole text ≡ true → max < digits_value 10 text → whole_within max text ≡ Err TooLarge
+above_limit : (max : ℕ) (text : List ℕ) → is_whole text ≡ true → max < digits_value 10 text
+    → whole_within max text ≡ Err TooLarge
 above_limit max text w h = rw (w, lt-leb (digits_value 10 text) max h) refl
 
 -- digits that have passed the limit are those of a number above it
-passes_limit : (max n : ℕ) (text rest : List ℕ) → is_whole text ≡ true → digits_value_after 10 n rest ≡ digits_value 10 text → max < n → whole_within max text ≡ Err TooLarge
+passes_limit : (max n : ℕ) (text rest : List ℕ) → is_whole text ≡ true
+    → digits_value_after 10 n rest ≡ digits_value 10 text → max < n → whole_within max text ≡ Err TooLarge
 passes_limit max n text rest w e h = above_limit max text w (let g = number_grows n rest in omega (arith, e, g))
 
-pub passes_limit_at : (max n i : ℕ) (whole : Bool) (text : List ℕ) → whole ≡ is_whole text → whole ≡ true → i < length text → all_ascii_digits (drop i text) ≡ true →
-    digits_value_after 10 n (drop i text) ≡ digits_value 10 text → max < n * 10 + (get_or text i 0 - 48) → whole_within max text ≡ Err TooLarge
+pub passes_limit_at : (max n i : ℕ) (whole : Bool) (text : List ℕ) → whole ≡ is_whole text → whole ≡ true
+    → i < length text → all_ascii_digits (drop i text) ≡ true →
+    digits_value_after 10 n (drop i text) ≡ digits_value 10 text → max < n * 10 + (get_or text i 0 - 48)
+    → whole_within max text ≡ Err TooLarge
 passes_limit_at max n i whole text same w l a e h =
     let split = drop-cons text i 0 l in
     let digit = rw split at a in
     let range = (tells_all_ascii_digits.parts (get_or text i 0) (drop (suc i) text) digit).0 in
     let value = digit_value_digit (get_or text i 0) range in
-    passes_limit max (n * 10 + digit_value (get_or text i 0)) text (drop (suc i) text) (sym same ∙ w) (rw split at e) (omega arith)
+    passes_limit max (n * 10 + digit_value (get_or text i 0)) text (drop (suc i) text) (sym same ∙ w) (rw split at e)
+    (omega arith)
 
 -- what a text of a whole number has
-parts : (text : List ℕ) → is_whole text ≡ true → (0 < length text) × (all_ascii_digits text ≡ true) × (get_or text 0 0 ≡ 48 → length text ≡ 1)
+parts : (text : List ℕ) → is_whole text ≡ true
+    → (0 < length text) × (all_ascii_digits text ≡ true) × (get_or text 0 0 ≡ 48 → length text ≡ 1)
 parts [] w = absurd cc
 parts (d ∷ ds) w =
     let both = and_parts (all_ascii_digits (d ∷ ds)) (not (d == 48) || length ds == 0) w in (
@@ -66,10 +81,12 @@ parts (d ∷ ds) w =
       ],
     )
 
-whole_is_decimal : (text : List ℕ) → is_whole text ≡ true → digits_value 10 text < 2 ^ 64 → text ≡ decimal (digits_value 10 text)
+whole_is_decimal : (text : List ℕ) → is_whole text ≡ true → digits_value 10 text < 2 ^ 64
+    → text ≡ decimal (digits_value 10 text)
 whole_is_decimal text w h = let p = parts text w in sym (decimal-digits_value ascii text p.1 p.0 p.2 h)
 
-whole_from_parts : (text : List ℕ) → 0 < length text → all_ascii_digits text ≡ true → (get_or text 0 0 ≡ 48 → length text ≡ 1) → is_whole text ≡ true
+whole_from_parts : (text : List ℕ) → 0 < length text → all_ascii_digits text ≡ true
+    → (get_or text 0 0 ≡ 48 → length text ≡ 1) → is_whole text ≡ true
 whole_from_parts [] h w z = absurd (omega arith)
 whole_from_parts (d ∷ ds) h w z =
     and_from (all_ascii_digits (d ∷ ds)) (not (d == 48) || length ds == 0) w (elim (cases_eq d 48) [

@@ -1,5 +1,7 @@
--- A network whose arcs are numbered, with their ends and costs by number: a flow, its prices and a cut are the same there.
-use Rattle.std.proofs.Common.{◌≡◌, ℕ, ◌+◌, ◌*◌, ◌<◌, ◌≤◌, ◌==◌, ◌∙◌, Bool, List, length, sum_by, slice_index, slice_index_or, is_none, min, if◌then◌else◌, ap, ap₂, sym, arith}
+-- A network whose arcs are numbered, with their ends and costs by number: a flow, its prices and a cut are the same
+-- there.
+use Rattle.std.proofs.Common.{◌≡◌, ℕ, ◌+◌, ◌*◌, ◌<◌, ◌≤◌, ◌==◌, ◌∙◌, Bool, List, length, sum_by, slice_index}
+use Rattle.std.proofs.Common.{slice_index_or, is_none, min, if◌then◌else◌, ap, ap₂, sym, arith}
 use Rattle.std.specs.Prelude.{◌&&◌}
 use Rattle.std.specs.List.{range_with_len}
 use Rattle.std.proofs.lemmas.List.Elements.{All-from_get_or}
@@ -27,15 +29,20 @@ module _ {A : Type 0} (n : Network A) (d : A) (count : ℕ) (many : length n.arc
     cost = cost;
   }
 
-  sums : (f : A → ℕ) (g : ℕ → ℕ) → ((k : ℕ) → k < length n.arcs → f (slice_index_or n.arcs k d) ≡ g k) → sum_by f n.arcs ≡ sum_by g (range_with_len 0 count)
-  sums f g same = by_place f d n.arcs ∙ sum_below_same (length n.arcs) _ _ same ∙ ap (λ c. sum_below c g) many ∙ sym (sum_numbers g count)
+  sums : (f : A → ℕ) (g : ℕ → ℕ) → ((k : ℕ) → k < length n.arcs → f (slice_index_or n.arcs k d) ≡ g k)
+      → sum_by f n.arcs ≡ sum_by g (range_with_len 0 count)
+  sums f g same =
+      by_place f d n.arcs ∙ sum_below_same (length n.arcs) _ _ same ∙ ap (λ c. sum_below c g) many
+      ∙ sym (sum_numbers g count)
 
   module _ (f : A → ℕ) (g : ℕ → ℕ) (flows : (k : ℕ) → k < length n.arcs → f (slice_index_or n.arcs k d) ≡ g k) where
     load_alike : (j : ℕ) → load n f j ≡ load numbered g j
     load_alike j = sums _ _ (λ k l. ap₂ (λ s x. if s == j then x else 0) (servers k l) (flows k l))
 
     host_alike : (h : ℕ) → host_load n f h ≡ host_load numbered g h
-    host_alike h = sum_below_same (length n.capacities) _ _ (λ j l. ap (λ x. if is_on (n.host_of j) h then x else 0) (load_alike j))
+    host_alike h =
+        sum_below_same (length n.capacities) _ _
+        (λ j l. ap (λ x. if is_on (n.host_of j) h then x else 0) (load_alike j))
 
     pub cost_alike : total_cost n f ≡ sum_below count (λ k. cost k * g k)
     cost_alike = sums _ _ (λ k l. ap₂ (λ c x. c * x) (costs k l) (flows k l)) ∙ sum_numbers (λ k. cost k * g k) count
@@ -50,7 +57,9 @@ module _ {A : Type 0} (n : Network A) (d : A) (count : ℕ) (many : length n.arc
     -- and the other way round
     pub feasible_back : IsFeasible n f → IsFeasible numbered g
     feasible_back feasible = record {
-      met = λ i l. sym (sums _ _ (λ k m. ap₂ (λ s x. if s == i then x else 0) (sources k m) (flows k m))) ∙ feasible.met i l;
+      met =
+          λ i l. sym (sums _ _ (λ k m. ap₂ (λ s x. if s == i then x else 0) (sources k m) (flows k m)))
+          ∙ feasible.met i l;
       within = λ j l. rw (← load_alike j) (feasible.within j l);
       hosted = λ h l. rw (← host_alike h) (feasible.hosted h l);
     }
@@ -61,10 +70,16 @@ module _ {A : Type 0} (n : Network A) (d : A) (count : ℕ) (many : length n.arc
 
     pub prices_alike : (u p q : List ℕ) → HasPrices numbered g u p q → HasPrices n f u p q
     prices_alike u p q prices = record {
-      below = All-from_get_or (λ a. slice_index u (n.source a) ≤ n.cost a + price_at n p q (n.server a)) n.arcs d (λ k l.
-          rw (sources k l, servers k l, costs k l) (each_number (λ k. slice_index u (source k) ≤ whole p q k) count prices.below k (omega (arith, many))));
-      used = All-from_get_or (λ a. 0 < f a → slice_index u (n.source a) ≡ n.cost a + price_at n p q (n.server a)) n.arcs d (λ k l some.
-          rw (sources k l, servers k l, costs k l) (each_number (λ k. 0 < g k → slice_index u (source k) ≡ whole p q k) count prices.used k (omega (arith, many)) (rw (sym (flows k l)) some)));
+      below =
+          All-from_get_or (λ a. slice_index u (n.source a) ≤ n.cost a + price_at n p q (n.server a)) n.arcs d (λ k l.
+          rw (sources k l, servers k l, costs k l)
+          (each_number (λ k. slice_index u (source k) ≤ whole p q k) count prices.below k (omega (arith, many))));
+      used =
+          All-from_get_or (λ a. 0 < f a → slice_index u (n.source a) ≡ n.cost a + price_at n p q (n.server a)) n.arcs d
+          (λ k l some.
+          rw (sources k l, servers k l, costs k l)
+          (each_number (λ k. 0 < g k → slice_index u (source k) ≡ whole p q k) count prices.used k
+          (omega (arith, many)) (rw (sym (flows k l)) some)));
       idle = λ j l less. prices.idle j l (rw (sym (load_alike j)) less);
       idle_host = λ h l less. prices.idle_host h l (rw (sym (host_alike h)) less);
     }
@@ -72,9 +87,12 @@ module _ {A : Type 0} (n : Network A) (d : A) (count : ℕ) (many : length n.arc
     pub prices_back : (u p q : List ℕ) → HasPrices n f u p q → HasPrices numbered g u p q
     prices_back u p q prices = record {
       below = all_numbers (λ k. slice_index u (source k) ≤ whole p q k) count (λ k l.
-          let m : k < length n.arcs = omega (arith, l, many) in rw (← sources k m, ← servers k m, ← costs k m) (prices.below k d m));
+          let m : k < length n.arcs = omega (arith, l, many) in
+          rw (← sources k m, ← servers k m, ← costs k m) (prices.below k d m));
       used = all_numbers (λ k. 0 < g k → slice_index u (source k) ≡ whole p q k) count (λ k l some.
-          let m : k < length n.arcs = omega (arith, l, many) in rw (← sources k m, ← servers k m, ← costs k m) (prices.used k d m (rw (flows k m) some)));
+          let m : k < length n.arcs =
+          omega (arith, l, many) in
+          rw (← sources k m, ← servers k m, ← costs k m) (prices.used k d m (rw (flows k m) some)));
       idle = λ j l less. prices.idle j l (rw (load_alike j) less);
       idle_host = λ h l less. prices.idle_host h l (rw (host_alike h) less);
     }
@@ -83,15 +101,20 @@ module _ {A : Type 0} (n : Network A) (d : A) (count : ℕ) (many : length n.arc
     room_alike : (j : ℕ) → reached_capacity n s j ≡ reached_capacity numbered t j
     room_alike j = ap (λ r. if r then slice_index n.capacities j else 0) (
         any_place (λ a. s (n.source a) && n.server a == j) d n.arcs
-        ∙ any_same (length n.arcs) _ _ (λ k l. ap₂ (λ r v. r && v == j) (same (n.source (slice_index_or n.arcs k d)) ∙ ap t (sources k l)) (servers k l))
+        ∙ any_same (length n.arcs) _ _
+        (λ k l.
+        ap₂ (λ r v. r && v == j) (same (n.source (slice_index_or n.arcs k d)) ∙ ap t (sources k l)) (servers k l))
         ∙ ap (λ c. any_below c (λ k. t (source k) && server k == j)) many
         ∙ sym (any_number (λ k. t (source k) && server k == j) count))
 
     pub demand_alike : demand_of n s ≡ demand_of numbered t
-    demand_alike = sum_below_same (length n.demands) _ _ (λ i l. ap (λ r. if r then slice_index n.demands i else 0) (same i))
+    demand_alike =
+        sum_below_same (length n.demands) _ _ (λ i l. ap (λ r. if r then slice_index n.demands i else 0) (same i))
 
     pub capacity_alike : capacity_of n s ≡ capacity_of numbered t
     capacity_alike = ap₂ (λ x y. x + y)
-        (sum_below_same (length n.capacities) _ _ (λ j l. ap (λ x. if is_none (n.host_of j) then x else 0) (room_alike j)))
+        (sum_below_same (length n.capacities) _ _
+        (λ j l. ap (λ x. if is_none (n.host_of j) then x else 0) (room_alike j)))
         (sum_below_same (length n.limits) _ _ (λ h l. ap (min (slice_index n.limits h))
-        (sum_below_same (length n.capacities) _ _ (λ j k. ap (λ x. if is_on (n.host_of j) h then x else 0) (room_alike j)))))
+        (sum_below_same (length n.capacities) _ _
+        (λ j k. ap (λ x. if is_on (n.host_of j) h then x else 0) (room_alike j)))))

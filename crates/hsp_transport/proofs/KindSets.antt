@@ -1,5 +1,6 @@
 -- Short sets of sources and of their kinds.
-use Rattle.std.proofs.Common.{◌≡◌, ℕ, zero, suc, ◌+◌, ◌<◌, ◌≤◌, ◌==◌, ◌&&◌, ◌||◌, inl, inr, Bool, true, false, List, [], ◌∷◌, length, min, is_none, Option, slice_index, All, refl, ap, sym, ◌∙◌, arith, eq-eqb}
+use Rattle.std.proofs.Common.{◌≡◌, ℕ, zero, suc, ◌+◌, ◌<◌, ◌≤◌, ◌==◌, ◌&&◌, ◌||◌, inl, inr, Bool, true, false, List, []}
+use Rattle.std.proofs.Common.{◌∷◌, length, min, is_none, Option, slice_index, All, refl, ap, sym, ◌∙◌, arith, eq-eqb}
 use Rattle.std.specs.List.{list_any}
 use Rattle.std.proofs.lemmas.Bool.{or_cases, false≢true}
 use Rattle.std.proofs.lemmas.List.Elements.{All-head, All-tail}
@@ -17,21 +18,30 @@ leads_to arcs j = list_any (λ a. a.server == j) arcs
 
 module _ {A : Type 0} (site : A → ℕ) (n : Network A) where
   -- a source of the set leads to a server that the set reaches
-  pub reached_by : (arcs : List A) (set : ℕ → Bool) (i j : ℕ) → set i ≡ true → leads_to (links_in site n arcs i) j ≡ true
+  pub reached_by : (arcs : List A) (set : ℕ → Bool) (i j : ℕ) → set i ≡ true
+      → leads_to (links_in site n arcs i) j ≡ true
       → list_any (λ a. set (n.source a) && n.server a == j) arcs ≡ true
   reached_by [] set i j in-set e = absurd (false≢true e)
   reached_by (a ∷ rest) set i j in-set e = grind (arith, reached_by rest set i j in-set)
 
   -- and each such server is led to by a source of the set
-  pub some_row : (rows : ℕ) (arcs : List A) → All (λ a. n.source a < rows) arcs → (set : ℕ → Bool) (j : ℕ) → list_any (λ a. set (n.source a) && n.server a == j) arcs ≡ true →
+  pub some_row : (rows : ℕ) (arcs : List A) → All (λ a. n.source a < rows) arcs → (set : ℕ → Bool) (j : ℕ)
+      → list_any (λ a. set (n.source a) && n.server a == j) arcs ≡ true →
       (i : ℕ) × (i < rows) × (set i ≡ true) × (leads_to (links_in site n arcs i) j ≡ true)
   some_row rows [] inside set j e = absurd (false≢true e)
-  some_row rows (a ∷ rest) inside set j e = elim (or_cases (set (n.source a) && n.server a == j) (list_any (λ a. set (n.source a) && n.server a == j) rest) e) [
-    | inl own ↦ (n.source a, All-head (λ b. n.source b < rows) a rest inside, grind arith, grind (arith, eq-eqb (n.source a) (n.source a) refl))
-    | inr more ↦
-        let r = some_row rows rest (All-tail (λ b. n.source b < rows) a rest inside) set j more in
-        (r.0, r.1, r.2, grind (arith, r.3))
-  ]
+  some_row rows (a ∷ rest) inside set j e =
+      elim (or_cases (set (n.source a) && n.server a == j)
+      (list_any (λ a. set (n.source a) && n.server a == j) rest) e) [
+        | inl own ↦ (
+          n.source a,
+          All-head (λ b. n.source b < rows) a rest inside,
+          grind arith,
+          grind (arith, eq-eqb (n.source a) (n.source a) refl),
+        )
+        | inr more ↦
+            let r = some_row rows rest (All-tail (λ b. n.source b < rows) a rest inside) set j more in
+            (r.0, r.1, r.2, grind (arith, r.3))
+      ]
 
 -- what the servers that pass can take, each by itself and together on their hosts
 module _ (caps limits : List ℕ) where
@@ -48,7 +58,9 @@ module _ (caps limits : List ℕ) where
       sum_below (length caps) (unhosted a r) + sum_below (length limits) (hosted a r)
       ≤ sum_below (length caps) (unhosted b q) + sum_below (length limits) (hosted b q)
   more_room a b r q same more =
-      let on = λ (h : ℕ). sum_below_le (length caps) (together_on a r h) (together_on b q h) (λ j l. rw (same j) (less (is_on (b j) h) j)) in
+      let on =
+      λ (h : ℕ). sum_below_le (length caps) (together_on a r h) (together_on b q h)
+      (λ j l. rw (same j) (less (is_on (b j) h) j)) in
       omega (
         arith,
         sum_below_le (length caps) (unhosted a r) (unhosted b q) (λ j l. rw (same j) (less (is_none (b j)) j)),
@@ -59,7 +71,8 @@ module _ (caps limits : List ℕ) where
       less t j = grind (arith, more j)
 
 -- a set that reaches more can reach more
-pub less_capacity : {A : Type 0} (n m : Network A) (s t : ℕ → Bool) → n.capacities ≡ m.capacities → n.limits ≡ m.limits → ((j : ℕ) → n.host_of j ≡ m.host_of j) →
+pub less_capacity : {A : Type 0} (n m : Network A) (s t : ℕ → Bool) → n.capacities ≡ m.capacities → n.limits ≡ m.limits
+    → ((j : ℕ) → n.host_of j ≡ m.host_of j) →
     ((j : ℕ) → reaches n s j ≡ true → reaches m t j ≡ true) → capacity_of n s ≤ capacity_of m t
 less_capacity n m s t caps limits host_of more =
     rw (caps, limits) (more_room m.capacities m.limits n.host_of m.host_of (reaches n s) (reaches m t) host_of more)
@@ -69,11 +82,13 @@ abbrev pub has_row : ℕ → (ℕ → ℕ) → (ℕ → Bool) → ℕ → Bool
 has_row zero kind set k = false
 has_row (suc rows) kind set k = (kind rows == k && set rows) || has_row rows kind set k
 
-pub has_row_of : (rows : ℕ) (kind : ℕ → ℕ) (set : ℕ → Bool) (i : ℕ) → i < rows → set i ≡ true → has_row rows kind set (kind i) ≡ true
+pub has_row_of : (rows : ℕ) (kind : ℕ → ℕ) (set : ℕ → Bool) (i : ℕ) → i < rows → set i ≡ true
+    → has_row rows kind set (kind i) ≡ true
 has_row_of zero kind set i l e = absurd (omega arith)
 has_row_of (suc rows) kind set i l e = grind (arith, has_row_of rows kind set i, eq-eqb (kind i) (kind i) refl)
 
-pub row_of_kind : (rows : ℕ) (kind : ℕ → ℕ) (set : ℕ → Bool) (k : ℕ) → has_row rows kind set k ≡ true → (i : ℕ) × (i < rows) × (kind i ≡ k) × (set i ≡ true)
+pub row_of_kind : (rows : ℕ) (kind : ℕ → ℕ) (set : ℕ → Bool) (k : ℕ) → has_row rows kind set k ≡ true
+    → (i : ℕ) × (i < rows) × (kind i ≡ k) × (set i ≡ true)
 row_of_kind zero kind set k e = absurd (false≢true e)
 row_of_kind (suc rows) kind set k e = elim (or_cases (kind rows == k && set rows) (has_row rows kind set k) e) [
   | inl own ↦ (rows, omega arith, grind arith, grind arith)
@@ -83,7 +98,8 @@ row_of_kind (suc rows) kind set k e = elim (or_cases (kind rows == k && set rows
 swapped : (s t : Bool) (v : ℕ) → when s (when t v) ≡ when t (when s v)
 swapped s t v = grind arith
 
-module _ {A : Type 0} (site : A → ℕ) (n m : Network A) (kind : ℕ → ℕ) (n-is : IsNetwork n) (m-is : IsNetwork m) (are : AreKinds site n m kind) where
+module _ {A : Type 0} (site : A → ℕ) (n m : Network A) (kind : ℕ → ℕ) (n-is : IsNetwork n) (m-is : IsNetwork m)
+    (are : AreKinds site n m kind) where
   sum_when : (t : Bool) (f : ℕ → ℕ) (rows : ℕ) → sum_below rows (λ i. when t (f i)) ≡ when t (sum_below rows f)
   sum_when true f rows = refl
   sum_when false f rows = sum_below_zero rows (λ i. 0) (λ i l. refl)
@@ -106,15 +122,19 @@ module _ {A : Type 0} (site : A → ℕ) (n m : Network A) (kind : ℕ → ℕ) 
   kinds_reach set j e =
       let k = some_row site m (length m.demands) m.arcs m-is.sources set j e in
       let row = are.seen k.0 k.1 in
-      reached_by site n n.arcs (λ i. set (kind i)) row.0 j (ap set row.2 ∙ k.2) (ap (λ arcs. leads_to arcs j) (are.arcs row.0 row.1 ∙ ap (links_of site m) row.2) ∙ k.3)
+      reached_by site n n.arcs (λ i. set (kind i)) row.0 j (ap set row.2 ∙ k.2)
+      (ap (λ arcs. leads_to arcs j) (are.arcs row.0 row.1 ∙ ap (links_of site m) row.2) ∙ k.3)
 
-  kinds_of_reach : (set : ℕ → Bool) (j : ℕ) → reaches m (has_row (length n.demands) kind set) j ≡ true → reaches n set j ≡ true
+  kinds_of_reach : (set : ℕ → Bool) (j : ℕ) → reaches m (has_row (length n.demands) kind set) j ≡ true
+      → reaches n set j ≡ true
   kinds_of_reach set j e =
       let k = some_row site m (length m.demands) m.arcs m-is.sources (has_row (length n.demands) kind set) j e in
       let row = row_of_kind (length n.demands) kind set k.0 k.2 in
-      reached_by site n n.arcs set row.0 j row.3 (ap (λ arcs. leads_to arcs j) (are.arcs row.0 row.1 ∙ ap (links_of site m) row.2) ∙ k.3)
+      reached_by site n n.arcs set row.0 j row.3
+      (ap (λ arcs. leads_to arcs j) (are.arcs row.0 row.1 ∙ ap (links_of site m) row.2) ∙ k.3)
 
-  less_back : (s t : ℕ → Bool) → ((j : ℕ) → reaches m s j ≡ true → reaches n t j ≡ true) → capacity_of m s ≤ capacity_of n t
+  less_back : (s t : ℕ → Bool) → ((j : ℕ) → reaches m s j ≡ true → reaches n t j ≡ true)
+      → capacity_of m s ≤ capacity_of n t
   less_back s t more = less_capacity m n s t (sym are.capacities) (sym are.limits) (λ j. sym (are.host_of j)) more
 
   pub kept_sets : ShortSetsAreKept n m kind

@@ -1,5 +1,6 @@
 -- What holds of a list, by its places; and of the numbers below a bound, as a list.
-use Rattle.std.proofs.Common.{◌≡◌, ℕ, zero, suc, ◌<◌, ◌≤◌, ◌∙◌, Bool, List, length, All, sum_by, slice_index_or, Option, Some, None, inl, inr, refl, ap, ap₂, sym, subst, arith, add-one, zero-add, take, take_all}
+use Rattle.std.proofs.Common.{◌≡◌, ℕ, zero, suc, ◌<◌, ◌≤◌, ◌∙◌, Bool, List, length, All, sum_by, slice_index_or, Option}
+use Rattle.std.proofs.Common.{Some, None, inl, inr, refl, ap, ap₂, sym, subst, arith, add-one, zero-add, take, take_all}
 use Rattle.std.specs.Prelude.{◌||◌}
 use Rattle.std.specs.List.{list_any, range_with_len}
 use Rattle.std.proofs.lemmas.List.Folds.{list_any_more}
@@ -18,7 +19,9 @@ any_same (suc n) f g h = ap₂ (λ a b. a || b) (any_same n f g (λ k l. h k (om
 module _ {A : Type 0} (p : A → Bool) (d : A) (xs : List A) where
   any_along : (n : ℕ) → n ≤ length xs → list_any p (take n xs) ≡ any_below n (λ k. p (slice_index_or xs k d))
   any_along zero l = refl
-  any_along (suc n) l = rw add-one at (list_any_more p xs n d (omega arith)) ∙ ap (λ b. b || p (slice_index_or xs n d)) (any_along n (omega arith))
+  any_along (suc n) l =
+      rw add-one at (list_any_more p xs n d (omega arith))
+      ∙ ap (λ b. b || p (slice_index_or xs n d)) (any_along n (omega arith))
 
   -- a test of some element is a test of some place
   pub any_place : list_any p xs ≡ any_below (length xs) (λ k. p (slice_index_or xs k d))
@@ -50,7 +53,8 @@ pub each_number : (P : ℕ → Type 0) (n : ℕ) → All P (range_with_len 0 n) 
 each_number P n all k l = subst P (at_place n k 0 l) (all k 0 (omega (arith, length-range_with_len 0 n)))
 
 -- what holds of the hosts of the servers that are there holds of all
-pub hosts_below : (bound : ℕ) (hosts : List (Option ℕ)) → ((j h : ℕ) → j < length hosts → host_in hosts j ≡ Some h → h < bound) → HostsAreBelow bound hosts
+pub hosts_below : (bound : ℕ) (hosts : List (Option ℕ))
+    → ((j h : ℕ) → j < length hosts → host_in hosts j ≡ Some h → h < bound) → HostsAreBelow bound hosts
 hosts_below bound hosts each j h on = elim (cases_lt j (length hosts)) [
   | inl inside ↦ each j h inside on
   | inr past ↦ absurd (let both : None ≡ Some h = sym (get_or_past hosts j None past) ∙ on in cc)

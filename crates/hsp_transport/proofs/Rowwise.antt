@@ -1,5 +1,6 @@
 -- Sums over arcs, row by row, and sums over rows, kind by kind.
-use Rattle.std.proofs.Common.{◌≡◌, ℕ, zero, suc, ◌+◌, ◌*◌, ◌<◌, ◌==◌, ◌&&◌, Bool, true, false, List, [], ◌∷◌, sum_by, All, if◌then◌else◌, refl, ap, ap₂, sym, ◌∙◌, arith, mul-zero, mul-add, eq-eqb, ne_eqb}
+use Rattle.std.proofs.Common.{◌≡◌, ℕ, zero, suc, ◌+◌, ◌*◌, ◌<◌, ◌==◌, ◌&&◌, Bool, true, false, List, [], ◌∷◌, sum_by}
+use Rattle.std.proofs.Common.{All, if◌then◌else◌, refl, ap, ap₂, sym, ◌∙◌, arith, mul-zero, mul-add, eq-eqb, ne_eqb}
 use Rattle.std.specs.List.{list_any}
 use Rattle.std.proofs.lemmas.List.Sums.{sum_by-cons}
 use Rattle.std.proofs.lemmas.List.Elements.{All-head, All-tail}
@@ -24,12 +25,14 @@ when_zero t = grind arith
 -- only one of many terms
 one_term : (n i : ℕ) (f : ℕ → ℕ) → i < n → sum_below n (λ k. when (i == k) (f k)) ≡ f i
 one_term n i f l =
-    sum_below_one n (λ k. when (i == k) (f k)) i l (λ k m ne. when_there i k (f k) (λ q. ne (sym q))) ∙ when_here i (f i)
+    sum_below_one n (λ k. when (i == k) (f k)) i l (λ k m ne. when_there i k (f k) (λ q. ne (sym q)))
+    ∙ when_here i (f i)
 
 module _ {A : Type 0} (site : A → ℕ) (n : Network A) where
   -- a sum over links, one arc more
   more_links : (a : A) (rest : List A) (i : ℕ) (g : Link → ℕ) →
-      sum_by g (links_in site n (a ∷ rest) i) ≡ when (n.source a == i) (g (link_of site n a)) + sum_by g (links_in site n rest i)
+      sum_by g (links_in site n (a ∷ rest) i)
+      ≡ when (n.source a == i) (g (link_of site n a)) + sum_by g (links_in site n rest i)
   more_links a rest i g = grind (arith, sum_by-cons g (link_of site n a) (links_in site n rest i))
 
   -- a sum over all arcs is the sum over the sources of the sums over their links
@@ -37,15 +40,19 @@ module _ {A : Type 0} (site : A → ℕ) (n : Network A) where
       sum_by (λ a. g (n.source a) (link_of site n a)) arcs ≡ sum_below rows (λ i. sum_by (g i) (links_in site n arcs i))
   by_rows rows [] inside g = sym (sum_below_zero rows (λ i. 0) (λ i l. refl))
   by_rows rows (a ∷ rest) inside g =
-      let own = one_term rows (n.source a) (λ i. g i (link_of site n a)) (All-head (λ b. n.source b < rows) a rest inside) in
+      let own =
+      one_term rows (n.source a) (λ i. g i (link_of site n a)) (All-head (λ b. n.source b < rows) a rest inside) in
       sum_by-cons (λ b. g (n.source b) (link_of site n b)) a rest
       ∙ ap₂ (λ v w. v + w) (sym own) (by_rows rows rest (All-tail (λ b. n.source b < rows) a rest inside) g)
-      ∙ sym (sum_below_add rows (λ i. when (n.source a == i) (g i (link_of site n a))) (λ i. sum_by (g i) (links_in site n rest i)))
+      ∙ sym
+      (sum_below_add rows (λ i. when (n.source a == i) (g i (link_of site n a)))
+      (λ i. sum_by (g i) (links_in site n rest i)))
       ∙ sum_below_same rows _ _ (λ i m. sym (more_links a rest i (g i)))
 
   -- the same of one source
   pub by_row : (arcs : List A) (i : ℕ) (g : ℕ → Link → ℕ) →
-      sum_by (λ a. when (n.source a == i) (g (n.source a) (link_of site n a))) arcs ≡ sum_by (g i) (links_in site n arcs i)
+      sum_by (λ a. when (n.source a == i) (g (n.source a) (link_of site n a))) arcs
+      ≡ sum_by (g i) (links_in site n arcs i)
   by_row [] i g = refl
   by_row (a ∷ rest) i g =
       let first = sum_by-cons (λ b. when (n.source b == i) (g (n.source b) (link_of site n b))) a rest in
@@ -64,10 +71,13 @@ by_kinds kinds kind h zero inside = sym (sum_below_zero kinds (λ k. 0) (λ k l.
 by_kinds kinds kind h (suc rows) inside =
     ap₂ (λ v w. v + w) (by_kinds kinds kind h rows (λ i l. inside i (omega arith)))
     (sym (one_term kinds (kind rows) (λ k. h k rows) (inside rows (omega arith))))
-    ∙ sym (sum_below_add kinds (λ k. sum_below rows (λ i. when (kind i == k) (h k i))) (λ k. when (kind rows == k) (h k rows)))
+    ∙ sym
+    (sum_below_add kinds (λ k. sum_below rows (λ i. when (kind i == k) (h k i)))
+    (λ k. when (kind rows == k) (h k rows)))
 
 -- the two orders of adding up
-pub turned : {A : Type 0} (f : ℕ → A → ℕ) (xs : List A) (rows : ℕ) → sum_by (λ a. sum_below rows (λ i. f i a)) xs ≡ sum_below rows (λ i. sum_by (f i) xs)
+pub turned : {A : Type 0} (f : ℕ → A → ℕ) (xs : List A) (rows : ℕ)
+    → sum_by (λ a. sum_below rows (λ i. f i a)) xs ≡ sum_below rows (λ i. sum_by (f i) xs)
 turned f [] rows = sym (sum_below_zero rows (λ i. 0) (λ i l. refl))
 turned f (x ∷ xs) rows =
     sum_by-cons (λ a. sum_below rows (λ i. f i a)) x xs
@@ -75,11 +85,13 @@ turned f (x ∷ xs) rows =
     ∙ sym (sum_below_add rows (λ i. f i x) (λ i. sum_by (f i) xs))
     ∙ sum_below_same rows _ _ (λ i l. sym (sum_by-cons (f i) x xs))
 
-sum_by_none : {A : Type 0} (xs : List A) → sum_by (λ (a : A). 0) xs ≡ 0
+-- a sum of nothing but zeros is zero
+pub sum_by_none : {A : Type 0} (xs : List A) → sum_by (λ (a : A). 0) xs ≡ 0
 sum_by_none [] = refl
 sum_by_none (x ∷ xs) = omega (arith, sum_by-cons (λ a. 0) x xs, sum_by_none xs)
 
-pub sum_by_when : {A : Type 0} (t : Bool) (f : A → ℕ) (xs : List A) → sum_by (λ a. when t (f a)) xs ≡ when t (sum_by f xs)
+pub sum_by_when : {A : Type 0} (t : Bool) (f : A → ℕ) (xs : List A)
+    → sum_by (λ a. when t (f a)) xs ≡ when t (sum_by f xs)
 sum_by_when true f xs = refl
 sum_by_when false f xs = sum_by_none xs
 

@@ -1,5 +1,7 @@
 -- Sums over the numbers below a bound, and over lists.
-use Rattle.std.proofs.Common.{◌≡◌, ℕ, zero, suc, ◌+◌, ◌*◌, ◌<◌, ◌≤◌, ◌==◌, inl, inr, List, [], ◌∷◌, length, sum_by, All, if◌then◌else◌, refl, ap, ap₂, sym, ◌∙◌, arith, mul-zero, mul-add, eq-eqb, ne_eqb, add-one, take, take_all, slice_index_or}
+use Rattle.std.proofs.Common.{◌≡◌, ℕ, zero, suc, ◌+◌, ◌*◌, ◌<◌, ◌≤◌, ◌==◌, inl, inr, List, [], ◌∷◌, length, sum_by, All}
+use Rattle.std.proofs.Common.{if◌then◌else◌, refl, ap, ap₂, sym, ◌∙◌, arith, mul-zero, mul-add, eq-eqb, ne_eqb, add-one}
+use Rattle.std.proofs.Common.{take, take_all, slice_index_or}
 use Rattle.std.proofs.lemmas.List.Sums.{sum_by-cons, sum_by_more}
 use Rattle.std.proofs.lemmas.List.Elements.{All-head, All-tail}
 use Rattle.std.proofs.lemmas.Bool.{cases_eq}
@@ -33,7 +35,8 @@ sum_below_add (suc n) f g =
     omega arith
 
 -- only one term
-pub sum_below_one : (n : ℕ) (f : ℕ → ℕ) (i : ℕ) → i < n → ((k : ℕ) → k < n → (k ≡ i → ⊥) → f k ≡ 0) → sum_below n f ≡ f i
+pub sum_below_one : (n : ℕ) (f : ℕ → ℕ) (i : ℕ) → i < n → ((k : ℕ) → k < n → (k ≡ i → ⊥) → f k ≡ 0)
+    → sum_below n f ≡ f i
 sum_below_one zero f i l h = absurd (omega arith)
 sum_below_one (suc n) f i l h = elim (cases_eq n i) [
   | inl e ↦
@@ -75,15 +78,20 @@ module _ {A : Type 0} where
       let at = λ (k : ℕ). if key x == k then f x else 0 in
       let rest = λ (k : ℕ). sum_by (λ a. if key a == k then f a else 0) xs in
       let l : key x < n = All-head (λ a. key a < n) x xs h in
-      let a : sum_by (λ a. w (key a) * f a) xs ≡ sum_below n (λ k. w k * rest k) = by_key key f w n xs (All-tail (λ a. key a < n) x xs h) in
+      let a : sum_by (λ a. w (key a) * f a) xs ≡ sum_below n (λ k. w k * rest k) =
+      by_key key f w n xs (All-tail (λ a. key a < n) x xs h) in
       let here : at (key x) ≡ f x = rw (eq-eqb (key x) (key x) refl) in
       let one : sum_below n (λ k. w k * at k) ≡ w (key x) * at (key x) =
       sum_below_one n (λ k. w k * at k) (key x) l
       (λ k m ne. let e : at k ≡ 0 = rw (ne_eqb (key x) k (λ q. ne (sym q))) in ap (λ v. w k * v) e ∙ mul-zero (w k)) in
-      let split : sum_below n (λ k. w k * sum_by (λ a. if key a == k then f a else 0) (x ∷ xs)) ≡ sum_below n (λ k. w k * at k + w k * rest k) =
-      sum_below_same n _ _ (λ k m. ap (λ v. w k * v) (sum_by-cons (λ a. if key a == k then f a else 0) x xs) ∙ mul-add (w k) (at k) (rest k)) in
+      let split : sum_below n (λ k. w k * sum_by (λ a. if key a == k then f a else 0) (x ∷ xs))
+      ≡ sum_below n (λ k. w k * at k + w k * rest k) =
+      sum_below_same n _ _
+      (λ k m. ap (λ v. w k * v) (sum_by-cons (λ a. if key a == k then f a else 0) x xs)
+      ∙ mul-add (w k) (at k) (rest k)) in
       let w-here : w (key x) * at (key x) ≡ w (key x) * f x = ap (λ v. w (key x) * v) here in
-      let sums : sum_below n (λ k. w k * at k + w k * rest k) ≡ sum_below n (λ k. w k * at k) + sum_below n (λ k. w k * rest k) =
+      let sums : sum_below n (λ k. w k * at k + w k * rest k)
+      ≡ sum_below n (λ k. w k * at k) + sum_below n (λ k. w k * rest k) =
       sum_below_add n (λ k. w k * at k) (λ k. w k * rest k) in
       sum_by-cons (λ a. w (key a) * f a) x xs ∙ ap₂ (λ m n. m + n) (sym (one ∙ w-here)) a ∙ sym sums ∙ sym split
 

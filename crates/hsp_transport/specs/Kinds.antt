@@ -1,6 +1,7 @@
 -- Kinds of the sources of a network. Sources whose arcs are alike are one source to a plan, which demands what they
 -- demand together.
-use Rattle.std.specs.Prelude.{◌≡◌, ◌↔◌, ℕ, ◌<◌, ◌≤◌, ◌==◌, Bool, List, length, map, filter, sum_by, slice_index, if◌then◌else◌}
+use Rattle.std.specs.Prelude.{◌≡◌, ◌↔◌, ℕ, ◌<◌, ◌≤◌, ◌==◌, Bool, List, length, map, filter, sum_by, slice_index}
+use Rattle.std.specs.Prelude.{if◌then◌else◌}
 use Rattle.hsp_transport.specs.Sums.{sum_below}
 use Rattle.hsp_transport.specs.Network.{Network}
 use Rattle.hsp_transport.specs.Flow.{host_load, load, total_cost}

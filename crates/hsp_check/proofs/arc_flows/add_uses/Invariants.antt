@@ -6,7 +6,9 @@ use Rattle.hsp_check.proofs.arc_flows.add_uses.Given as goal
 abbrev pub invariant-loop-index : goal.invariant-loop-index
 invariant-loop-index l = record {
   arcs : (k : ℕ) → k < length l.arc_flows → arc_at l.arc_flows k ≡ arc_at l.initial.arc_flows k;
-  flows : (k : ℕ) → k < length l.arc_flows → flow_at l.arc_flows k ≡ table (take l.index l.uses) (arc_at l.initial.arc_flows k).row (arc_at l.initial.arc_flows k).site;
+  flows : (k : ℕ) → k < length l.arc_flows
+      → flow_at l.arc_flows k
+      ≡ table (take l.index l.uses) (arc_at l.initial.arc_flows k).row (arc_at l.initial.arc_flows k).site;
   small : (k : ℕ) → k < length l.arc_flows → flow_at l.arc_flows k ≤ l.index * 1000000;
   each : (i : ℕ) → i < l.index → HasArc l.initial.arc_flows (use_at l.uses i);
 }

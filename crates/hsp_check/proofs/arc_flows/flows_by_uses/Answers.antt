@@ -5,7 +5,8 @@ use Rattle.hsp_check.proofs.arc_flows.flows_by_uses.Goals as goal
 pub returns-then-add_uses-clause-arc_flows : goal.returns-then-add_uses-clause-arc_flows
 returns-then-add_uses-clause-arc_flows c =
     let first = c.args.arcs.arc_flows in
-    let many : length c.add_uses.new.arc_flows ≡ length first.items = c.add_uses.auto.arc_flows ∙ ap length c.deref_mut.ensures.value in
+    let many : length c.add_uses.new.arc_flows ≡ length first.items =
+    c.add_uses.auto.arc_flows ∙ ap length c.deref_mut.ensures.value in
     rw (written first.len c.add_uses.new.arc_flows first.items many first.ok.0)
     (arc_flows_made first.items c.add_uses.new.arc_flows c.args.uses.now many
     (rw c.deref_mut.ensures.value at c.add_uses.ensures.arcs)
@@ -13,7 +14,8 @@ returns-then-add_uses-clause-arc_flows c =
 
 pub returns-then-add_uses-clause-each : goal.returns-then-add_uses-clause-each
 returns-then-add_uses-clause-each c =
-    all_tested c.args.arcs.arc_flows.items c.args.uses.now (rw c.deref_mut.ensures.value at (c.add_uses.ensures.each c.if-add_uses.true))
+    all_tested c.args.arcs.arc_flows.items c.args.uses.now
+    (rw c.deref_mut.ensures.value at (c.add_uses.ensures.each c.if-add_uses.true))
 
 pub returns-else-add_uses-clause-lost : goal.returns-else-add_uses-clause-lost
 returns-else-add_uses-clause-lost c =

@@ -16,7 +16,9 @@ pub with-requires-clause-cheap : goal.with-requires-clause-cheap
 with-requires-clause-cheap c =
     let network = c.in_ok-numbers in
     let same = (ap (λ (n : Network). n.arcs) network.ensures.network) in
-    rw c.deref.ensures.value (all_of_map (λ (l : ArcFlow). l.arc) (λ (a : NetworkArc). a.cost ≤ 1000000) network.field-0.arcs.arc_flows.items (rw same network.ensures.cheap))
+    rw c.deref.ensures.value
+    (all_of_map (λ (l : ArcFlow). l.arc) (λ (a : NetworkArc). a.cost ≤ 1000000) network.field-0.arcs.arc_flows.items
+    (rw same network.ensures.cheap))
 
 pub returns-in-Some : goal.returns-in-Some
 returns-in-Some c =
@@ -27,7 +29,8 @@ returns-in-Some c =
     let plan = is_best claim c.in-Some.plan c.in-Some.ensures.plan in
     let ranges : IsCertificate claim = subst (λ c. IsCertificate c) (sym plan) c.in-Some.ensures.ranges in
     let told : (v : Verdict) → IsVerdict network (best c.in-Some.plan) v → Says n claim v = λ v is.
-    says n claim v built.ensures.is ranges (subst (λ n. IsVerdict n claim v) built.ensures.network (subst (λ c. IsVerdict network c v) (sym plan) is)) in
+    says n claim v built.ensures.is ranges
+    (subst (λ n. IsVerdict n claim v) built.ensures.network (subst (λ c. IsVerdict network c v) (sym plan) is)) in
     record {
       verdict = where_ok _ _ c.check_plan.result (λ v is. (told v is).verdict) c.check_plan.ensures;
       valid = where_ok _ _ c.check_plan.result (λ v is. (told v is).valid) c.check_plan.ensures;
@@ -44,9 +47,13 @@ returns c =
     let built = c.in_ok-numbers in
     let network = (rw c.deref.ensures.value at c.with.ensures.network) ∙ built.ensures.network in
     let set = is_short claim c.unwrap-set.result (sym c.unwrap-set.ensures ∙ c.as_short.ensures.set) in
-    let ranges : IsCertificate claim = subst (λ c. IsCertificate c) (sym set) (rw c.unwrap-set.ensures at c.as_short.ensures.ranges) in
-    let told : (v : Verdict) → IsVerdict (network_in c.with.result) (short c.unwrap-set.result) v → Says n claim v = λ v is.
-    says n claim v built.ensures.is ranges (subst (λ n. IsVerdict n claim v) network (subst (λ c'. IsVerdict (network_in c.with.result) c' v) (sym set) is)) in
+    let ranges : IsCertificate claim =
+    subst (λ c. IsCertificate c) (sym set) (rw c.unwrap-set.ensures at c.as_short.ensures.ranges) in
+    let told : (v : Verdict) → IsVerdict (network_in c.with.result) (short c.unwrap-set.result) v → Says n claim v =
+    λ v is.
+    says n claim v built.ensures.is ranges
+    (subst (λ n. IsVerdict n claim v) network
+    (subst (λ c'. IsVerdict (network_in c.with.result) c' v) (sym set) is)) in
     record {
       verdict = where_ok _ _ c.check_set.result (λ v is. (told v is).verdict) c.check_set.ensures;
       valid = where_ok _ _ c.check_set.result (λ v is. (told v is).valid) c.check_set.ensures;

@@ -4,7 +4,9 @@ use Rattle.hsp_check.proofs.loads.loads_of.Goals as goal
 
 pub returns : goal.returns
 returns c =
-    are_loads c.args.lists (record { rows = c.in_ok-rows.rows; servers = c.in_ok-servers.servers; hosts = c.in_ok-hosts.hosts }) c.args.lists.servers_many
+    are_loads c.args.lists
+    (record { rows = c.in_ok-rows.rows; servers = c.in_ok-servers.servers; hosts = c.in_ok-hosts.hosts })
+    c.args.lists.servers_many
     (record {
       rows_many = search rules;
       rows_are = c.in_ok-rows.ensures.sums;

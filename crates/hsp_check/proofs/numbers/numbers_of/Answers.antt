@@ -4,7 +4,9 @@ use Rattle.hsp_check.proofs.numbers.numbers_of.Goals as goal
 
 pub invariant_of-result : goal.invariant_of-result
 invariant_of-result c = record {
-  servers_many = ap length c.in_ok-capacities.ensures.capacities ∙ length-map _ _ ∙ sym (ap length c.in_ok-server_hosts.ensures.hosts ∙ length-map _ _);
+  servers_many =
+      ap length c.in_ok-capacities.ensures.capacities ∙ length-map _ _
+      ∙ sym (ap length c.in_ok-server_hosts.ensures.hosts ∙ length-map _ _);
   few_rows = omega (arith, c.in_ok-demands.ensures.few);
   few_servers = omega (arith, c.in_ok-server_hosts.ensures.few);
   few_hosts = omega (arith, c.in_ok-limits.ensures.few);

@@ -16,7 +16,9 @@ use Rattle.hsp_check.proofs.reaching.reached_servers.Goals as goal
 pub with-lists-requires-clause-cheap : goal.with-lists-requires-clause-cheap
 with-lists-requires-clause-cheap c =
     rw c.deref.ensures.value
-    (all_of_map (λ (l : ArcFlow). l.arc) (λ (a : NetworkArc). a.cost ≤ 1000000) c.in_ok-network.network.arcs.arc_flows.items (rw (ap (λ (n : Network). n.arcs) c.in_ok-network.ensures.network) c.in_ok-network.ensures.cheap))
+    (all_of_map (λ (l : ArcFlow). l.arc) (λ (a : NetworkArc). a.cost ≤ 1000000)
+    c.in_ok-network.network.arcs.arc_flows.items
+    (rw (ap (λ (n : Network). n.arcs) c.in_ok-network.ensures.network) c.in_ok-network.ensures.cheap))
 
 pub returns : goal.returns
 returns c =
@@ -24,8 +26,12 @@ returns c =
     let lists = c.with-lists.result in
     let network = (rw c.deref.ensures.value at c.with-lists.ensures.network) ∙ network.network in
     let rows = rw c.unwrap-rows.ensures at c.in_ok-flags_of.ensures.flags in
-    let reach = flagged_reach lists c.unwrap-rows.result.items c.in_ok-servers.servers.items (is_one_of c.args.set.now.rows) (rw c.rows.ensures at rows)
-    (sym c.in_ok-servers.servers.ok.0 ∙ c.in_ok-servers.ensures.len) (rw c.deref-2.ensures.value at c.in_ok-servers.ensures.reached) in
-    let found : filter (flag_at c.deref-3.result.now) (range_with_len 0 (length c.deref-3.result.now)) ≡ reached (network_of c.args.instance.now) (is_one_of c.args.set.now.rows) =
+    let reach =
+    flagged_reach lists c.unwrap-rows.result.items c.in_ok-servers.servers.items (is_one_of c.args.set.now.rows)
+    (rw c.rows.ensures at rows)
+    (sym c.in_ok-servers.servers.ok.0 ∙ c.in_ok-servers.ensures.len)
+    (rw c.deref-2.ensures.value at c.in_ok-servers.ensures.reached) in
+    let found : filter (flag_at c.deref-3.result.now) (range_with_len 0 (length c.deref-3.result.now))
+    ≡ reached (network_of c.args.instance.now) (is_one_of c.args.set.now.rows) =
     rw c.deref-3.ensures.value (reach ∙ ap (λ n. reached n (is_one_of c.args.set.now.rows)) network) in
     where_ok _ _ c.flagged.result (λ _ is. is ∙ found) c.flagged.ensures

@@ -10,6 +10,9 @@ pub returns : goal.returns
 returns c =
     let lists = c.args.lists in
     ap₂ (λ a b. a + b) c.free_room.ensures.sum c.hosted_room.ensures.sum
-    ∙ capacity_is (transport (network_in lists)) lists.server_hosts.now refl (sym lists.servers_many) (flag_at c.args.rows.now) c.as_slice-2.result.now c.as_slice-3.result.now (search rules)
-    (rooms_are lists (flag_at c.args.rows.now) c.as_slice-2.result.now (rw c.as_slice-2.ensures.value c.in_ok-rooms.ensures.rooms))
-    (rw (c.as_slice-3.ensures.value, c.as_slice-2.ensures.value, ← c.as_slice.ensures.value) c.in_ok-hosted.ensures.sums)
+    ∙ capacity_is (transport (network_in lists)) lists.server_hosts.now refl (sym lists.servers_many)
+    (flag_at c.args.rows.now) c.as_slice-2.result.now c.as_slice-3.result.now (search rules)
+    (rooms_are lists (flag_at c.args.rows.now) c.as_slice-2.result.now
+    (rw c.as_slice-2.ensures.value c.in_ok-rooms.ensures.rooms))
+    (rw (c.as_slice-3.ensures.value, c.as_slice-2.ensures.value, ← c.as_slice.ensures.value)
+    c.in_ok-hosted.ensures.sums)

@@ -8,4 +8,9 @@ returns-in-Some g c =
 
 pub returns : goal.returns
 returns g c =
-    rw c.in-None.is (inr (c.in_ok-octets.octets.items, c.in_ok-octets.ensures.octets, rw c.deref-in-None.ensures.value at c.site_answer-in-None.ensures))
+    rw c.in-None.is
+    (inr (
+      c.in_ok-octets.octets.items,
+      c.in_ok-octets.ensures.octets,
+      rw c.deref-in-None.ensures.value at c.site_answer-in-None.ensures,
+    ))

@@ -6,5 +6,6 @@ use Rattle.hsp_cli_options.proofs.commands.with_arguments.Given as goal
 
 abbrev pub invariant-loop-argument : goal.invariant-loop-argument
 invariant-loop-argument l =
-    (with_rules (app_of l.command) (map rule_for (drop l.argument-index l.arguments)) ≡ with_rules (app_of l.fn.command) (map rule_for l.arguments))
+    (with_rules (app_of l.command) (map rule_for (drop l.argument-index l.arguments))
+    ≡ with_rules (app_of l.fn.command) (map rule_for l.arguments))
     × (has_globals_of l.command ≡ false)

@@ -8,6 +8,9 @@ use Rattle.hsp_cli_options.proofs.commands.with_subcommands.Goals as goal
 pub loop-subcommand-preserved : goal.loop-subcommand-preserved
 loop-subcommand-preserved c =
     let at = c.loop-subcommand.subcommand-index in
-    let left = at_drop_more (λ (xs : List Subcommand). with_subcommands (app_of c.loop-subcommand.command) xs) c.args.subcommands.now at _ c.loop-subcommand-test.true in
-    let one_more = ap (λ (app : App). with_subcommands app (drop (at + 1) c.args.subcommands.now)) c.in_ok-command.ensures in
+    let left =
+    at_drop_more (λ (xs : List Subcommand). with_subcommands (app_of c.loop-subcommand.command) xs)
+    c.args.subcommands.now at _ c.loop-subcommand-test.true in
+    let one_more =
+    ap (λ (app : App). with_subcommands app (drop (at + 1) c.args.subcommands.now)) c.in_ok-command.ensures in
     one_more ∙ sym left ∙ c.loop-subcommand.invariant

@@ -4,4 +4,6 @@ use Rattle.hsp_cli_options.specs.Tables.{with_subcommands}
 use Rattle.hsp_cli_options.proofs.commands.with_subcommands.Given as goal
 
 abbrev pub invariant-loop-subcommand : goal.invariant-loop-subcommand
-invariant-loop-subcommand l = with_subcommands (app_of l.command) (drop l.subcommand-index l.subcommands) ≡ with_subcommands (app_of l.fn.command) l.subcommands
+invariant-loop-subcommand l =
+    with_subcommands (app_of l.command) (drop l.subcommand-index l.subcommands)
+    ≡ with_subcommands (app_of l.fn.command) l.subcommands

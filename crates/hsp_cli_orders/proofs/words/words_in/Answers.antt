@@ -10,6 +10,9 @@ pub returns : goal.returns
 returns c =
     let split = c.split-word-items.ensures in
     let begun = c.into_iter-word-iterator.ensures.into_iter_gives in
-    let pieces = YieldsList-from_str_split 32 c.args.text.now (lit< tt) (ap split_text begun ∙ split.text) (ap split_has_more begun ∙ split.has_more) (ap split_pattern begun ∙ split.pattern) in
-    let all = YieldsList-end pieces c.loop-word.yielded _ c.loop-word.yielded_by _ _ c.in-None.is c.next.ensures.steps in
+    let pieces =
+    YieldsList-from_str_split 32 c.args.text.now (lit< tt) (ap split_text begun ∙ split.text)
+    (ap split_has_more begun ∙ split.has_more) (ap split_pattern begun ∙ split.pattern) in
+    let all =
+    YieldsList-end pieces c.loop-word.yielded _ c.loop-word.yielded_by _ _ c.in-None.is c.next.ensures.steps in
     c.loop-word.invariant ∙ ap (filter is_word) all.0

@@ -4,4 +4,5 @@ use Rattle.hsp_csv.proofs.writing.push_escaped.Given as goal
 
 abbrev pub invariant-loop-octet : goal.invariant-loop-octet
 invariant-loop-octet l =
-    l.out.items ++ escaped default_writer (drop l.octet-index l.field) ≡ l.fn.out.items ++ escaped default_writer l.field
+    l.out.items ++ escaped default_writer (drop l.octet-index l.field) ≡ l.fn.out.items
+    ++ escaped default_writer l.field

@@ -14,7 +14,8 @@ invariant-rows g l =
       reading : IsReading l.reader;
       instance : desk.instance l.desk ≡ desk.instance l.fn.desk;
       so_far : SoFar (desk_of desk.header (desk.Answers l.fn.desk l.desk) desk.Refuses)
-          (streams (log_left remaining l.fn.reader) (contents l.fn.writer) (contents l.writer)) l.form (log_left remaining l.reader) l.row l.sums;
+          (streams (log_left remaining l.fn.reader) (contents l.fn.writer) (contents l.writer)) l.form
+          (log_left remaining l.reader) l.row l.sums;
     }
 
 abbrev pub decreases-rows : goal.decreases-rows

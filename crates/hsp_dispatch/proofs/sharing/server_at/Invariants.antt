@@ -5,4 +5,5 @@ use Rattle.hsp_dispatch.proofs.sharing.server_at.Given as goal
 
 -- no earlier arc is to the site
 abbrev pub invariant-loop-arc : goal.invariant-loop-arc
-invariant-loop-arc l = number_of (arc_to l.site (Some (drop l.arc-index l.arc-items))) ≡ number_of (arc_to l.site (Some l.arc-items))
+invariant-loop-arc l =
+    number_of (arc_to l.site (Some (drop l.arc-index l.arc-items))) ≡ number_of (arc_to l.site (Some l.arc-items))

@@ -5,4 +5,5 @@ use Rattle.hsp_flow.proofs.certify.push_uses.Given as goal
 
 abbrev pub invariant-loop-place : goal.invariant-loop-place
 invariant-loop-place l =
-    l.uses.items ++ uses_of (map (arc_of l.row) (drop l.place l.arcs)) (drop l.place l.flows) ≡ l.fn.uses.items ++ uses_of (map (arc_of l.row) l.arcs) l.flows
+    l.uses.items ++ uses_of (map (arc_of l.row) (drop l.place l.arcs)) (drop l.place l.flows) ≡ l.fn.uses.items
+    ++ uses_of (map (arc_of l.row) l.arcs) l.flows

@@ -9,5 +9,6 @@ use Rattle.hsp_flow.proofs.grouping.group_demands.Given as goal
 abbrev pub invariant-loop-row : goal.invariant-loop-row
 invariant-loop-row l = record {
   many : length l.demands.items ≡ l.groups.count;
-  so_far : (k : ℕ) → k < l.groups.count → slice_index l.demands.items k ≡ asked_before (transport (network_of l.instance)) (group_of l.groups) k l.row;
+  so_far : (k : ℕ) → k < l.groups.count
+      → slice_index l.demands.items k ≡ asked_before (transport (network_of l.instance)) (group_of l.groups) k l.row;
 }

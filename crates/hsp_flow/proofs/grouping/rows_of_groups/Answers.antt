@@ -11,11 +11,15 @@ loop-row-preserved c =
     let rows = c.loop-row.rows.items in
     let inv = c.loop-row.invariant in
     let of = group_read groups row c.of.result c.of.ensures.group in
-    let most = next_group c.args.instance.now groups c.requires row c.of.result (length rows) c.of.ensures.group inv.seen in
+    let most =
+    next_group c.args.instance.now groups c.requires row c.of.result (length rows) c.of.ensures.group inv.seen in
     elim c.if-of-len.branch [
       | then-of-len+in_ok-push w ↦
-          let more = rows_more groups rows row (omega (arith, of, w.if-of-len.true, c.len-in-loop-row.ensures)) inv.few inv.there inv.own inv.seen in
-          rw (w.rows-is, w.in_ok-push.ensures.items) (record { few = more.few; there = more.there; own = more.own; seen = more.seen })
+          let more =
+          rows_more groups rows row (omega (arith, of, w.if-of-len.true, c.len-in-loop-row.ensures)) inv.few
+          inv.there inv.own inv.seen in
+          rw (w.rows-is, w.in_ok-push.ensures.items)
+          (record { few = more.few; there = more.there; own = more.own; seen = more.seen })
       | else-of-len w ↦ rw w.rows-is (record {
         few = omega (arith, inv.few);
         there = λ k l. omega (arith, inv.there k l);
@@ -31,5 +35,7 @@ pub returns : goal.returns
 returns c =
     let inv = c.loop-row.invariant in
     let it = c.args.instance.now in
-    let end : c.loop-row.row ≡ length it.rows = omega (arith, c.loop-row-test.false, c.loop-row.auto.row-end, c.rows-row-end.ensures.count) in
-    all_seen it c.args.groups.now c.rows-row-end.ensures.within c.requires c.loop-row.rows.items c.loop-row.row end inv.few inv.there inv.own inv.seen
+    let end : c.loop-row.row ≡ length it.rows =
+    omega (arith, c.loop-row-test.false, c.loop-row.auto.row-end, c.rows-row-end.ensures.count) in
+    all_seen it c.args.groups.now c.rows-row-end.ensures.within c.requires c.loop-row.rows.items c.loop-row.row end
+    inv.few inv.there inv.own inv.seen

@@ -5,7 +5,9 @@ use Rattle.hsp_flow.proofs.planning.group_network.Goals as goal
 
 pub invariant_of-result : goal.invariant_of-result
 invariant_of-result c = record {
-  ends = lists_are_network c.args.instance.now c.args.grouped.now.groups.now c.requires.within c.requires.groups c.args.grouped.now.rows.now c.requires.rows
+  ends =
+      lists_are_network c.args.instance.now c.args.grouped.now.groups.now c.requires.within c.requires.groups
+      c.args.grouped.now.rows.now c.requires.rows
       c.requires.demands
       (c.deref.ensures.value ∙ ap (λ (n : Transport). n.capacities) c.requires.lists)
       (c.deref-2.ensures.value ∙ ap (λ (n : Transport). n.limits) c.requires.lists)

@@ -12,6 +12,9 @@ abbrev pub invariant-loop-row : goal.invariant-loop-row
 invariant-loop-row l = record {
   many : length l.asked.items ≡ l.with.groups.now.count;
   so_far : (k : ℕ) → k < l.with.groups.now.count →
-      slice_index l.asked.items k ≡ asked_before (transport (network_of l.instance)) (group_of l.with.groups.now) k l.row;
-  flows : l.flows.items ≡ map (planned (spread_by l.instance l.with.groups.now l.with.rows.now l.of_groups)) (arcs_from 0 (take l.row l.instance.arcs));
+      slice_index l.asked.items k
+      ≡ asked_before (transport (network_of l.instance)) (group_of l.with.groups.now) k l.row;
+  flows : l.flows.items
+      ≡ map (planned (spread_by l.instance l.with.groups.now l.with.rows.now l.of_groups))
+      (arcs_from 0 (take l.row l.instance.arcs));
 }

@@ -8,5 +8,9 @@ parts-preserved c =
     let split = c.split_at.ensures in
     let part = c.split_at.result.0.now in
     let held = c.update.ensures _ before.2 in
-    let upper = upper_with before.0 part c.set_upper.new.block c.min-count.result c.set_upper.ensures split.front_len in
-    (before.0 ++ part, done_with _ before.0 _ part _ c.min-count.result before.1 split.front split.back, rw upper at held)
+    let upper =
+    upper_with before.0 part c.set_upper.new.block c.min-count.result c.set_upper.ensures split.front_len in (
+      before.0 ++ part,
+      done_with _ before.0 _ part _ c.min-count.result before.1 split.front split.back,
+      rw upper at held,
+    )

@@ -6,4 +6,9 @@ pub returns : goal.returns
 returns c =
     let handles = c.readings_are_handles.ensures in
     let once = gives_one_answer c.one_answer.ensures.value_lists c.built_once.ensures in
-    record { given = gives_the_defined handles; accepted = accepts_the_defined handles; once = once; only = gives_nothing_else handles once }
+    record {
+      given = gives_the_defined handles;
+      accepted = accepts_the_defined handles;
+      once = once;
+      only = gives_nothing_else handles once;
+    }

@@ -5,7 +5,9 @@ use Rattle.std.proofs.lemmas.Grind.{common_steps}
 use Rattle.hsp_instance.proofs.columns.capacities_of.Goals as goal
 
 pub loop-server-preserved : goal.loop-server-preserved
-loop-server-preserved c = c.in_ok-push.ensures.items ∙ read_more (λ (x : Server). x.capacity) _ _ _ _ c.server-capacity.ensures.capacity c.loop-server.invariant
+loop-server-preserved c =
+    c.in_ok-push.ensures.items
+    ∙ read_more (λ (x : Server). x.capacity) _ _ _ _ c.server-capacity.ensures.capacity c.loop-server.invariant
 
 pub returns-clause-capacities : goal.returns-clause-capacities
 returns-clause-capacities c = grind (arith, common_steps)

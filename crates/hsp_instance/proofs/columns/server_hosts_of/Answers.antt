@@ -5,7 +5,8 @@ use Rattle.std.proofs.lemmas.Grind.{common_steps}
 use Rattle.hsp_instance.proofs.columns.server_hosts_of.Goals as goal
 
 pub loop-server-preserved : goal.loop-server-preserved
-loop-server-preserved c = c.in_ok-push.ensures.items ∙ read_more (λ (x : Server). x.host) _ _ _ _ c.host_of.ensures c.loop-server.invariant
+loop-server-preserved c =
+    c.in_ok-push.ensures.items ∙ read_more (λ (x : Server). x.host) _ _ _ _ c.host_of.ensures c.loop-server.invariant
 
 pub returns-clause-hosts : goal.returns-clause-hosts
 returns-clause-hosts c = grind (arith, common_steps)

@@ -5,13 +5,19 @@ use Rattle.hsp_instance.proofs.region_costs.place_of.Goals as goal
 
 pub returns-in-Some-clause-place : goal.returns-in-Some-clause-place
 returns-in-Some-clause-place c =
-    costs_known c.args.costs.now c.args.sites.now c.args.region.now c.args.known.now.entries c.in-Some.place c.requires c.in-Some.ensures.within c.in-Some.ensures.value
+    costs_known c.args.costs.now c.args.sites.now c.args.region.now c.args.known.now.entries c.in-Some.place c.requires
+    c.in-Some.ensures.within c.in-Some.ensures.value
 
 pub returns-clause-known : goal.returns-clause-known
 returns-clause-known c =
-    let has = c.in_ok-found.ensures ∙ ap (λ (name : List ℕ). costs_at c.args.costs.now name c.args.sites.now) (sym c.in_ok-name.ensures.items) in
-    rw (c.in_ok-place.ensures.entries) (costs_added c.args.costs.now c.args.sites.now c.in_ok-name.name c.in_ok-found.found c.args.known.now.entries has c.requires)
+    let has =
+    c.in_ok-found.ensures
+    ∙ ap (λ (name : List ℕ). costs_at c.args.costs.now name c.args.sites.now) (sym c.in_ok-name.ensures.items) in
+    rw (c.in_ok-place.ensures.entries)
+    (costs_added c.args.costs.now c.args.sites.now c.in_ok-name.name c.in_ok-found.found c.args.known.now.entries
+    has c.requires)
 
 pub returns-clause-place : goal.returns-clause-place
 returns-clause-place c =
-    rw (c.in_ok-place.ensures.entries, c.in_ok-place.ensures.index) (costs_placed c.in_ok-name.name c.in_ok-found.found c.args.known.now.entries ∙ ap Some c.in_ok-found.ensures)
+    rw (c.in_ok-place.ensures.entries, c.in_ok-place.ensures.index)
+    (costs_placed c.in_ok-name.name c.in_ok-found.found c.args.known.now.entries ∙ ap Some c.in_ok-found.ensures)

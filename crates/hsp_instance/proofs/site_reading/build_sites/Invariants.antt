@@ -12,5 +12,7 @@ invariant-sites l = record {
   before : l.before ≡ servers_of l.sites.items;
   within : AreSites l.sites.items;
   named : AreNamed l.settings.sites l.sites.items;
-  so_far : (answer : Result (List Site) BuildFault) → AreSitesAfter (option_map (λ v. v.now) l.values) l.sites.items (drop l.number l.settings.sites) answer → AreSitesAfter (option_map (λ v. v.now) l.values) [] l.settings.sites answer;
+  so_far : (answer : Result (List Site) BuildFault)
+      → AreSitesAfter (option_map (λ v. v.now) l.values) l.sites.items (drop l.number l.settings.sites) answer
+      → AreSitesAfter (option_map (λ v. v.now) l.values) [] l.settings.sites answer;
 }

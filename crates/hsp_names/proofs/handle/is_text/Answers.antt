@@ -8,4 +8,7 @@ pub returns-in-Ok : goal.returns-in-Ok
 returns-in-Ok c = sym (is_utf8-from_IsUtf8 c.args.octets.now c.in-Ok.ensures.cases.1)
 
 pub returns-in-Err : goal.returns-in-Err
-returns-in-Err c = sym (false_from_ne_true (is_utf8 c.args.octets.now) (λ t. c.in-Err.ensures.cases.0 (IsUtf8-from_is_utf8 c.args.octets.now t)))
+returns-in-Err c =
+    sym
+    (false_from_ne_true (is_utf8 c.args.octets.now)
+    (λ t. c.in-Err.ensures.cases.0 (IsUtf8-from_is_utf8 c.args.octets.now t)))

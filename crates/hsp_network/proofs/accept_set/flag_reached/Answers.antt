@@ -11,5 +11,7 @@ returns c j l =
     let net = problem_of c.args.network.now in
     let all : c.loop-arc.arc ≡ length net.sources = omega (arith, c.loop-arc-test.false, c.loop-arc.auto.arc-end) in
     c.loop-arc.invariant j l
-    ∙ ap (λ n. any_below n (λ k. flag_at c.args.set.now (slice_index net.sources k) && (slice_index net.servers k == j))) all
+    ∙ ap
+    (λ n. any_below n (λ k. flag_at c.args.set.now (slice_index net.sources k) && (slice_index net.servers k == j)))
+    all
     ∙ sym (reaches_numbers net (flag_at c.args.set.now) j)

@@ -13,5 +13,8 @@ returns c =
     let hosted = rw c.deref-2.ensures.value at c.in_ok-hosted.ensures.sums in
     ap₂ (λ a b. a + b) c.free_room.ensures.sum c.hosted_room.ensures.sum
     ∙ rw (c.deref-3.ensures.value, c.deref-4.ensures.value)
-    (capacity_is (numbered net) net.hosts refl c.args.network.now.ends.hosts_many (flag_at c.args.set.now) _ _ (search rules)
-    (λ j l. rooms j l ∙ ap (λ b. if b then slice_index net.capacities j else 0) (c.in_ok-reached.ensures.reached j (omega (arith, l, c.in_ok-reached.ensures.len)))) hosted)
+    (capacity_is (numbered net) net.hosts refl c.args.network.now.ends.hosts_many (flag_at c.args.set.now) _ _
+    (search rules)
+    (λ j l. rooms j l
+    ∙ ap (λ b. if b then slice_index net.capacities j else 0)
+    (c.in_ok-reached.ensures.reached j (omega (arith, l, c.in_ok-reached.ensures.len)))) hosted)

@@ -15,9 +15,14 @@ handles_agree a (Err OutOfMemory) h = agrees_with_none (handle_of a)
 handles_agree a b h = ap handle_of h
 
 pub returns-clause-means : goal.returns-clause-means
-returns-clause-means c = (answer_of c.args.octets.now (request_at c.args.octets.now), answer_means request_limited c.args.octets.now (λ i. omega (arith, c.type_inv.octets i)), c.request_answer.ensures)
+returns-clause-means c = (
+  answer_of c.args.octets.now (request_at c.args.octets.now),
+  answer_means request_limited c.args.octets.now (λ i. omega (arith, c.type_inv.octets i)),
+  c.request_answer.ensures,
+)
 
 pub returns-clause-only : goal.returns-clause-only
 returns-clause-only c = λ other m.
     let answer = answer_of c.args.octets.now (request_at c.args.octets.now) in
-    subst (λ (r : Result (List ℕ) RecordFault). Agrees r (handle_of other)) (sym c.request_answer.ensures) (handles_agree answer other (means_answer request_limited c.args.octets.now other m))
+    subst (λ (r : Result (List ℕ) RecordFault). Agrees r (handle_of other)) (sym c.request_answer.ensures)
+    (handles_agree answer other (means_answer request_limited c.args.octets.now other m))

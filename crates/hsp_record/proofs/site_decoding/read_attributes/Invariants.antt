@@ -4,4 +4,6 @@ use Rattle.hsp_record.proofs.Loop.{with_front}
 use Rattle.hsp_record.proofs.site_decoding.read_attributes.Given as goal
 
 abbrev pub invariant-loop : goal.invariant-loop
-invariant-loop l = with_front l.attributes.items (times_at attribute_at (l.count - l.counter) l.rest) ≡ times_at attribute_at l.count l.bytes
+invariant-loop l =
+    with_front l.attributes.items (times_at attribute_at (l.count - l.counter) l.rest)
+    ≡ times_at attribute_at l.count l.bytes

@@ -7,11 +7,19 @@ use Rattle.hsp_record.proofs.site_decoding.read_interfaces.Goals as goal
 pub returns-in_err-interface : goal.returns-in_err-interface
 returns-in_err-interface c =
     let p = err_from_is_err_and c.from_residual.result c.from_residual.ensures.1 in
-    rw (p.1, p.2) (ends (times_steps interface_at) (Stopped c.in_err-interface.field-0.0) c.loop.interfaces.items c.args.count c.loop.counter c.loop.rest.now (times_at interface_at c.args.count c.args.bytes.now) c.loop-test.true c.in_err-interface.ensures c.loop.invariant)
+    rw (p.1, p.2)
+    (ends (times_steps interface_at) (Stopped c.in_err-interface.field-0.0) c.loop.interfaces.items c.args.count
+    c.loop.counter c.loop.rest.now (times_at interface_at c.args.count c.args.bytes.now) c.loop-test.true
+    c.in_err-interface.ensures c.loop.invariant)
 
 pub loop-preserved : goal.loop-preserved
 loop-preserved c =
-    rw c.in_ok-push.ensures.items (goes_on (times_steps interface_at) c.loop.interfaces.items c.args.count c.loop.counter c.loop.rest.now c.in_ok-interface.interface c.in_ok-interface.after.now (times_at interface_at c.args.count c.args.bytes.now) c.loop-test.true c.in_ok-interface.ensures c.loop.invariant)
+    rw c.in_ok-push.ensures.items
+    (goes_on (times_steps interface_at) c.loop.interfaces.items c.args.count c.loop.counter c.loop.rest.now
+    c.in_ok-interface.interface c.in_ok-interface.after.now (times_at interface_at c.args.count c.args.bytes.now)
+    c.loop-test.true c.in_ok-interface.ensures c.loop.invariant)
 
 pub returns : goal.returns
-returns c = is_done (times_steps interface_at) c.loop.interfaces.items c.args.count c.loop.counter c.loop.rest.now (times_at interface_at c.args.count c.args.bytes.now) c.loop-test.false c.loop.invariant
+returns c =
+    is_done (times_steps interface_at) c.loop.interfaces.items c.args.count c.loop.counter c.loop.rest.now
+    (times_at interface_at c.args.count c.args.bytes.now) c.loop-test.false c.loop.invariant

@@ -4,4 +4,6 @@ use Rattle.hsp_record.proofs.Loop.{with_front}
 use Rattle.hsp_record.proofs.site_decoding.read_interfaces.Given as goal
 
 abbrev pub invariant-loop : goal.invariant-loop
-invariant-loop l = with_front l.interfaces.items (times_at interface_at (l.count - l.counter) l.rest) ≡ times_at interface_at l.count l.bytes
+invariant-loop l =
+    with_front l.interfaces.items (times_at interface_at (l.count - l.counter) l.rest)
+    ≡ times_at interface_at l.count l.bytes

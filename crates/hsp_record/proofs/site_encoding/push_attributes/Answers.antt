@@ -6,4 +6,7 @@ use Rattle.hsp_record.proofs.site_encoding.push_attributes.Goals as goal
 
 pub loop-attribute-preserved : goal.loop-attribute-preserved
 loop-attribute-preserved c =
-    rw c.in_ok-push_attribute.ensures (append_next attribute_fields c.args.attributes.now c.loop-attribute.attribute-index c.attribute-item.result c.loop-attribute.out.items (c.args.out.now.items ++ joined (list_fields attribute_fields c.args.attributes.now)) c.loop-attribute-test.true c.attribute-item.is c.loop-attribute.invariant)
+    rw c.in_ok-push_attribute.ensures
+    (append_next attribute_fields c.args.attributes.now c.loop-attribute.attribute-index c.attribute-item.result
+    c.loop-attribute.out.items (c.args.out.now.items ++ joined (list_fields attribute_fields c.args.attributes.now))
+    c.loop-attribute-test.true c.attribute-item.is c.loop-attribute.invariant)

@@ -6,4 +6,7 @@ use Rattle.hsp_record.proofs.site_encoding.push_servers.Goals as goal
 
 pub loop-server-preserved : goal.loop-server-preserved
 loop-server-preserved c =
-    rw c.in_ok-push_server.ensures (append_next server_fields c.args.servers.now c.loop-server.server-index c.server-item.result c.loop-server.out.items (c.args.out.now.items ++ joined (list_fields server_fields c.args.servers.now)) c.loop-server-test.true c.server-item.is c.loop-server.invariant)
+    rw c.in_ok-push_server.ensures
+    (append_next server_fields c.args.servers.now c.loop-server.server-index c.server-item.result
+    c.loop-server.out.items (c.args.out.now.items ++ joined (list_fields server_fields c.args.servers.now))
+    c.loop-server-test.true c.server-item.is c.loop-server.invariant)

@@ -5,4 +5,5 @@ use Rattle.hsp_report.specs.Lent.{names_in}
 use Rattle.hsp_report.proofs.naming.has_name.Given as goal
 
 abbrev pub invariant-loop-seen : goal.invariant-loop-seen
-invariant-loop-seen l = list_any (bytes_eq l.name) (names_in (drop l.seen-index l.names)) ≡ list_any (bytes_eq l.name) (names_in l.names)
+invariant-loop-seen l =
+    list_any (bytes_eq l.name) (names_in (drop l.seen-index l.names)) ≡ list_any (bytes_eq l.name) (names_in l.names)

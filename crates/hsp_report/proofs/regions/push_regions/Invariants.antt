@@ -7,4 +7,5 @@ use Rattle.hsp_report.proofs.regions.push_regions.Given as goal
 
 abbrev pub invariant-loop-region : goal.invariant-loop-region
 invariant-loop-region l =
-    (x : Plan) → ArePlanned l.instance x l.arc_flows → l.out.items ≡ l.fn.out.items ++ region_lines l.instance x (names_in (take l.region-index l.regions))
+    (x : Plan) → ArePlanned l.instance x l.arc_flows
+    → l.out.items ≡ l.fn.out.items ++ region_lines l.instance x (names_in (take l.region-index l.regions))

@@ -16,5 +16,7 @@ returns-in_err-certificate-clause-always c = λ it claim page spells.
 pub returns-clause-always : goal.returns-clause-always
 returns-clause-always c = λ it claim page spells.
     let one = c.in_ok-certificate.ensures.always claim spells.is spells.text in
-    let held = held_read c.args.octets.now it c.in_ok-instance.instance claim c.in_ok-certificate.certificate (c.in_ok-instance.ensures.always it page) one spells in
+    let held =
+    held_read c.args.octets.now it c.in_ok-instance.instance claim c.in_ok-certificate.certificate
+    (c.in_ok-instance.ensures.always it page) one spells in
     subst (λ k. AcceptsClaim k c.accepting.result) one (c.accepting.ensures.always held)

@@ -13,11 +13,14 @@ returns-in_err-instance-clause-exactly c =
 
 pub returns-clause-exactly : goal.returns-clause-exactly
 returns-clause-exactly c = λ (it, page, shows).
-    c.judged_text.ensures.always (subst (λ k. Shows c.args.cert.now k) (sym (c.in_ok-instance.ensures.always it page)) shows)
+    c.judged_text.ensures.always
+    (subst (λ k. Shows c.args.cert.now k) (sym (c.in_ok-instance.ensures.always it page)) shows)
 
 pub returns-clause-verdict : goal.returns-clause-verdict
-returns-clause-verdict c = stands_then _ _ _ _ _ c.judged_text.result c.in_ok-instance.ensures.instance c.judged_text.ensures.verdict
+returns-clause-verdict c =
+    stands_then _ _ _ _ _ c.judged_text.result c.in_ok-instance.ensures.instance c.judged_text.ensures.verdict
 
 pub returns-clause-shows : goal.returns-clause-shows
 returns-clause-shows c =
-    checked_shows c.args.inputs.now c.args.cert.now c.in_ok-instance.instance c.judged_text.result c.in_ok-instance.ensures.defines c.judged_text.ensures.shows
+    checked_shows c.args.inputs.now c.args.cert.now c.in_ok-instance.instance c.judged_text.result
+    c.in_ok-instance.ensures.defines c.judged_text.ensures.shows

@@ -13,4 +13,6 @@ pub returns-clause-always : goal.returns-clause-always
 returns-clause-always c = λ (claim, spells).
     let it = c.args.instance.now in
     let read = c.in_ok-certificate.certificate in
-    c.judged.ensures.always (held_read c.args.octets.now it it claim read refl (c.in_ok-certificate.ensures.always claim spells.is spells.text) spells)
+    c.judged.ensures.always
+    (held_read c.args.octets.now it it claim read refl
+    (c.in_ok-certificate.ensures.always claim spells.is spells.text) spells)

@@ -5,8 +5,11 @@ use Rattle.hsp_runs.proofs.dispatch.dispatched.Goals as goal
 
 pub returns-clause-answers : goal.returns-clause-answers
 returns-clause-answers g c =
-    inr (answered _ _ c.in_ok-_plan._plan (left_of c.in_ok-dispatcher.dispatcher) (left_of c.run_log.new.dispatcher) _ c.run_log.result c.map_err.result
-    c.in_ok-_plan.ensures c.in_ok-dispatcher.ensures.plan c.map_err.ensures.cases (rw c.in_ok-dispatcher.ensures.instance at c.run_log.ensures.whole)
+    inr
+    (answered _ _ c.in_ok-_plan._plan (left_of c.in_ok-dispatcher.dispatcher) (left_of c.run_log.new.dispatcher) _
+    c.run_log.result c.map_err.result
+    c.in_ok-_plan.ensures c.in_ok-dispatcher.ensures.plan c.map_err.ensures.cases
+    (rw c.in_ok-dispatcher.ensures.instance at c.run_log.ensures.whole)
     (rw c.in_ok-dispatcher.ensures.instance at c.run_log.ensures.stops))
 
 pub returns-clause-untouched : goal.returns-clause-untouched

@@ -2,4 +2,6 @@ use Rattle.hsp_runs.proofs.Printing.{server_more}
 use Rattle.hsp_runs.proofs.site.push_servers.Goals as goal
 
 pub loop-place-preserved : goal.loop-place-preserved
-loop-place-preserved c = server_more c.loop-place.out.items _ _ c.loop-place.place c.args.site.now.servers c.server.result.now c.server.ensures c.in_ok-push_server.ensures c.loop-place.invariant
+loop-place-preserved c =
+    server_more c.loop-place.out.items _ _ c.loop-place.place c.args.site.now.servers c.server.result.now
+    c.server.ensures c.in_ok-push_server.ensures c.loop-place.invariant

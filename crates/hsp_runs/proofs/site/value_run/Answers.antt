@@ -6,4 +6,5 @@ use Rattle.hsp_runs.proofs.site.value_run.Goals as goal
 pub returns : goal.returns
 returns c =
     let is : is_site_value c.in-Some.value ≡ true = search rules in
-    in_value c.args.octets.now c.args.index c.in-Some.value c.record_run.result (c.in-Ok.values, c.in-Ok.ensures.means, search rules) is (rw c.octets.ensures at c.record_run.ensures)
+    in_value c.args.octets.now c.args.index c.in-Some.value c.record_run.result
+    (c.in-Ok.values, c.in-Ok.ensures.means, search rules) is (rw c.octets.ensures at c.record_run.ensures)

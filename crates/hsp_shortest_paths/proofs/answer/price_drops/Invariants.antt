@@ -4,4 +4,7 @@ use Rattle.hsp_shortest_paths.proofs.answer.price_drops.Given as goal
 abbrev pub invariant-loop-arc : goal.invariant-loop-arc
 invariant-loop-arc l =
     (length l.prices.items ≡ l.arc - l.start)
-    × ((j : ℕ) → j < l.arc - l.start → slice_index l.prices.items j ≡ slice_index l.price (slice_index l.arcs.tails.now (l.start + j)) - slice_index l.price (slice_index l.arcs.heads.now (l.start + j)))
+    × ((j : ℕ) → j < l.arc - l.start
+    → slice_index l.prices.items j
+    ≡ slice_index l.price (slice_index l.arcs.tails.now (l.start + j)) - slice_index l.price
+    (slice_index l.arcs.heads.now (l.start + j)))

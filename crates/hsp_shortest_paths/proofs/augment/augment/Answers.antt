@@ -12,7 +12,8 @@ push-requires-clause-fits c = step_fits _ _ _ _ _ _ _ _ c.requires.tree c.loop-a
 
 pub loop-at-preserved : goal.loop-at-preserved
 loop-at-preserved c = (
-  rw c.arc_tail-at.ensures (stepped _ _ _ _ _ _ _ _ c.requires.tree c.loop-at.invariant.0 c.loop-at-test.true _ c.push.ensures),
+  rw c.arc_tail-at.ensures
+      (stepped _ _ _ _ _ _ _ _ c.requires.tree c.loop-at.invariant.0 c.loop-at-test.true _ c.push.ensures),
   c.push.ensures.price ∙ c.loop-at.invariant.1,
   c.push.ensures.excess ∙ c.loop-at.invariant.2,
 )

@@ -24,12 +24,14 @@ returns-then-node-eq0-clause-spread g c = λ _. spread_later _ _ _ _ _ _ c.loop-
 
 pub expand-requires-clause-expanding : goal.expand-requires-clause-expanding
 expand-requires-clause-expanding g c =
-    turned _ _ _ _ _ _ c.loop-turn.invariant.0 _ refl refl _ c.in-Some.ensures.least c.in-Some.ensures.took c.if-node-eq0.false
+    turned _ _ _ _ _ _ c.loop-turn.invariant.0 _ refl refl _ c.in-Some.ensures.least c.in-Some.ensures.took
+    c.if-node-eq0.false
 
 pub expand-requires-clause-far : goal.expand-requires-clause-far
 expand-requires-clause-far g c =
     let r = c.loop-turn.invariant.0 in
-    far_fits c.loop-turn.turn (length c.args.arcs.now.supplies.now) c.args.arcs.now.longest_arc r.now _ _ (omega arith) r.early
+    far_fits c.loop-turn.turn (length c.args.arcs.now.supplies.now) c.args.arcs.now.longest_arc r.now _ _
+    (omega arith) r.early
     (next_near _ _ _ _ _ _ r _ _ c.in-Some.ensures.least) c.args.arcs.now.scale.small
 
 pub loop-turn-preserved : goal.loop-turn-preserved

@@ -5,4 +5,5 @@ pub returns-in-Err-clause-answered : goal.returns-in-Err-clause-answered
 returns-in-Err-clause-answered g c = (c.requires.costs.0, c.requires.costs.1, inl (refl, refl))
 
 pub returns-in-Ok-clause-answered : goal.returns-in-Ok-clause-answered
-returns-in-Ok-clause-answered g c = (c.in-Ok.costs, rw c.deref.ensures.value at c.in-Ok.ensures, c.answer_portion.ensures.answered)
+returns-in-Ok-clause-answered g c =
+    (c.in-Ok.costs, rw c.deref.ensures.value at c.in-Ok.ensures, c.answer_portion.ensures.answered)

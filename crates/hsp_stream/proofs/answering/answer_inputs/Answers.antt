@@ -8,10 +8,12 @@ use Rattle.hsp_stream.proofs.AnswersShown.{input_refused, shown_where, talk_alwa
 use Rattle.hsp_stream.proofs.answering.answer_inputs.Goals as goal
 
 pub answer_accepted-requires-clause-costs : goal.answer_accepted-requires-clause-costs
-answer_accepted-requires-clause-costs g c = has_costs c.args.inputs.now c.args.certificate.now c.in-Ok.accepted c.in-Ok.ensures.accepted
+answer_accepted-requires-clause-costs g c =
+    has_costs c.args.inputs.now c.args.certificate.now c.in-Ok.accepted c.in-Ok.ensures.accepted
 
 pub returns-in-Ok-clause-answered : goal.returns-in-Ok-clause-answered
-returns-in-Ok-clause-answered g c = inr (Ok c.in-Ok.accepted, c.in-Ok.ensures.accepted, c.answer_accepted.ensures.answered)
+returns-in-Ok-clause-answered g c =
+    inr (Ok c.in-Ok.accepted, c.in-Ok.ensures.accepted, c.answer_accepted.ensures.answered)
 
 pub returns-in-Err-clause-answered : goal.returns-in-Err-clause-answered
 returns-in-Err-clause-answered g c = elim c.in-Err.ensures.accepted [
@@ -22,7 +24,8 @@ returns-in-Err-clause-answered g c = elim c.in-Err.ensures.accepted [
 pub returns-in-Ok-clause-shows : goal.returns-in-Ok-clause-shows
 returns-in-Ok-clause-shows g c =
     let is = c.in-Ok.ensures in
-    shown_where c.args.portion c.requires c.args.inputs.now c.args.certificate.now _ c.in-Ok.accepted is.accepted is.defines is.holds c.answer_accepted.ensures.answered
+    shown_where c.args.portion c.requires c.args.inputs.now c.args.certificate.now _ c.in-Ok.accepted is.accepted
+    is.defines is.holds c.answer_accepted.ensures.answered
 
 pub returns-in-Err-clause-shows : goal.returns-in-Err-clause-shows
 returns-in-Err-clause-shows g c = inl (input_refused _ c.in-Err.fault (refl, ap Err c.from.ensures))

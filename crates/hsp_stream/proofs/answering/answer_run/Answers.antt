@@ -5,10 +5,12 @@ use Rattle.hsp_stream.proofs.answering.answer_run.Goals as goal
 
 pub returns-in-Ok-clause-shows : goal.returns-in-Ok-clause-shows
 returns-in-Ok-clause-shows g c =
-    shown_by_words c.args.portion.now c.in-Ok.portion c.args.inputs.now c.args.certificate.now _ c.in-Ok.ensures.given c.answer_inputs.ensures.shows
+    shown_by_words c.args.portion.now c.in-Ok.portion c.args.inputs.now c.args.certificate.now _ c.in-Ok.ensures.given
+    c.answer_inputs.ensures.shows
 
 pub returns-in-Err-clause-shows : goal.returns-in-Err-clause-shows
-returns-in-Err-clause-shows g c = inl (words_refused c.args.portion.now c.in-Err.fault _ c.in-Err.ensures.given (refl, refl))
+returns-in-Err-clause-shows g c =
+    inl (words_refused c.args.portion.now c.in-Err.fault _ c.in-Err.ensures.given (refl, refl))
 
 pub returns-in-Ok-clause-always : goal.returns-in-Ok-clause-always
 returns-in-Ok-clause-always g c = λ portion spells. c.answer_inputs.ensures.always

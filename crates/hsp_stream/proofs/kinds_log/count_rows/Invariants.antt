@@ -10,7 +10,8 @@ invariant-rows g l = record {
   whole : IsWhole l.kinds;
   costs : l.kinds.costs ≡ l.fn.kinds.costs;
   sites : l.kinds.sites ≡ l.fn.kinds.sites;
-  so_far : ReadSoFar l.fn.kinds.costs l.fn.kinds.sites l.form l.fn.kinds.rows g.R.Read.remaining l.fn.reader l.reader l.row l.kinds.rows;
+  so_far : ReadSoFar l.fn.kinds.costs l.fn.kinds.sites l.form l.fn.kinds.rows g.R.Read.remaining l.fn.reader l.reader
+      l.row l.kinds.rows;
 }
 
 abbrev pub decreases-rows : goal.decreases-rows

@@ -18,10 +18,12 @@ returns-in_err-push_kind c =
       | inl memory ↦ inl memory
       | inr bad ↦
           inr (ap (λ (r : Result (List Row) StreamFault). r >>= λ units. Ok (table_text units))
-          (so_far_fault c.args.unit c.args.kinds.now.rows c.loop-row.row c.loop-row.text.items bad.0 c.in_err-push_kind.field-0.0 bad.1 c.loop-row.invariant bad.2))
+          (so_far_fault c.args.unit c.args.kinds.now.rows c.loop-row.row c.loop-row.text.items bad.0
+          c.in_err-push_kind.field-0.0 bad.1 c.loop-row.invariant bad.2))
     ])
 
 pub loop-row-preserved : goal.loop-row-preserved
 loop-row-preserved c =
     let pushed = c.in_ok-push_kind.ensures.pushed in
-    so_far_more c.args.unit c.args.kinds.now.rows c.loop-row.row c.loop-row.text.items c.push_kind.new.text.items pushed.0 pushed.1 c.loop-row.invariant pushed.2
+    so_far_more c.args.unit c.args.kinds.now.rows c.loop-row.row c.loop-row.text.items c.push_kind.new.text.items
+    pushed.0 pushed.1 c.loop-row.invariant pushed.2

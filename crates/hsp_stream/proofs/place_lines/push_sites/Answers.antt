@@ -14,5 +14,6 @@ loop-number-preserved c =
       same = c.in_ok-push_site.ensures.same ∙ c.loop-number.invariant.same;
       lines =
           one_placed (octets_of c.args.handle) out new sites n _
-          (subst (λ h. option_map (λ site. out ++ place_line h site) (slice_get sites n) ≡ Some new) c.bytes.ensures.octets c.in_ok-push_site.ensures.line) c.loop-number.invariant.lines;
+          (subst (λ h. option_map (λ site. out ++ place_line h site) (slice_get sites n) ≡ Some new)
+          c.bytes.ensures.octets c.in_ok-push_site.ensures.line) c.loop-number.invariant.lines;
     }

@@ -4,23 +4,29 @@ use Rattle.hsp_stream.proofs.speaking.answer_rows.Goals as goal
 
 pub returns-in-Some-clause-answered : goal.returns-in-Some-clause-answered
 returns-in-Some-clause-answered g c =
-    ended c.args.desk.now c.requires.form c.requires.sums c.talk.new.desk c.in-Some.sums (g.P.Peer.known c.args.peer.now) (g.P.Peer.known c.talk.new.peer) c.in-Some.ensures.0
+    ended c.args.desk.now c.requires.form c.requires.sums c.talk.new.desk c.in-Some.sums
+    (g.P.Peer.known c.args.peer.now) (g.P.Peer.known c.talk.new.peer) c.in-Some.ensures.0
     c.in-Some.ensures.1 c.in-Ok.ensures.whole
 
 pub returns-in-None-clause-answered : goal.returns-in-None-clause-answered
 returns-in-None-clause-answered g c =
-    ended_early c.args.desk.now c.requires.form c.requires.sums c.talk.new.desk (g.P.Peer.known c.args.peer.now) (g.P.Peer.known c.talk.new.peer) c.in-None.ensures c.in-Ok.ensures.whole
+    ended_early c.args.desk.now c.requires.form c.requires.sums c.talk.new.desk (g.P.Peer.known c.args.peer.now)
+    (g.P.Peer.known c.talk.new.peer) c.in-None.ensures c.in-Ok.ensures.whole
 
 pub returns-in-Err-clause-answered : goal.returns-in-Err-clause-answered
 returns-in-Err-clause-answered g c =
     rw c.fault_of.ensures
-    (stopped c.args.desk.now c.requires.form c.requires.sums c.talk.new.desk (g.P.Peer.known c.args.peer.now) (g.P.Peer.known c.talk.new.peer) c.in-Err.stop c.in-Err.ensures.stops)
+    (stopped c.args.desk.now c.requires.form c.requires.sums c.talk.new.desk (g.P.Peer.known c.args.peer.now)
+    (g.P.Peer.known c.talk.new.peer) c.in-Err.stop c.in-Err.ensures.stops)
 
 pub returns-in-Err-clause-handed : goal.returns-in-Err-clause-handed
 returns-in-Err-clause-handed g c =
-    rw c.fault_of.ensures (stop_hands (g.P.Peer.known c.args.peer.now) (g.P.Peer.known c.talk.new.peer) c.in-Err.stop c.in-Err.ensures.handed)
+    rw c.fault_of.ensures
+    (stop_hands (g.P.Peer.known c.args.peer.now) (g.P.Peer.known c.talk.new.peer) c.in-Err.stop
+    c.in-Err.ensures.handed)
 
 pub returns-in-Err-clause-may_stop : goal.returns-in-Err-clause-may_stop
 returns-in-Err-clause-may_stop g c =
     rw c.fault_of.ensures
-    (stop_may (g.P.Peer.may_read_fail c.args.peer.now) g.P.Peer.may_send_fail (g.P.Peer.known c.args.peer.now) (g.P.Peer.known c.talk.new.peer) c.in-Err.stop c.in-Err.ensures.may_stop)
+    (stop_may (g.P.Peer.may_read_fail c.args.peer.now) g.P.Peer.may_send_fail (g.P.Peer.known c.args.peer.now)
+    (g.P.Peer.known c.talk.new.peer) c.in-Err.stop c.in-Err.ensures.may_stop)

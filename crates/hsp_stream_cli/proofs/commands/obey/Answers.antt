@@ -6,4 +6,5 @@ pub returns-clause-obeys : goal.returns-clause-obeys
 returns-clause-obeys g c = (Ok c.in_ok-order.order, c.in_ok-order.ensures, c.carry_out.ensures.carries_out)
 
 pub returns-in_err-order-clause-obeys : goal.returns-in_err-order-clause-obeys
-returns-in_err-order-clause-obeys g c = (Err c.in_err-order.field-0.0, c.in_err-order.ensures, (refl, ends_by _ _ c.from_residual.ensures.1))
+returns-in_err-order-clause-obeys g c =
+    (Err c.in_err-order.field-0.0, c.in_err-order.ensures, (refl, ends_by _ _ c.from_residual.ensures.1))

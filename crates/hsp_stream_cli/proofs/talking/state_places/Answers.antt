@@ -6,10 +6,17 @@ use Rattle.hsp_stream_cli.proofs.talking.state_places.Goals as goal
 
 pub returns-clause-talks : goal.returns-clause-talks
 returns-clause-talks g c =
-    given_back (λ w. TalksOver (g.F.Source.may_read_fail c.args.log) g.O.Sink.may_fail (g.F.Read.remaining c.args.log) (g.O.Write.contents c.args.out.now) (g.O.Write.contents w) c.state_joined-ended.result
-    (EndsPlaces c.args.sources.now c.state_joined-ended.result)) _ _ _ _ (search rules) c.state_joined-ended.ensures.same_reference c.state_joined-ended.ensures.ends
+    given_back
+    (λ w.
+    TalksOver (g.F.Source.may_read_fail c.args.log) g.O.Sink.may_fail (g.F.Read.remaining c.args.log)
+    (g.O.Write.contents c.args.out.now) (g.O.Write.contents w) c.state_joined-ended.result
+    (EndsPlaces c.args.sources.now c.state_joined-ended.result)) _ _ _ _ (search rules)
+    c.state_joined-ended.ensures.same_reference c.state_joined-ended.ensures.ends
 
 pub returns-clause-handed : goal.returns-clause-handed
 returns-clause-handed g c =
-    given_back (λ w. IsHandedOn (g.O.Write.contents c.args.out.now) (g.O.Sink.handed c.args.out.now) (g.O.Write.contents w) (g.O.Sink.handed w) c.state_joined-ended.result)
+    given_back
+    (λ w.
+    IsHandedOn (g.O.Write.contents c.args.out.now) (g.O.Sink.handed c.args.out.now) (g.O.Write.contents w)
+    (g.O.Sink.handed w) c.state_joined-ended.result)
     _ _ _ _ (search rules) c.state_joined-ended.ensures.same_reference c.state_joined-ended.ensures.handed

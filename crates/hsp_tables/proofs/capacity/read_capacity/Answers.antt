@@ -5,4 +5,6 @@ use Rattle.hsp_tables.proofs.TableRows.{capacities_are}
 use Rattle.hsp_tables.proofs.capacity.read_capacity.Goals as goal
 
 pub invariant_of-result : goal.invariant_of-result
-invariant_of-result c = ((capacities_are (records_of c.args.text.now) (map server_entry c.in_ok-rows.rows.entries)).0 c.in_ok-rows.ensures).1
+invariant_of-result c =
+    ((capacities_are (records_of c.args.text.now) (map server_entry c.in_ok-rows.rows.entries)).0
+    c.in_ok-rows.ensures).1

@@ -5,4 +5,5 @@ use Rattle.hsp_tables.proofs.TableRows.{costs_are}
 use Rattle.hsp_tables.proofs.costs.read_costs.Goals as goal
 
 pub invariant_of-result : goal.invariant_of-result
-invariant_of-result c = ((costs_are (records_of c.args.text.now) (map cost_entry c.in_ok-rows.rows.entries)).0 c.in_ok-rows.ensures).1
+invariant_of-result c =
+    ((costs_are (records_of c.args.text.now) (map cost_entry c.in_ok-rows.rows.entries)).0 c.in_ok-rows.ensures).1

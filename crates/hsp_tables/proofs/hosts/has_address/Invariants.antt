@@ -5,4 +5,6 @@ use Rattle.hsp_tables.specs.SettingsRows.{host_entry}
 use Rattle.hsp_tables.proofs.hosts.has_address.Given as goal
 
 abbrev pub invariant-loop-host : goal.invariant-loop-host
-invariant-loop-host l = list_any (same_address (host_entry l.new)) (map host_entry (drop l.host-index l.hosts)) ≡ list_any (same_address (host_entry l.new)) (map host_entry l.hosts)
+invariant-loop-host l =
+    list_any (same_address (host_entry l.new)) (map host_entry (drop l.host-index l.hosts))
+    ≡ list_any (same_address (host_entry l.new)) (map host_entry l.hosts)

@@ -6,4 +6,6 @@ use Rattle.hsp_tables.specs.SettingsRows.{host_entry}
 use Rattle.hsp_tables.proofs.hosts.hosts_in.Given as goal
 
 abbrev pub invariant-loop-value : goal.invariant-loop-value
-invariant-loop-value l = rows_after host_after (map host_entry l.hosts.items) (elements_in (items_view (drop l.value-index l.values))) ≡ rows_after host_after [] (elements_in (items_view l.values))
+invariant-loop-value l =
+    rows_after host_after (map host_entry l.hosts.items) (elements_in (items_view (drop l.value-index l.values)))
+    ≡ rows_after host_after [] (elements_in (items_view l.values))

@@ -8,7 +8,8 @@ use Rattle.hsp_tables.proofs.keyed.insert_name.Goals as goal
 pub returns-in_ok-insert-clause-ok : goal.returns-in_ok-insert-clause-ok
 returns-in_ok-insert-clause-ok c =
     let old = c.args.names.now.keys in
-    ap names_in c.in_ok-insert.ensures.keys ∙ names_in-insert_key c.in_ok-from_slice.field-0 old ∙ ap (λ (t : List ℕ). insert_key bytes_eq (names_in old) t) c.in_ok-from_slice.ensures.items
+    ap names_in c.in_ok-insert.ensures.keys ∙ names_in-insert_key c.in_ok-from_slice.field-0 old
+    ∙ ap (λ (t : List ℕ). insert_key bytes_eq (names_in old) t) c.in_ok-from_slice.ensures.items
 
 pub returns-else-not-contains-clause-ok : goal.returns-else-not-contains-clause-ok
 returns-else-not-contains-clause-ok c =

@@ -5,4 +5,6 @@ use Rattle.hsp_tables.specs.Settings.{is_root_key, keys_in}
 use Rattle.hsp_tables.proofs.members.has_root_keys.Given as goal
 
 abbrev pub invariant-loop-key : goal.invariant-loop-key
-invariant-loop-key l = list_all is_root_key (map (λ k. string_bytes k) l.key-iterator) ≡ list_all is_root_key (keys_in (table_view l.table))
+invariant-loop-key l =
+    list_all is_root_key (map (λ k. string_bytes k) l.key-iterator)
+    ≡ list_all is_root_key (keys_in (table_view l.table))

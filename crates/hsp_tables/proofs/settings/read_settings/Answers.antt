@@ -9,6 +9,10 @@ pub invariant_of-result : goal.invariant_of-result
 invariant_of-result c =
     let document = table_view c.in_ok-table.table in
     record {
-      sites = sites_are (get_member (codes "site") document) (map site_entry c.in_ok-sites.sites.items) c.in_ok-sites.ensures;
-      hosts = hosts_are (get_member (codes "host") document) (map host_entry c.in_ok-hosts.hosts.items) c.in_ok-hosts.ensures;
+      sites =
+          sites_are (get_member (codes "site") document) (map site_entry c.in_ok-sites.sites.items)
+          c.in_ok-sites.ensures;
+      hosts =
+          hosts_are (get_member (codes "host") document) (map host_entry c.in_ok-hosts.hosts.items)
+          c.in_ok-hosts.ensures;
     }

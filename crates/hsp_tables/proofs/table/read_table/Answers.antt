@@ -6,7 +6,9 @@ use Rattle.hsp_tables.proofs.table.read_table.Goals as goal
 pub returns-then-not-branch : goal.returns-then-not-branch
 returns-then-not-branch g c =
     let lacks = (rw c.if-not-branch.true at c.in_ok-take_header.ensures.header) c.read_records-records.ensures.known in
-    inr (table_of_headless g.K.Kind.table (records_of c.args.text.now) (rw (c.read_records-records.ensures.records, c.requires) at lacks))
+    inr
+    (table_of_headless g.K.Kind.table (records_of c.args.text.now)
+    (rw (c.read_records-records.ensures.records, c.requires) at lacks))
 
 pub returns : goal.returns
 returns g c =

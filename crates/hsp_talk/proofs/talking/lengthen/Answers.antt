@@ -7,5 +7,7 @@ pub returns : goal.returns
 returns c =
     let line = c.args.line.now.items in
     let octets = c.args.octets.now in
-    let least = c.min-count.ensures ∙ ap (λ n. min (length octets) (LONGEST_ROW + 1 - n)) (c.len.ensures ∙ c.args.line.now.ok.0) in
+    let least =
+    c.min-count.ensures
+    ∙ ap (λ n. min (length octets) (LONGEST_ROW + 1 - n)) (c.len.ensures ∙ c.args.line.now.ok.0) in
     c.in_ok-extend_from_slice.ensures.items ∙ cut_within line octets c.min-count.result c.requires least

@@ -8,4 +8,6 @@ in_any_case (Err e) P p = tt
 
 pub returns-then-is_empty-clause-begun : goal.returns-then-is_empty-clause-begun
 returns-then-is_empty-clause-begun g c =
-    in_any_case c.take_line.result _ (cut_at_end c.args.line.now.items c.args.piece.now (is_none (length c.args.piece.now) (sym c.is_empty.ensures ∙ c.if-is_empty.true)) c.requires)
+    in_any_case c.take_line.result _
+    (cut_at_end c.args.line.now.items c.args.piece.now
+    (is_none (length c.args.piece.now) (sym c.is_empty.ensures ∙ c.if-is_empty.true)) c.requires)

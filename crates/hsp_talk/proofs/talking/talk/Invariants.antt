@@ -5,7 +5,8 @@ use Rattle.hsp_talk.specs.Turns.{IsAt}
 use Rattle.hsp_talk.proofs.Talks.{HasRead}
 use Rattle.hsp_talk.proofs.talking.talk.Given as goal
 
--- Before a read nothing is owed, all rows that came in were taken, and the line is no longer than a row and one octet more.
+-- Before a read nothing is owed, all rows that came in were taken, and the line is no longer than a row and one octet
+-- more.
 -- What was written is handed on, and each turn has read once.
 abbrev pub invariant-turns : goal.invariant-turns
 invariant-turns g l =

@@ -13,8 +13,10 @@ loop-row-preserved c =
     let old = c.loop-row.firsts.entries in
     let new = c.add_row.new.firsts.entries in
     let places : c.places-places.result.now ≡ places_at (sites_for costs sites region) handle =
-    c.places-places.ensures ∙ c.in_ok-find.ensures.places ∙ ap (places_at (sites_for c.loop-row.keys.costs c.loop-row.keys.sites region)) c.accepted.ensures
-    ∙ ap (λ found. places_at (sites_for found c.loop-row.keys.sites region) handle) c.loop-row.invariant.costs ∙ ap (λ found. places_at (sites_for costs found region) handle) c.loop-row.invariant.sites in
+    c.places-places.ensures ∙ c.in_ok-find.ensures.places
+    ∙ ap (places_at (sites_for c.loop-row.keys.costs c.loop-row.keys.sites region)) c.accepted.ensures
+    ∙ ap (λ found. places_at (sites_for found c.loop-row.keys.sites region) handle) c.loop-row.invariant.costs
+    ∙ ap (λ found. places_at (sites_for costs found region) handle) c.loop-row.invariant.sites in
     record {
       costs = c.in_ok-find.ensures.costs ∙ c.loop-row.invariant.costs;
       sites = c.in_ok-find.ensures.sites ∙ c.loop-row.invariant.sites;

@@ -1,4 +1,5 @@
-use Rattle.std.proofs.Common.{◌≡◌, ◌≤◌, ◌+◌, ◌-◌, ◌∙◌, ◌++◌, ℕ, List, Option, None, Some, length, drop, take, ap, append_assoc, arith, length-drop}
+use Rattle.std.proofs.Common.{◌≡◌, ◌≤◌, ◌+◌, ◌-◌, ◌∙◌, ◌++◌, ℕ, List, Option, None, Some, length, drop, take, ap}
+use Rattle.std.proofs.Common.{append_assoc, arith, length-drop}
 use Rattle.std.specs.Io.KnownBytes.{Appends}
 use Rattle.std.proofs.Math.Seq.{take-add}
 use Rattle.std.proofs.lemmas.List.{take_all}
@@ -12,15 +13,19 @@ appends-twice (Some x) (Some y) None xs ys f g = absurd g
 appends-twice (Some x) (Some y) (Some z) xs ys f g = g ∙ ap (λ (t : List ℕ). t ++ ys) f ∙ append_assoc x xs ys
 
 -- a beginning, and a beginning of what is left
-longer : (a b c : Option (List ℕ)) (text : List ℕ) (at count : ℕ) → Appends a b (take at text) → Appends b c (take count (take (length text - at) (drop at text))) →
+longer : (a b c : Option (List ℕ)) (text : List ℕ) (at count : ℕ) → Appends a b (take at text)
+    → Appends b c (take count (take (length text - at) (drop at text))) →
     Appends a c (take (at + count) text)
 longer a b c text at count f g =
-    let rest : take (length text - at) (drop at text) ≡ drop at text = take_all (length text - at) (drop at text) (omega (arith, length-drop at text)) in
+    let rest : take (length text - at) (drop at text) ≡ drop at text =
+    take_all (length text - at) (drop at text) (omega (arith, length-drop at text)) in
     rw (take-add at count text) (appends-twice a b c (take at text) (take count (drop at text)) f (rw rest at g))
 
-fits : (text : List ℕ) (at count : ℕ) → at ≤ length text → count ≤ length (take (length text - at) (drop at text)) → at + count ≤ length text
+fits : (text : List ℕ) (at count : ℕ) → at ≤ length text → count ≤ length (take (length text - at) (drop at text))
+    → at + count ≤ length text
 fits text at count h k =
-    let rest : take (length text - at) (drop at text) ≡ drop at text = take_all (length text - at) (drop at text) (omega (arith, length-drop at text)) in
+    let rest : take (length text - at) (drop at text) ≡ drop at text =
+    take_all (length text - at) (drop at text) (omega (arith, length-drop at text)) in
     let left = rw rest at k in
     omega (arith, length-drop at text, left)
 

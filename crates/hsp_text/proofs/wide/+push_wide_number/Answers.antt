@@ -1,4 +1,5 @@
-use Rattle.std.proofs.Common.{arith, rules, ◌%◌, [], ◌∷◌, ◌≡◌, ◌≤◌, ◌<◌, ◌+◌, ◌/◌, true, append_assoc, decimal, vec_len, vec_capacity}
+use Rattle.std.proofs.Common.{arith, rules, ◌%◌, [], ◌∷◌, ◌≡◌, ◌≤◌, ◌<◌, ◌+◌, ◌/◌, true, append_assoc, decimal, vec_len}
+use Rattle.std.proofs.Common.{vec_capacity}
 use Rattle.std.specs.Result.{is_ok}
 use Rattle.hsp_text.proofs.Numerals.{last_digit_wide}
 use Rattle.hsp_text.proofs.wide.+push_wide_number.Goals as goal
@@ -22,7 +23,8 @@ returns-clause-digits t c =
     let s = last_digit_wide c.args.number low c.ranges.number.fits in
     let pushed : is_ok c.push.result ≡ true = search rules in
     let items = rw pushed at c.push.ensures.items in
-    rw (items, c.push_wide_number.ensures.digits, s.0) (append_assoc c.args.out.now.items (decimal (c.args.number / 10)) ((48 + c.args.number % 10) ∷ []))
+    rw (items, c.push_wide_number.ensures.digits, s.0)
+    (append_assoc c.args.out.now.items (decimal (c.args.number / 10)) ((48 + c.args.number % 10) ∷ []))
 
 pub returns-clause-len : goal.returns-clause-len
 returns-clause-len t c =

@@ -12,9 +12,12 @@ invariant_of-result-clause-server_hosts_in c =
 
 pub invariant_of-result-clause-rows_in : goal.invariant_of-result-clause-rows_in
 invariant_of-result-clause-rows_in c =
-    rw c.deref.ensures.value (all_of_map (λ (l : ArcFlow). l.arc) (λ (a : NetworkArc). a.row < length c.args.self.now.demands.items) c.args.arc_flows.now c.requires.network.sources)
+    rw c.deref.ensures.value
+    (all_of_map (λ (l : ArcFlow). l.arc) (λ (a : NetworkArc). a.row < length c.args.self.now.demands.items)
+    c.args.arc_flows.now c.requires.network.sources)
 
 pub invariant_of-result-clause-servers_in : goal.invariant_of-result-clause-servers_in
 invariant_of-result-clause-servers_in c =
     rw (c.deref-4.ensures.value, ← c.args.self.now.servers_many)
-    (all_of_map (λ (l : ArcFlow). l.arc) (λ (a : NetworkArc). a.server < length c.args.self.now.capacities.items) c.args.arc_flows.now c.requires.network.servers)
+    (all_of_map (λ (l : ArcFlow). l.arc) (λ (a : NetworkArc). a.server < length c.args.self.now.capacities.items)
+    c.args.arc_flows.now c.requires.network.servers)

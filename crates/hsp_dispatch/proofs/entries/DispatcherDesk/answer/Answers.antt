@@ -6,13 +6,16 @@ use Rattle.hsp_dispatch.proofs.entries.DispatcherDesk.answer.Goals as goal
 pub returns-in-Handles-clause-answers : goal.returns-in-Handles-clause-answers
 returns-in-Handles-clause-answers c =
     if_both c.choose.result c.choose.ensures.takes c.choose.ensures.among
-    (λ given takes among. entry_more c.args.self.now c.choose.new.dispatcher c.args.place.form (fields_of c.args.record.now) _ given
+    (λ given takes among.
+    entry_more c.args.self.now c.choose.new.dispatcher c.args.place.form (fields_of c.args.record.now) _ given
     (spells c.args.place.form _ _ _ _ c.in-Some.ensures.found refl (rw c.in-Handles.is refl) takes.handle) takes among)
 
 pub returns-in_ok-request-in-Bodies-clause-answers : goal.returns-in_ok-request-in-Bodies-clause-answers
 returns-in_ok-request-in-Bodies-clause-answers c =
     if_both c.choose-in-Bodies.result c.choose-in-Bodies.ensures.takes c.choose-in-Bodies.ensures.among
-    (λ given takes among. entry_more c.args.self.now c.choose-in-Bodies.new.dispatcher c.args.place.form (fields_of c.args.record.now) _ given
+    (λ given takes among.
+    entry_more c.args.self.now c.choose-in-Bodies.new.dispatcher c.args.place.form (fields_of c.args.record.now) _
+    given
     (spells c.args.place.form _ _ _ _ c.in-Some.ensures.found refl
     (rw c.in-Bodies.is (
       _,

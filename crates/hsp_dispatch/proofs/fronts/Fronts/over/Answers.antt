@@ -20,4 +20,5 @@ invariant_of-result c =
 pub returns : goal.returns
 returns c =
     rw (sums (goal.at.returns c).In_ok-lefts, c.in_ok-plan.ensures)
-    (all_share c.args.instance.now c.args.fronts c.in_ok-rows.rows.items c.in_ok-rows.ensures.held (table c.args.uses.now) c.in_ok-rows.ensures.table)
+    (all_share c.args.instance.now c.args.fronts c.in_ok-rows.rows.items c.in_ok-rows.ensures.held
+    (table c.args.uses.now) c.in_ok-rows.ensures.table)

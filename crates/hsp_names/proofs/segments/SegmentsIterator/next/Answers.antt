@@ -12,9 +12,12 @@ returns-in-Some-clause-goes c =
     record { on = λ _. (tt, search rules, rw c.in_ok-text.was (omega (arith, fewer))); keeps = tt; rests = λ _. tt }
 
 pub returns-in-None-clause-steps : goal.returns-in-None-clause-steps
-returns-in-None-clause-steps c = rw c.in_ok-text.was (one_piece is_dot c.in_ok-text.text.now (no_place is_dot c.in_ok-text.text.now c.in-None.ensures))
+returns-in-None-clause-steps c =
+    rw c.in_ok-text.was
+    (one_piece is_dot c.in_ok-text.text.now (no_place is_dot c.in_ok-text.text.now c.in-None.ensures))
 
 pub returns-in-None-clause-goes : goal.returns-in-None-clause-goes
 returns-in-None-clause-goes c =
-    let one = ap length (one_piece is_dot c.in_ok-text.text.now (no_place is_dot c.in_ok-text.text.now c.in-None.ensures)) in
+    let one =
+    ap length (one_piece is_dot c.in_ok-text.text.now (no_place is_dot c.in_ok-text.text.now c.in-None.ensures)) in
     record { on = λ _. (tt, search rules, rw c.in_ok-text.was (omega (arith, one))); keeps = tt; rests = λ _. tt }

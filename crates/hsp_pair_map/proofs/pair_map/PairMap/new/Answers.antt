@@ -6,7 +6,8 @@ use Rattle.hsp_pair_map.proofs.pair_map.PairMap.new.Goals as goal
 pub invariant_of-result : goal.invariant_of-result
 unfolding last_of
 invariant_of-result c =
-    let zeros : c.in_ok-lasts.lasts.items ≡ replicate c.args.buckets 0 = c.in_ok-lasts.ensures.items_if_clones_equal (λ y same. same) in
+    let zeros : c.in_ok-lasts.lasts.items ≡ replicate c.args.buckets 0 =
+    c.in_ok-lasts.ensures.items_if_clones_equal (λ y same. same) in
     let many : length {A = ℕ} (replicate c.args.buckets 0) ≡ c.args.buckets = length-replicate c.args.buckets 0 in
     rw (c.new.ensures.items, c.new-2.ensures.items, zeros) (record {
       some = omega (arith, many, c.requires);

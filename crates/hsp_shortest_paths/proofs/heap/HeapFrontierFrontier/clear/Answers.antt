@@ -4,8 +4,13 @@ use Rattle.hsp_shortest_paths.proofs.heap.HeapFrontierFrontier.clear.Goals as go
 pub invariant_of-self : goal.invariant_of-self
 invariant_of-self c = record {
   ordered = c.clear.ensures.heap_order;
-  paired = none_paired _ _ (all_forgotten _ _ _ c.args.self.now.paired c.forget_keys.ensures.kept (rw c.as_slice.ensures.value at c.forget_keys.ensures.gone));
+  paired =
+      none_paired _ _
+      (all_forgotten _ _ _ c.args.self.now.paired c.forget_keys.ensures.kept
+      (rw c.as_slice.ensures.value at c.forget_keys.ensures.gone));
 }
 
 pub returns-clause-empty : goal.returns-clause-empty
-returns-clause-empty c = all_forgotten _ _ _ c.args.self.now.paired c.forget_keys.ensures.kept (rw c.as_slice.ensures.value at c.forget_keys.ensures.gone)
+returns-clause-empty c =
+    all_forgotten _ _ _ c.args.self.now.paired c.forget_keys.ensures.kept
+    (rw c.as_slice.ensures.value at c.forget_keys.ensures.gone)

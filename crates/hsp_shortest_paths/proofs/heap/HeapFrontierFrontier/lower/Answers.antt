@@ -4,5 +4,7 @@ use Rattle.hsp_shortest_paths.proofs.heap.HeapFrontierFrontier.lower.Goals as go
 pub invariant_of-self-2 : goal.invariant_of-self-2
 invariant_of-self-2 c = record {
   ordered = c.in_ok-push.ensures.heap_order c.args.self.now.ordered;
-  paired = pairs_pushed _ _ c.args.self.now.paired _ _ c.in_ok-push.ensures.permutation _ (changes_set c.args.self.now.keys.items _ _ (lowered_in _ _ _ c.requires.held));
+  paired =
+      pairs_pushed _ _ c.args.self.now.paired _ _ c.in_ok-push.ensures.permutation _
+      (changes_set c.args.self.now.keys.items _ _ (lowered_in _ _ _ c.requires.held));
 }

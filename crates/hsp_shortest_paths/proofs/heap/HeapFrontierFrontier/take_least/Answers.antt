@@ -5,14 +5,20 @@ use Rattle.hsp_shortest_paths.proofs.heap.HeapFrontierFrontier.take_least.Goals 
 
 pub returns-then-is_present-clause-least : goal.returns-then-is_present-clause-least
 returns-then-is_present-clause-least c =
-    let least : IsLeast (λ v. slice_index_or c.loop-key.self.keys.items v None) c.in-Some.field-0.0.1 c.in-Some.field-0.0.0 = record {
+    let least : IsLeast (λ v. slice_index_or c.loop-key.self.keys.items v None) c.in-Some.field-0.0.1
+    c.in-Some.field-0.0.0 = record {
       there = rw c.deref.ensures.value at (c.is_present.ensures.0 c.if-is_present.true);
-      none_below = λ v d h. first_is_least _ _ (c.in-Some.ensures.heap_order c.loop-key.self.ordered).1 v d (c.loop-key.self.paired v d h);
+      none_below =
+          λ v d h.
+          first_is_least _ _ (c.in-Some.ensures.heap_order c.loop-key.self.ordered).1 v d
+          (c.loop-key.self.paired v d h);
     } in
     rw c.loop-key.invariant.0 at least
 
 pub returns-clause-none : goal.returns-clause-none
-returns-clause-none c = rw (← c.loop-key.invariant.0) (none_held _ _ c.loop-key.self.paired (omega (arith, c.in_default.ensures.none, c.loop-key.self.pairs.data.ok.0)))
+returns-clause-none c =
+    rw (← c.loop-key.invariant.0)
+    (none_held _ _ c.loop-key.self.paired (omega (arith, c.in_default.ensures.none, c.loop-key.self.pairs.data.ok.0)))
 
 pub invariant_of-self : goal.invariant_of-self
 invariant_of-self c =
@@ -31,7 +37,8 @@ invariant_of-self-else-is_present c = record {
   paired = pairs_popped _ _ c.loop-key.self.paired _ _ c.in-Some.ensures.permutation _ (λ v key h. (
     h,
     λ k n.
-        let present : slice_index_or c.loop-key.self.keys.items c.in-Some.field-0.0.1 None ≡ Some c.in-Some.field-0.0.0 =
+        let present : slice_index_or c.loop-key.self.keys.items c.in-Some.field-0.0.1 None
+        ≡ Some c.in-Some.field-0.0.0 =
         rw (n, k) h in
         let yes : c.is_present.result ≡ true = c.is_present.ensures.1 (rw (← c.deref.ensures.value) at present) in
         let no = c.if-is_present.false in

@@ -8,5 +8,6 @@ use Rattle.hsp_stream.proofs.kind_dispatcher.KindDispatcher.answer_fields.Goals 
 
 pub returns-in-One-clause-given : goal.returns-in-One-clause-given
 returns-in-One-clause-given c =
-    let asks : AsksByFields c.args.form (row_shown c.args.fields) (bad Fields) = elim c.in-One.is [ inl is ↦ rw is.1 refl | inr is ↦ rw is refl ] in
+    let asks : AsksByFields c.args.form (row_shown c.args.fields) (bad Fields) =
+    elim c.in-One.is [ inl is ↦ rw is.1 refl | inr is ↦ rw is refl ] in
     (bad Fields, asks, refused_so c.args.self.now Fields)

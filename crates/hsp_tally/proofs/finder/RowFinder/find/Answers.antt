@@ -10,8 +10,12 @@ returns-in-Some-clause-row c =
     let it = c.self.inside.rows.it in
     let region = c.args.region.now in
     let octets = c.bytes-octets.result.now in
-    let found = found_has (IsFound costs it) region octets c.self.inside.seen c.in-Some.number c.self.invariant (sym c.find.ensures ∙ c.in-Some.is) in
-    rw (← c.self.view_is) (c.row_of.ensures (row_for costs it region octets) found ∙ ap (row_for costs it region) c.bytes-octets.ensures.octets)
+    let found =
+    found_has (IsFound costs it) region octets c.self.inside.seen c.in-Some.number c.self.invariant
+    (sym c.find.ensures ∙ c.in-Some.is) in
+    rw (← c.self.view_is)
+    (c.row_of.ensures (row_for costs it region octets) found
+    ∙ ap (row_for costs it region) c.bytes-octets.ensures.octets)
 
 pub invariant_of-self-in-Continue-branch-2 : goal.invariant_of-self-in-Continue-branch-2
 invariant_of-self-in-Continue-branch-2 c =
@@ -20,4 +24,5 @@ invariant_of-self-in-Continue-branch-2 c =
     let octets = c.bytes-octets.result.now in
     let row = c.in_ok-row.ensures.row ∙ ap (row_for rows.costs rows.it region) (sym c.bytes-octets.ensures.octets) in
     let is = c.in-Some-number_for.ensures ∙ ap number_for row in
-    rw (c.in_ok-row.ensures.same, c.in_ok-remember.ensures.put) (put_all (IsFound rows.costs rows.it) c.self.inside.seen _ c.self.invariant is)
+    rw (c.in_ok-row.ensures.same, c.in_ok-remember.ensures.put)
+    (put_all (IsFound rows.costs rows.it) c.self.inside.seen _ c.self.invariant is)

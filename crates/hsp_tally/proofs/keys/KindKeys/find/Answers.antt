@@ -8,10 +8,16 @@ use Rattle.hsp_tally.proofs.RegionMaps.{known_sites}
 use Rattle.hsp_tally.proofs.keys.KindKeys.find.Goals as goal
 use Rattle.hsp_tally.proofs.keys.KindKeys.find.Goals.{After-sites_there}
 
-found : (c : After-sites_there) → (c.sites_there.result.now ≡ map hash_of (sites_for c.self.inside.costs.now c.self.inside.sites.now c.args.region.now)) × AllByRecursion HasServer c.sites_there.result.now
+found : (c : After-sites_there)
+    → (c.sites_there.result.now
+    ≡ map hash_of (sites_for c.self.inside.costs.now c.self.inside.sites.now c.args.region.now))
+    × AllByRecursion HasServer c.sites_there.result.now
 found c =
-    known_sites c.self.inside.costs.now c.self.inside.sites.now c.args.region.now c.sites_there.result.now (slice_get c.place_of.new.known.entries c.in_ok-place.place) c.in_ok-place.ensures.place c.sites_there.ensures
-    (λ e at. all_at (HasSites c.self.inside.costs.now c.self.inside.sites.now) c.place_of.new.known.entries c.in_ok-place.place e c.in_ok-place.ensures.all at)
+    known_sites c.self.inside.costs.now c.self.inside.sites.now c.args.region.now c.sites_there.result.now
+    (slice_get c.place_of.new.known.entries c.in_ok-place.place) c.in_ok-place.ensures.place c.sites_there.ensures
+    (λ e at.
+    all_at (HasSites c.self.inside.costs.now c.self.inside.sites.now) c.place_of.new.known.entries
+    c.in_ok-place.place e c.in_ok-place.ensures.all at)
 
 pub fill_places-requires : goal.fill_places-requires
 fill_places-requires c = (found (goal.at.fill_places-requires c).After-sites_there).1
@@ -19,5 +25,8 @@ fill_places-requires c = (found (goal.at.fill_places-requires c).After-sites_the
 pub returns-clause-places : goal.returns-clause-places
 returns-clause-places c =
     let is = found (goal.at.returns-clause-places c).After-sites_there in
-    let e = ap (map (place_by (octets_of c.args.handle))) is.0 ∙ map_twice hash_of (place_by (octets_of c.args.handle)) (sites_for c.self.inside.costs.now c.self.inside.sites.now c.args.region.now) in
+    let e =
+    ap (map (place_by (octets_of c.args.handle))) is.0
+    ∙ map_twice hash_of (place_by (octets_of c.args.handle))
+    (sites_for c.self.inside.costs.now c.self.inside.sites.now c.args.region.now) in
     rw (← c.self.view_is, ← e) c.fill_places.ensures
