@@ -3,7 +3,7 @@
 
     tools/gate/check_stream.py [--program FILE] [--hsplan FILE] [--million N]
 
-What has to be printed is computed by tools/lib/stream_service.py. The worked cases stand in checks/hsplan-stream, and
+What has to be printed is computed by tools/lib/oracle.py. The worked cases stand in checks/hsplan-stream, and
 tools/gate/check_program.py runs them. Here are tried:
 
 - the options that the help names;
@@ -35,11 +35,11 @@ from pathlib import Path
 sys.path.insert(0, str(Path(__file__).resolve().parents[1]))
 
 from lib import examples, failing, preload, programs
-from lib import stream_service as service
+from lib import oracle
 
 
 FILES = "--settings settings.toml --costs costs.csv"
-INPUTS = service.INPUTS
+INPUTS = oracle.INPUTS
 ANSWER = f"answer {INPUTS} --plan plan.txt --log /dev/stdin"
 LIMIT_KB = 64 * 1024
 HELP_BEGINS = "hsplan-stream: tables, places and answers for logs of any length\n"
@@ -126,21 +126,21 @@ def options_in_manual() -> dict[str, list[str]]:
 
 
 def log_of(header: str, rows: Iterable[Iterable[object]]) -> bytes:
-    return service.csv_of(header, rows)
+    return oracle.csv_of(header, rows)
 
 
 def check_kinds(it: Programs, draw: random.Random) -> list[str]:
     """The table of random logs, whole, in units, and in parts."""
-    rows = [(*entry, draw.choice((0, 1, 7, 900))) for entry in service.entries(draw, 3_000)]
+    rows = [(*entry, draw.choice((0, 1, 7, 900))) for entry in oracle.entries(draw, 3_000)]
     header = "region,handle,count"
     found = []
     for unit in (1, 7, 1_000_000):
-        wanted = log_of(header, service.table_of(rows, unit))
+        wanted = log_of(header, oracle.THREE.table(rows, unit))
         found += fault(
             f"kinds in units of {unit}", it.run(f"{KINDS} --unit {unit}", log_of(header, rows)), (wanted, b"", 0)
         )
     ones = [(region, handle, 1) for region, handle, _ in rows]
-    wanted = log_of(header, service.table_of(ones))
+    wanted = log_of(header, oracle.THREE.table(ones))
     log = log_of("region,handle", [row[:2] for row in rows])
     found += fault("kinds of rows that count 1", it.run(KINDS, log), (wanted, b"", 0))
     parts = [it.run(KINDS, log_of(header, rows[at : at + 700]))[0] for at in range(0, len(rows), 700)]
@@ -149,8 +149,8 @@ def check_kinds(it: Programs, draw: random.Random) -> list[str]:
 
 
 def check_places(it: Programs, draw: random.Random) -> list[str]:
-    rows = [entry for entry in service.entries(draw, 500) if "\r" not in entry[1]]
-    wanted = log_of("handle,site,place,server_id", (line for _, handle in rows for line in service.places_of(handle)))
+    rows = [entry for entry in oracle.entries(draw, 500) if "\r" not in entry[1]]
+    wanted = log_of("handle,site,place,server_id", (line for _, handle in rows for line in oracle.THREE.places(handle)))
     found = fault("places", it.run(PLACES, log_of("region,handle", rows)), (wanted, b"", 0))
     return found + fault(
         "places of handles", it.run(PLACES, log_of("handle", ([it] for _, it in rows))), (wanted, b"", 0)
@@ -159,20 +159,19 @@ def check_places(it: Programs, draw: random.Random) -> list[str]:
 
 def check_answers(it: Programs, draw: random.Random) -> list[str]:
     """Answers to a random log by a plan, in units, and by each front, as the definition gives them."""
-    demand = service.table_of((*entry, draw.choice((0, 3, 40))) for entry in service.entries(draw, 60, 12))
-    service.put_service(it.folder, demand, 200)
-    uses = service.uses_of(it.plan())
+    demand = oracle.THREE.table((*entry, draw.choice((0, 3, 40))) for entry in oracle.entries(draw, 60, 12))
+    oracle.put_files(it.folder, oracle.THREE.files(demand, 200))
+    uses = oracle.uses_of(it.plan())
     found = fault("a plan of random rows", bool(uses), True)
-    rows = [entry for entry in service.entries(draw, 4_000) if "\r" not in entry[1]] + [("mars", "10/1")]
+    rows = [entry for entry in oracle.entries(draw, 4_000) if "\r" not in entry[1]] + [("mars", "10/1")]
     log = log_of("region,handle", rows)
     for unit, fronts, front in ((1, 1, 0), (9, 1, 0), (1, 3, 0), (1, 3, 2), (5, 4, 1)):
         words = f"{ANSWER} --unit {unit} --fronts {fronts} --front {front}"
-        dispatcher = service.Dispatcher(demand, uses, unit, fronts, front)
+        share = oracle.Dispatcher.share(uses, fronts, front)
+        dispatcher = oracle.Dispatcher(oracle.THREE, demand, share, unit)
         wanted = [dispatcher.answer(*row) for row in rows]
-        kinds = [line.split()[0] for line in wanted]
-        sums = " ".join(f"{word} {kinds.count(word)}" for word in ("assigned", "spent", "unknown", "refused"))
         printed = "".join(f"{line}\n" for line in wanted).encode()
-        found += fault(words, it.run(words, log), (printed, f"{sums}\n".encode(), 0))
+        found += fault(words, it.run(words, log), (printed, oracle.sums_of(wanted).encode(), 0))
     return found
 
 
@@ -241,20 +240,20 @@ def measured(words: list[str], folder: str, given: str, out: str) -> tuple[int, 
 def replaced(table: bytes, log: str, to: str) -> None:
     """Writes a log whose handles are replaced by those of their rows in the table."""
     rows = list(csv.reader(io.StringIO(table.decode())))[1:]
-    named = {service.kind_of(region, handle): handle for region, handle, _ in rows}
+    named = {oracle.THREE.kind(region, handle): handle for region, handle, _ in rows}
     with open(log, encoding="utf-8") as lines, open(to, "w", encoding="utf-8") as out:
         out.write(next(lines))
         for line in lines:
             region, handle = line.rstrip("\n").split(",")
-            out.write(f"{region},{named[service.kind_of(region, handle)]}\n")
+            out.write(f"{region},{named[oracle.THREE.kind(region, handle)]}\n")
 
 
 def check_million(it: Programs, number: int) -> list[str]:
     with tempfile.TemporaryDirectory() as folder:
         path = [os.path.join(folder, it) for it in ("log.csv", "demand.csv", "answers", "named.csv", "dispatched")]
-        service.put_service(folder, [])
+        oracle.put_files(folder, oracle.THREE.files())
         with open(path[0], "wb") as log:
-            log.writelines(service.many_rows(number))
+            log.writelines(oracle.many_rows(number))
         status, memory, seconds = measured([it.stream, *KINDS.split()], folder, path[0], path[1])
         found = fault("kinds of a million handles", (status, memory < LIMIT_KB), (0, True))
         with open(path[1], "rb") as file:
@@ -326,7 +325,7 @@ def check_failing(it: Programs, room: str) -> tuple[list[str], int]:
 
 def check_all(it: Programs, million: int, room: str) -> list[str]:
     draw = random.Random(49)
-    service.put_cases(it.folder)
+    oracle.put_cases(it.folder)
     it.plan()
     found = check_help(it) + check_kinds(it, draw) + check_places(it, draw) + check_talk(it)
     faults, tried = check_failing(it, room)

@@ -27,7 +27,7 @@ import subprocess
 from collections.abc import Iterator
 from dataclasses import dataclass, field
 
-from lib import programs, stream_service
+from lib import oracle, programs
 
 FOLDER = os.path.join(programs.TOP, "checks")
 Ended = tuple[bytes, bytes, int]
@@ -162,8 +162,8 @@ def base(program: str, room: str, hsplan: str) -> str:
         shutil.copytree(os.path.join(programs.TOP, "examples", "base"), data)
         return data
     os.mkdir(data)
-    stream_service.put_cases(data)
-    words = ["plan", *stream_service.INPUTS.split()]
+    oracle.put_cases(data)
+    words = ["plan", *oracle.INPUTS.split()]
     plan = run(hsplan, [word.encode() for word in words], b"", data)[0]
     put_files(data, {"plan.txt": plan})
     return data
