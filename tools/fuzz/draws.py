@@ -342,7 +342,8 @@ def planned(draw: Draw, service: Service, rows: list[oracle.Row]) -> Planned:
 def plans(draw: Draw, service: Service) -> Planned:
     names, most = draw(NAMES), draw(MOST)
     counts = [0 if least_cost(service, region) is None else at_random(draw, most) for region, _ in names]
-    return planned(draw, service, [(*name, count) for name, count in zip(names, counts)])
+    rows = [(region, handle, count) for (region, handle), count in zip(names, counts)]
+    return planned(draw, service, rows)
 
 
 # ---- logs
@@ -353,7 +354,7 @@ class Entry(NamedTuple):
 
     region: str
     handle: str
-    count: int = 1
+    number: int = 1
     refused: bytes = b""
     refusal: str = ""
 
@@ -384,7 +385,7 @@ class Log(NamedTuple):
         if entry.refused:
             return entry.refused
         handle = body_of(entry.handle.encode()).hex() if self.has_bodies else field_of(entry.handle)
-        fields = [entry.region] * self.has_regions + [handle] + [str(entry.count)] * self.has_counts
+        fields = [entry.region] * self.has_regions + [handle] + [str(entry.number)] * self.has_counts
         return ",".join(fields).encode()
 
 

@@ -44,7 +44,14 @@ def judged(name: str, given: argparse.Namespace, preloaded: str) -> tuple[str, i
     from draws import wheres
 
     kind, is_stream = kinds()[name], name in _stream_kinds()
-    program = runner.Runner(*(("hsplan-stream", given.stream) if is_stream else ("hsplan", given.program)), preloaded)
+    program = runner.Runner(
+        *(
+            ("hsplan-stream", os.path.abspath(given.stream))
+            if is_stream
+            else ("hsplan", os.path.abspath(given.program))
+        ),
+        preloaded,
+    )
 
     @hypothesis.seed(f"{given.seed} {name}")
     @hypothesis.settings(
@@ -75,8 +82,8 @@ def main() -> int:
     words.add_argument("--cases", type=int, default=1000, help="cases of each kind (1,000)")
     words.add_argument("--seed", type=int, default=1)
     words.add_argument("--kinds", default="", help="names with a comma between them")
-    words.add_argument("--program", type=os.path.abspath, default=programs.built_path("hsplan"))
-    words.add_argument("--stream", type=os.path.abspath, default=programs.built_path("hsplan-stream"))
+    words.add_argument("--program", default=programs.built_path("hsplan"))
+    words.add_argument("--stream", default=programs.built_path("hsplan-stream"))
     given = words.parse_args()
     packages.install(packages.absent(["python3-hypothesis"]))
     import runner

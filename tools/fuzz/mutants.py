@@ -9,8 +9,8 @@ edit, and one that names the test or the case that has to refuse it:
 
   file: src/FILE.rt     the file of crates/CRATE that is changed
   test: CRATE NAME      a test, by its own name, of this crate or of one above it
-  case: NAME            or a case of checks/program, run on the unproved hsplan
-  stream: TEXT          or the cases of tools/gate/check_stream.py that have the text in their words, their log or their
+  case: NAME            or a case of checks/hsplan, run on the unproved hsplan
+  stream: TEXT          or the cases of checks/hsplan-stream that have the text in their words, their log or their
                         last line, and that need no plan, run on the unproved hsplan-stream
   refused: N            optional: the allocation of the test, counted from 1, that is refused while it runs
   old: TEXT             a text that stands in the file once
@@ -24,8 +24,8 @@ edits are named, only these are tried.
 from __future__ import annotations
 
 import argparse
-import collections
 import concurrent.futures
+import functools
 import glob
 import os
 import queue
@@ -35,258 +35,212 @@ import subprocess
 import sys
 import tempfile
 import time
+from collections import defaultdict
+from collections.abc import Callable, Iterable
 from pathlib import Path
+from typing import NamedTuple
 
 sys.path.insert(0, str(Path(__file__).resolve().parents[1]))
 
-from lib import cases, programs, stream_service
-
+from lib import cases, oracle, programs
+from lib.cases import Case
 
 FOLDER = os.path.join(programs.TOP, "mutants")
-CASES = os.path.join("checks", "program")
-BASE = os.path.join("examples", "base")
-
 # Up to this many named tests of a crate are run one by one on the sources as they stand. If there are more, all tests
 # of the crate are run at once.
 FEW = 3
+# The worst first.
+OUTCOMES = ["not run", "no answer", "FAILED", "ok"]
+# The outcome of each test or case by its name, and what was printed.
+Outcomes = tuple[dict[str, str], str]
 
-# A wrong body: its crate, its name, the file that is changed, the pairs of texts, the crate and test, the case, or the
-# text of cases of hsplan-stream, that has to refuse it, and the allocation that is refused.
-Mutant = collections.namedtuple("Mutant", "crate name file pairs test case stream refused")
+
+class Mutant(NamedTuple):
+    """A wrong body: its crate and name, the file that is changed and the pairs of texts; what has to refuse it, a test
+    with its crate, a case, or cases with a text; and the allocation that is refused."""
+
+    crate: str
+    name: str
+    file: str
+    pairs: list[tuple[str, str]]
+    kind: str
+    by: str
+    refused: str
 
 
-def read_mutant(path):
+def read_mutant(path: str) -> Mutant:
     crate, name = os.path.basename(os.path.dirname(path)), os.path.basename(path)[: -len(".edit")]
-    found, pairs = {}, []
-    with open(path, encoding="utf-8") as file:
-        for line in file.read().splitlines():
-            key, _, text = line.partition(":")
-            text = text[1:] if text.startswith(" ") else text
-            if key == "old":
-                pairs.append((text, None))
-            elif key == "new" and pairs and pairs[-1][1] is None:
-                pairs[-1] = (pairs[-1][0], text)
-            elif key in ("file", "test", "case", "stream", "refused") and key not in found:
-                found[key] = text.strip()
-            else:
-                raise ValueError(f"{path}: this is not a line of an edit: {line}")
-    if "file" not in found or len({"test", "case", "stream"} & set(found)) != 1 or not pairs or pairs[-1][1] is None:
+    found: dict[str, str] = {}
+    old: list[str] = []
+    new: list[str] = []
+    for line in Path(path).read_text("utf-8").splitlines():
+        key, _, text = line.partition(":")
+        text = text.removeprefix(" ")
+        if key == "old" and len(old) == len(new):
+            old.append(text)
+        elif key == "new" and len(old) == len(new) + 1:
+            new.append(text)
+        elif key in ("file", "test", "case", "stream", "refused") and key not in found:
+            found[key] = text.strip()
+        else:
+            raise ValueError(f"{path}: this is not a line of an edit: {line}")
+    kinds = [key for key in ("test", "case", "stream") if key in found]
+    if "file" not in found or len(kinds) != 1 or not new or len(old) != len(new):
         raise ValueError(f"{path}: a line is missing, or there is one too many")
-    test = tuple(found["test"].split()) if "test" in found else None
-    if test and len(test) != 2:
-        raise ValueError(f"{path}: a test has a crate and a name")
-    if "refused" in found and not test:
-        raise ValueError(f"{path}: only a test can have an allocation refused")
+    if kinds == ["test"] and len(found["test"].split()) != 2 or "refused" in found and kinds != ["test"]:
+        raise ValueError(f"{path}: a test has a crate and a name, and only a test can have an allocation refused")
     return Mutant(
-        crate, name, found["file"], pairs, test, found.get("case"), found.get("stream"), found.get("refused")
+        crate, name, found["file"], list(zip(old, new)), kinds[0], found[kinds[0]], found.get("refused", "")
     )
 
 
-def read_mutants(wanted):
-    paths = sorted(glob.glob(os.path.join(FOLDER, "*", "*.edit")))
-    mutants = [read_mutant(path) for path in paths]
+def read_mutants(wanted: list[str]) -> list[Mutant]:
+    mutants = [read_mutant(path) for path in sorted(glob.glob(os.path.join(FOLDER, "*", "*.edit")))]
     return [it for it in mutants if not wanted or it.crate in wanted or f"{it.crate}/{it.name}" in wanted]
 
 
-def is_source(folder, names):
-    return [
-        it
-        for it in names
-        if it in ("out", "proofs", "specs", "must-fail") and os.path.basename(os.path.dirname(folder)) == "crates"
-    ]
-
-
-def copy_to(folder):
-    """Copies what the unproved tests and the program are built from into a folder."""
-    for name in ("crates.txt", "HANDLES"):
-        shutil.copy(os.path.join(programs.TOP, name), folder)
-    for name in (BASE, CASES):
-        shutil.copytree(os.path.join(programs.TOP, name), os.path.join(folder, name))
-    for case in os.listdir(os.path.join(folder, CASES)):
-        own = os.path.join(folder, CASES, case)
-        check_program.put_repeated(own, check_program.repeated(own))
-    shutil.copytree(os.path.join(programs.TOP, "crates"), os.path.join(folder, "crates"), ignore=is_source)
-
-
-def changed(mutant, text):
+def changed(mutant: Mutant) -> str:
     """The text of the file with the wrong body in it."""
+    text = programs.text_of("crates", mutant.crate, mutant.file)
     for old, new in mutant.pairs:
         if text.count(old) != 1:
-            raise ValueError(
-                f"mutants/{mutant.crate}/{mutant.name}.edit: "
-                f"the old text stands {text.count(old)} times in {mutant.file}: {old}"
-            )
+            edit = f"mutants/{mutant.crate}/{mutant.name}.edit"
+            raise ValueError(f"{edit}: the old text stands {text.count(old)} times in {mutant.file}: {old}")
         text = text.replace(old, new)
     return text
 
 
-def run(words, folder):
+# ---- runs on a copy
+
+
+def copy_to(folder: str) -> None:
+    """Copies what the unproved tests and programs are built from into a folder."""
+
+    def left_out(at: str, names: list[str]) -> list[str]:
+        is_crate = os.path.basename(os.path.dirname(at)) == "crates"
+        return [it for it in names if is_crate and it in ("out", "proofs", "specs", "must-fail")]
+
+    for name in ("crates.txt", "HANDLES"):
+        shutil.copy(os.path.join(programs.TOP, name), folder)
+    shutil.copytree(os.path.join(programs.TOP, "crates"), os.path.join(folder, "crates"), ignore=left_out)
+
+
+def run(words: list[str], folder: str) -> str:
     ended = subprocess.run(
-        words,
-        cwd=folder,
-        stdin=subprocess.DEVNULL,
-        stdout=subprocess.PIPE,
-        stderr=subprocess.STDOUT,
-        text=True,
-        errors="replace",
+        words, cwd=folder, stdin=subprocess.DEVNULL, stdout=subprocess.PIPE, stderr=subprocess.STDOUT
     )
-    return ended.stdout
+    return ended.stdout.decode(errors="replace")
 
 
-def outcomes(said):
-    """The outcome of each test, by its own name: 'ok', 'FAILED' or, without an end, 'no answer'."""
+def run_tests(folder: str, crate: str, seconds: int, name: str = "", refused: str = "") -> Outcomes:
+    """The outcomes of a crate's tests, or of one, by their own names."""
+    words = ["rt", "try", "--test", "--seconds", str(seconds)]
+    words += (["--fail-alloc", refused] if refused else []) + (["--", name] if name else [])
+    said = run(words, os.path.join(folder, "crates", crate))
     found = {}
     parts = re.split(r"^test (\S+) \.\.\. (\w+)$", said, flags=re.M)
     for path, outcome, after in zip(parts[1::3], parts[2::3], parts[3::3]):
         found[path.split("::")[-1]] = "no answer" if "no-answer" in after.split("test result:")[0] else outcome
-    return found
+    return found, said
 
 
-def run_tests(folder, crate, seconds, name=None, refused=None):
-    words = (
-        ["rt", "try", "--test", "--seconds", str(seconds)]
-        + (["--fail-alloc", refused] if refused else [])
-        + (["--", name] if name else [])
-    )
-    said = run(words, os.path.join(folder, "crates", crate))
-    return outcomes(said), said
+def put_run(room: str, name: str, way: cases.Way) -> None:
+    """Writes a run as `rt try` takes it: its standard input, and a file of its arguments where it has some."""
+    Path(room, name).write_bytes(way[1])
+    if way[0]:
+        Path(room, f"{name}.args").write_bytes(b"".join(word + b"\n" for word in way[0]))
 
 
-def octets(folder, name, absent=""):
-    path = os.path.join(folder, name)
-    if not os.path.exists(path):
-        return absent
-    with open(path, encoding="utf-8", errors="surrogateescape", newline="") as file:
-        return file.read()
-
-
-def is_text(words):
+def is_text(way: cases.Way) -> bool:
     """Whether words can be the arguments of a run: `rt try` takes only text."""
-    return not any("\ud800" <= it <= "\udfff" for it in words)
+    return all(word.decode(errors="ignore").encode() == word for word in way[0])
 
 
-def put_case(case, room, name):
-    """Writes the runs of a case: its standard input, or its arguments, or its words both ways where they are text.
-    Returns the names of the runs."""
-    words, args = octets(case, "words", None), octets(case, "args", None)
-    put_run(room, name, words if words is not None else octets(case, "stdin"), args)
-    if words is None or not is_text(words):
-        return [name]
-    put_run(room, name + "_as_arguments", "", "".join(word + "\n" for word in words.split()))
-    return [name, name + "_as_arguments"]
-
-
-def put_run(room, name, given, args):
-    texts = {name: given} if args is None else {name: given, name + ".args": args}
-    for at, text in texts.items():
-        with open(os.path.join(room, at), "w", encoding="utf-8", errors="surrogateescape", newline="") as file:
-            file.write(text)
-
-
-def run_cases(folder, names, own, seconds):
-    """The outcome of each of these cases, which share their own files: 'ok', 'FAILED', 'no answer', or 'not run'
-    where the program did not run. The second result is what was printed."""
-    cases = os.path.join(folder, CASES)
-    files = {it: os.path.join(folder, BASE, it) for it in os.listdir(os.path.join(folder, BASE))}
-    if own:
-        files.update(
-            {it: os.path.join(cases, own, "files", it) for it in os.listdir(os.path.join(cases, own, "files"))}
-        )
-    with tempfile.TemporaryDirectory() as room:
-        runs = {name: put_case(os.path.join(cases, name), room, name) for name in names}
+def run_cases(folder: str, program: str, chosen: list[Case], data: str, seconds: int) -> Outcomes:
+    """The outcomes of cases that share their own files."""
+    files = {name: os.path.join(data, name) for name in os.listdir(data)}
+    with tempfile.TemporaryDirectory() as room, tempfile.TemporaryDirectory() as own:
+        cases.put_files(own, chosen[0].files)
+        files.update({name: os.path.join(own, name) for name in os.listdir(own)})
+        runs: dict[str, tuple[Case, cases.Way]] = {}
+        for number, case in enumerate(chosen):
+            for at, way in enumerate(filter(is_text, case.ways())):
+                runs[f"case_{number}_{at}"] = (case, way)
+                put_run(room, f"case_{number}_{at}", way)
         words = ["rt", "try", "--cases", room, "--seconds", str(seconds)]
-        for at, path in sorted(files.items()):
-            words += ["--data", f"{at}={path}"]
-        said = run(words, os.path.join(folder, "crates", "hsplan"))
-    return {name: worst(judged(os.path.join(cases, name), it, said) for it in runs[name]) for name in names}, said
+        words += [word for name, path in sorted(files.items()) for word in ("--data", f"{name}={path}")]
+        said = run(words, os.path.join(folder, "crates", programs.crate_of(program)))
+    found: defaultdict[str, list[str]] = defaultdict(list)
+    for run_name, (case, _) in runs.items():
+        found[case.name].append(judged(case, run_name, said))
+    return {name: min(outcomes, key=OUTCOMES.index) for name, outcomes in found.items()}, said
 
 
-def stream_cases(text):
-    """The cases of hsplan-stream with this text that need no plan."""
-    shown = [
-        (case, " ".join((case[0], case[1].decode(errors="replace"), case[3].decode()))) for case in check_stream.CASES
-    ]
-    return [case for case, it in shown if text in it and "--plan" not in case[0]]
-
-
-def run_stream(folder, texts, seconds):
-    """The outcome of the cases of each of these texts together. The second result is what was printed."""
-    cases = {
-        f"case_{number}_{at}": (text, case)
-        for number, text in enumerate(texts)
-        for at, case in enumerate(stream_cases(text))
-    }
-    with tempfile.TemporaryDirectory() as room, tempfile.TemporaryDirectory() as service:
-        stream_service.put_service(service, [])
-        check_stream.put_files(service)
-        words = ["rt", "try", "--cases", room, "--seconds", str(seconds)]
-        for name, (_, case) in cases.items():
-            words_in_lines = "".join(it + "\n" for it in case[0].split()) or None
-            put_run(room, name, case[1].decode(errors="surrogateescape"), words_in_lines)
-        for name in sorted(os.listdir(service)):
-            words += ["--data", f"{name}={os.path.join(service, name)}"]
-        said = run(words, os.path.join(folder, "crates", "hsplan_stream"))
-    found = collections.defaultdict(list)
-    for name, (text, case) in cases.items():
-        ways = both_ways(case[2].decode(), case[3].decode())
-        found[text].append(judged_by(name, said, ways.__contains__, case[4]))
-    return {text: worst(outcomes) for text, outcomes in found.items()}, said
-
-
-def worst(outcomes):
-    """The worst outcome of the runs of a case."""
-    return min(outcomes, key=["not run", "no answer", "FAILED", "ok"].index)
-
-
-def judged(case, name, said):
-    """The outcome of a run of a case, by its output, both streams in one, and by its status."""
-    begins, reported = octets(case, "begins", None), octets(case, "stderr").strip("\n")
-
-    def is_right(got):
-        if begins is None:
-            return got in both_ways(octets(case, "stdout"), reported)
-        return got.startswith(begins.strip("\n")) and got.endswith(octets(case, "ends").strip("\n"))
-
-    return judged_by(name, said, is_right, int(octets(case, "status", "0")))
-
-
-def judged_by(name, said, is_right, status):
-    """The outcome of a run: whether its output is right, and its status is this."""
-    name = re.escape(name)
+def judged(case: Case, name: str, said: str) -> str:
+    """The outcome of a run, by its output, both streams in one, and by its status."""
     found = re.search(rf"^== {name}\n(.*?)^case={name} run=(\S+)(?: status=(\d+))?", said, re.M | re.S)
     if not found:
         return "not run"
     if found[2] == "no-answer":
         return "no answer"
-    return "ok" if is_right(found[1].strip("\n")) and int(found[3] or -1) == status else "FAILED"
+    printed, reported = (part.decode(errors="replace") for part in (b"\0".join(case.printed), case.reported))
+    both = (
+        "\n".join(part.strip("\n") for part in parts if part) for parts in ((printed, reported), (reported, printed))
+    )
+    forms = [".*".join(map(re.escape, text.split("\0"))) for text in both]
+    is_right = any(re.fullmatch(form, found[1].strip("\n"), re.S) for form in forms)
+    return "ok" if is_right and int(found[3] or -1) == case.status else "FAILED"
 
 
-def both_ways(printed, reported):
-    """Both orders of what a run prints on its two streams."""
-    return put(printed, reported), put(reported, printed)
+class Room:
+    """The cases by their names, the files that they share, and copies of the sources, one for each job."""
 
-
-def put(first, second):
-    return "\n".join(it.strip("\n") for it in (first, second) if it)
-
-
-def own_files(case):
-    """The case, if it has files of its own."""
-    return case if os.path.isdir(os.path.join(programs.TOP, CASES, case, "files")) else None
-
-
-class Copies:
-    """Copies of the sources, one for each job."""
-
-    def __init__(self, room, many):
-        self.free = queue.Queue()
+    def __init__(self, room: str, many: int, seconds: int) -> None:
+        self.seconds = seconds
+        self.cases = {case.name: case for case in cases.cases_in("hsplan")}
+        self.streams = [case for case in cases.cases_in("hsplan-stream") if b"--plan" not in (case.words or b"")]
+        self.data = os.path.join(programs.TOP, "examples", "base")
+        self.service = os.path.join(room, "service")
+        os.mkdir(self.service)
+        oracle.put_cases(self.service)
+        self.free: queue.Queue[str] = queue.Queue()
         for number in range(many):
             folder = os.path.join(room, str(number))
             os.mkdir(folder)
             copy_to(folder)
             self.free.put(folder)
 
-    def use(self, work):
+    def with_text(self, text: str) -> list[Case]:
+        """The cases of hsplan-stream with this text."""
+        shown = [(case, b" ".join((case.words or b"", case.given, case.reported))) for case in self.streams]
+        return [case for case, octets in shown if text.encode() in octets]
+
+    def outcomes(self, folder: str, mutants: list[Mutant]) -> Outcomes:
+        """The outcomes of what has to refuse these wrong bodies: of tests of one crate, or of cases that share files."""
+        kind, names = mutants[0].kind, sorted({it.by for it in mutants})
+        if kind == "stream":
+            chosen = [case for name in names for case in self.with_text(name)]
+            return run_cases(folder, "hsplan-stream", chosen, self.service, self.seconds)
+        if kind == "case":
+            return run_cases(folder, "hsplan", [self.cases[name] for name in names], self.data, self.seconds)
+        crate, refused = names[0].split()[0], mutants[0].refused
+        if len(names) > FEW and not refused:
+            return run_tests(folder, crate, self.seconds)
+        runs = [run_tests(folder, crate, self.seconds, name.split()[1], refused) for name in names]
+        return {test: outcome for found, _ in runs for test, outcome in found.items()}, "".join(it for _, it in runs)
+
+    def wanted(self, mutant: Mutant) -> list[str]:
+        """The names of the outcomes that count for a wrong body."""
+        if mutant.kind == "stream":
+            return [case.name for case in self.with_text(mutant.by)]
+        return [mutant.by.split()[-1] if mutant.kind == "test" else mutant.by]
+
+    def worst(self, mutant: Mutant, found: dict[str, str]) -> str:
+        return min(
+            (found.get(name, "not run") for name in self.wanted(mutant)), key=OUTCOMES.index, default="not run"
+        )
+
+    def use(self, work: Callable[[str], tuple[bool, str]]) -> tuple[bool, str]:
         folder = self.free.get()
         try:
             return work(folder)
@@ -294,155 +248,78 @@ class Copies:
             self.free.put(folder)
 
 
-def unchanged(mutants):
-    """The runs over the sources as they stand: the named tests of each crate and refused allocation, the named cases
-    of each set of files, and the texts of cases of hsplan-stream."""
-    tests, cases = collections.defaultdict(set), collections.defaultdict(set)
-    for it in mutants:
-        if it.test:
-            tests[it.test[0], it.refused or ""].add(it.test[1])
-        elif it.case:
-            cases[own_files(it.case)].add(it.case)
-    return tests, cases, {it.stream for it in mutants if it.stream}
+# ---- what is tried
 
 
-def faults_of_unchanged(folder, tested, own, names, seconds):
-    """The named tests of a crate and a refused allocation, or the named cases, that do not pass on the sources as
-    they stand."""
-    crate, refused = tested or (None, None)
-    if crate and (len(names) <= FEW or refused):
-        runs = [run_tests(folder, crate, seconds, name, refused) for name in sorted(names)]
-        found, said = {test: outcome for it, _ in runs for test, outcome in it.items()}, "".join(it for _, it in runs)
-    elif crate:
-        found, said = run_tests(folder, crate, seconds)
-    else:
-        found, said = run_cases(folder, sorted(names), own, seconds)
-    wrong = [
-        f"{crate or 'case'} {it}: {found.get(it, 'not run')} on the sources as they stand"
-        for it in sorted(names)
-        if found.get(it) != "ok"
-    ]
-    return wrong + ([said] if wrong else [])
+def stands(room: Room, mutants: list[Mutant], folder: str) -> tuple[bool, str]:
+    """Whether what has to refuse these wrong bodies passes on the sources as they stand."""
+    found, said = room.outcomes(folder, mutants)
+    wrong = [f"{it.kind} {it.by}: {room.worst(it, found)}" for it in mutants if room.worst(it, found) != "ok"]
+    lines = [f"{line} on the sources as they stand" for line in dict.fromkeys(wrong)]
+    return not wrong, "\n".join([*lines, said]) if wrong else f"as they stand: {mutants[0].kind}, {len(mutants)} pass"
 
 
-def outcome_of(folder, mutant, seconds):
-    """The outcome of the test or the case of a wrong body: 'FAILED' where it refuses the body. The second
-    result is what was printed."""
-    path = os.path.join(folder, "crates", mutant.crate, mutant.file)
-    with open(path, encoding="utf-8") as file:
-        text = file.read()
-    with open(path, "w", encoding="utf-8") as file:
-        file.write(changed(mutant, text))
+def is_refused(room: Room, mutant: Mutant, folder: str) -> tuple[bool, str]:
+    begun, path = time.monotonic(), Path(folder, "crates", mutant.crate, mutant.file)
+    text = path.read_text("utf-8")
+    path.write_text(changed(mutant), "utf-8")
     try:
-        if mutant.test:
-            found, said = run_tests(folder, mutant.test[0], seconds, mutant.test[1], mutant.refused)
-            outcome = found.get(mutant.test[1], "not compiled or not run")
-        elif mutant.stream:
-            found, said = run_stream(folder, [mutant.stream], seconds)
-            outcome = found[mutant.stream]
-        else:
-            found, said = run_cases(folder, [mutant.case], own_files(mutant.case), seconds)
-            outcome = found[mutant.case]
+        found, said = room.outcomes(folder, [mutant])
     finally:
-        with open(path, "w", encoding="utf-8") as file:
-            file.write(text)
-    return outcome, said
-
-
-def tried(folder, mutant, seconds):
-    """Whether a wrong body is refused, and the line that reports it."""
-    begun = time.monotonic()
-    outcome, said = outcome_of(folder, mutant, seconds)
-    by = (
-        f"test {mutant.test[0]} {mutant.test[1]}"
-        if mutant.test
-        else f"case {mutant.case}"
-        if mutant.case
-        else f"cases of {mutant.stream}"
-    )
-    spent = f"{time.monotonic() - begun:.0f} s"
+        path.write_text(text, "utf-8")
+    outcome = room.worst(mutant, found)
+    line = f"{mutant.crate}/{mutant.name} by {mutant.kind} {mutant.by}, {time.monotonic() - begun:.0f} s"
     if outcome == "FAILED":
-        return True, f"refused: {mutant.crate}/{mutant.name} by {by}, {spent}"
-    shown = "" if outcome == "ok" else "\n" + said[-2000:]
-    return False, f"NOT REFUSED: {mutant.crate}/{mutant.name} by {by}: {outcome}, {spent}{shown}"
+        return True, f"refused: {line}"
+    return False, f"NOT REFUSED: {line}: {outcome}" + ("" if outcome == "ok" else "\n" + said[-2000:])
 
 
-def check_forms(mutants):
+def check_forms(room: Room, mutants: list[Mutant]) -> None:
     """Checks that each old text stands once and each case is there, before an hour goes into runs."""
+    for mutant in mutants:
+        changed(mutant)
+        is_there = mutant.by in room.cases if mutant.kind == "case" else room.wanted(mutant)
+        if not is_there:
+            raise ValueError(f"mutants/{mutant.crate}/{mutant.name}.edit: no {mutant.kind} {mutant.by}")
+
+
+def grouped(room: Room, mutants: list[Mutant]) -> list[list[Mutant]]:
+    """Those whose tests or cases can be run at once: of one crate and allocation, or with the same files."""
+    groups: defaultdict[tuple[str, ...], list[Mutant]] = defaultdict(list)
     for it in mutants:
-        with open(os.path.join(programs.TOP, "crates", it.crate, it.file), encoding="utf-8") as file:
-            changed(it, file.read())
-        if it.case and not os.path.isdir(os.path.join(programs.TOP, CASES, it.case)):
-            raise ValueError(f"mutants/{it.crate}/{it.name}.edit: no case {it.case}")
-        if it.stream and not stream_cases(it.stream):
-            raise ValueError(f"mutants/{it.crate}/{it.name}.edit: no case of hsplan-stream has {it.stream}")
+        own = {"test": it.by.split()[0], "case": it.by if it.kind == "case" and room.cases[it.by].files else ""}
+        groups[it.kind, own.get(it.kind, ""), it.refused].append(it)
+    return list(groups.values())
 
 
-def all_printed(pool, calls):
+def all_printed(pool: concurrent.futures.Executor, calls: Iterable[Callable[[], tuple[bool, str]]]) -> list[bool]:
     """Prints the line of each call as it ends, and returns the answers."""
     answers = []
-    for done in concurrent.futures.as_completed([pool.submit(it) for it in calls]):
+    for done in concurrent.futures.as_completed([pool.submit(call) for call in calls]):
         is_right, line = done.result()
         print(line, flush=True)
         answers.append(is_right)
     return answers
 
 
-def try_unchanged(copies, tested, own, names, seconds):
-    faults = copies.use(lambda folder: faults_of_unchanged(folder, tested, own, names, seconds))
-    return (
-        not faults,
-        "\n".join(faults)
-        or f"as they stand: {tested[0] if tested else 'program'}, {len(names)} {'tests' if tested else 'cases'} pass",
-    )
-
-
-def try_stream(copies, texts, seconds):
-    found, said = copies.use(lambda folder: run_stream(folder, sorted(texts), seconds))
-    faults = [
-        f"hsplan-stream {it}: {outcome} on the sources as they stand"
-        for it, outcome in found.items()
-        if outcome != "ok"
-    ]
-    return (
-        not faults,
-        "\n".join(faults + [said])
-        if faults
-        else f"as they stand: hsplan-stream, the cases of {len(texts)} texts pass",
-    )
-
-
-def main():
-    words = argparse.ArgumentParser(
-        description="Checks that each wrong body of mutants/ is refused by its test or case."
-    )
-    words.add_argument(
-        "--jobs",
-        type=int,
-        default=max(1, (os.cpu_count() or 1) // 2),
-        help="number of runs side by side (half of the processors)",
-    )
+def main() -> int:
+    words = argparse.ArgumentParser(description="Checks that each wrong body of mutants/ is refused.")
+    half = max(1, (os.cpu_count() or 1) // 2)
+    words.add_argument("--jobs", type=int, default=half, help="number of runs side by side (half of the processors)")
     words.add_argument("--seconds", type=int, default=300, help="how long a test or a case may take (300)")
     words.add_argument("names", nargs="*", metavar="CRATE | CRATE/NAME")
     given = words.parse_args()
-    begun = time.monotonic()
-    mutants = read_mutants(given.names)
-    check_forms(mutants)
-    tests, cases, texts = unchanged(mutants)
-    with tempfile.TemporaryDirectory() as room, concurrent.futures.ThreadPoolExecutor(given.jobs) as pool:
-        copies = Copies(room, given.jobs)
-        first = [lambda c=c, n=n: try_unchanged(copies, c, None, n, given.seconds) for c, n in sorted(tests.items())]
-        first += [lambda o=o, n=n: try_unchanged(copies, None, o, n, given.seconds) for o, n in cases.items()]
-        first += [lambda: try_stream(copies, texts, given.seconds)] if texts else []
-        stands = all_printed(pool, first)
-        calls = [lambda it=it: copies.use(lambda folder: tried(folder, it, given.seconds)) for it in mutants]
-        refused = all_printed(pool, calls)
-    minutes = (time.monotonic() - begun) / 60
-    wrong = len(refused) - sum(refused) + len(stands) - sum(stands)
-    print(
-        f"mutants: {len(mutants)} wrong bodies, {sum(refused)} refused, {wrong} faults, "
-        f"{minutes:.0f} minutes by {given.jobs} jobs"
-    )
+    begun, mutants = time.monotonic(), read_mutants(given.names)
+    with tempfile.TemporaryDirectory() as top, concurrent.futures.ThreadPoolExecutor(given.jobs) as pool:
+        room = Room(top, given.jobs, given.seconds)
+        check_forms(room, mutants)
+        calls = [functools.partial(stands, room, group) for group in grouped(room, mutants)]
+        first = all_printed(pool, [functools.partial(room.use, call) for call in calls])
+        tries = [functools.partial(is_refused, room, mutant) for mutant in mutants]
+        refused = all_printed(pool, [functools.partial(room.use, one) for one in tries])
+    wrong = refused.count(False) + first.count(False)
+    minutes = f"{(time.monotonic() - begun) / 60:.0f} minutes by {given.jobs} jobs"
+    print(f"mutants: {len(mutants)} wrong bodies, {sum(refused)} refused, {wrong} faults, {minutes}")
     return 1 if wrong or not mutants else 0
 
 

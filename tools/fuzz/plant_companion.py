@@ -200,9 +200,9 @@ def spots_of(path: str, tree: ast.Module, at: int) -> list[Spot]:
     """Where a change works: its own lines; the function's, of a default; those that use a name, of a module's value."""
     node = _all_of(tree)[at][0]
     holders = _holders(tree, node)
-    inner = [it for it in holders if isinstance(it, (ast.FunctionDef, ast.Lambda))]
-    if inner and node in {it for part in ast.iter_child_nodes(inner[-1].args) for it in ast.walk(part)}:
-        return [_spot(path, it) for it in (inner[-1].body if isinstance(inner[-1].body, list) else [inner[-1]])]
+    inner = next((it for it in holders[::-1] if isinstance(it, (ast.FunctionDef, ast.Lambda))), None)
+    if inner and node in {it for part in ast.iter_child_nodes(inner.args) for it in ast.walk(part)}:
+        return [_spot(path, it) for it in (inner.body if isinstance(inner, ast.FunctionDef) else [inner])]
     if inner:
         return [_spot(path, node)]
     names = set().union(*(_names_set(it) for it in holders))

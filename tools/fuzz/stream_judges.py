@@ -199,6 +199,10 @@ def judge_log(program: Runner, case: Case, where: Where) -> Answer:
     return answer
 
 
+def judge_odd(program: Runner, case: Case, where: Where) -> None:
+    judge_log(program, case, where)
+
+
 # ---- kinds
 
 
@@ -322,7 +326,7 @@ def judge_answers(program: Runner, asked: Asked, log: bytes, answer: Answer, whe
 
 def wanted_of(asked: Asked, log: Log) -> cases.Ended:
     """What has to be printed of a log."""
-    rows = [(entry.region, entry.handle, entry.count if log.has_counts else 1) for entry in log.entries]
+    rows = [(entry.region, entry.handle, entry.number if log.has_counts else 1) for entry in log.entries]
     if asked.command == "places":
         lines = [line for _, handle, _ in rows for line in asked.service.places(handle)]
         return csv_of(PLACES.decode().strip(), lines), b"", 0
@@ -488,6 +492,6 @@ KINDS: dict[str, Kind] = {
     "stream_settings": Kind(of_settings(), judge_settings),
     "stream_costs": Kind(of_costs(), judge_costs),
     "stream_plan": Kind(of_plans(), judge_plan),
-    **{command: Kind(odd(command), judge_log) for command in WORDS},
+    **{command: Kind(odd(command), judge_odd) for command in WORDS},
     **{f"written_{command}": Kind(written(command), judge_written) for command in WORDS},
 }

@@ -19,6 +19,7 @@ import shutil
 import subprocess
 import sys
 import tempfile
+from collections.abc import Callable
 from pathlib import Path
 
 sys.path.insert(0, str(Path(__file__).resolve().parents[1]))
@@ -27,7 +28,7 @@ from lib import programs
 
 FILES = os.path.join(programs.TOP, "completions")
 COMMANDS = ["check", "dispatch", "locate", "plan", "report", "site"]
-CASES = [
+CASES: list[tuple[str, list[str]]] = [
     ("hsplan ", COMMANDS),
     ("hsplan re", ["report"]),
     ("hsplan locate --op", ["--option"]),
@@ -90,13 +91,13 @@ CASES = [
 ]
 
 
-def printed(command, folder):
+def printed(command: list[str], folder: str) -> str:
     return subprocess.run(
         command, cwd=folder, stdout=subprocess.PIPE, stderr=subprocess.STDOUT, text=True, timeout=60
     ).stdout
 
 
-def ask_bash(line, folder):
+def ask_bash(line: str, folder: str) -> list[str]:
     parts = [re.split("(=)", it) for it in shlex.split(line)]  # bash parts words there
     words = [it for part in parts for it in part] + ([""] if line.endswith(" ") else [])
     listed = " ".join(shlex.quote(it) for it in words)
@@ -106,7 +107,7 @@ def ask_bash(line, folder):
     return sorted(it for it in printed(["bash", "-c", script], folder).splitlines() if it)
 
 
-def ask_fish(line, folder):
+def ask_fish(line: str, folder: str) -> list[str]:
     script = f"source {FILES}/{line.split()[0]}.fish; complete -C {shlex.quote(line)}"
     return sorted(it.split("\t")[0] for it in printed(["fish", "--no-config", "-c", script], folder).splitlines())
 
@@ -122,7 +123,7 @@ PS1='ready>'
 """
 
 
-def drained(terminal, until, seconds):
+def drained(terminal: int, until: bytes, seconds: float) -> bytes:
     """What a terminal shows, up to a text or until no octet has come for the given number of seconds."""
     shown = b""
     while until not in shown and select.select([terminal], [], [], seconds)[0]:
@@ -133,7 +134,7 @@ def drained(terminal, until, seconds):
     return shown
 
 
-def ask_zsh(line, folder):
+def ask_zsh(line: str, folder: str) -> list[str]:
     """The last word of the line after Tab, as a list. The list is empty where the line did not change. An option with
     an argument gets an equals sign, which a space takes away again."""
     with tempfile.TemporaryDirectory() as home:
@@ -153,7 +154,7 @@ def ask_zsh(line, folder):
     return [after.split(" ")[-1].removesuffix("=")] if after != line.rstrip() else []
 
 
-def shown(shell, line, wanted):
+def shown(shell: str, line: str, wanted: list[str]) -> list[str]:
     """What a shell shows of the wanted completions: fish shows options only after a hyphen, bash puts the slash behind
     a folder itself, and fish and zsh show the whole word of `--option=value`."""
     option, sign, _ = line.split(" ")[-1].partition("=")
@@ -162,7 +163,7 @@ def shown(shell, line, wanted):
     return [it for it in own if shell != "fish" or option or not it.startswith("-")]
 
 
-def tried(shell, ask):
+def tried(shell: str, ask: Callable[[str, str], list[str]]) -> tuple[list[str], int]:
     """The faults of the lines that a shell completes differently, and how many lines it was asked."""
     cases = [it for it in CASES if shell != "zsh" or len(it[1]) < 2]
     with tempfile.TemporaryDirectory() as folder:
@@ -175,7 +176,7 @@ def tried(shell, ask):
     ], len(cases)
 
 
-def main():
+def main() -> int:
     arguments = argparse.ArgumentParser(description="Tries the completions in the shells that are installed.")
     arguments.add_argument("--all", action="store_true", help="treat a shell that is not installed as a fault")
     wants_all = arguments.parse_args().all

@@ -1,5 +1,5 @@
 #!/usr/bin/env python3
-"""Checks the names and counts in the documents, runs each command of the documents with the built program, and
+"""Checks the names in the documents, runs each command of the documents with the built program, and
 compares what the commands print with what the documents show.
 
 The commands are those of the blocks marked `console`. The lines of such a block are a transcript, as
@@ -11,15 +11,13 @@ It fails where
 
 - the README or docs/understand/ARCHITECTURE.md does not name a crate of crates.txt;
 - a table of modules of docs/understand/ARCHITECTURE.md names one that is not there, or lacks one;
-- docs/maintain/GATE.md states another number of edits, tests, wrong bodies, crates or cases of the program than there
-  is;
 - a document names a link, a `make` target or a script that is not there;
 - a word of a fault has no row in docs/use/FAULTS.md or no paragraph in a manual page;
 - the README states another logic of the kit than this machine's kit has;
 - a command stands in a block that is not marked, or prints something else;
 - a file still has the marks of a merge.
 
-    tools/gate/check_docs.py --names               checks the names and counts only, without the program
+    tools/gate/check_docs.py --names               checks the names only, without the program
     tools/gate/check_docs.py [--program FILE]      does all
 """
 from __future__ import annotations
@@ -31,22 +29,23 @@ import re
 import shutil
 import subprocess
 import sys
+from collections.abc import Iterator
 from pathlib import Path
 
 sys.path.insert(0, str(Path(__file__).resolve().parents[1]))
 
-from lib import cases, programs, transcripts
+from lib import programs, transcripts
 
+
+# Faults, and how many things were looked at.
+Found = tuple[list[str], int]
+# The mark of a block, or None between blocks, and its lines.
+Block = tuple[str | None, list[str]]
 
 PAGES = ("docs/use/hsplan.1", "docs/use/hsplan-stream.1", "docs/use/hsp.1")
 
 
-def text_of(path):
-    with open(os.path.join(programs.TOP, path), encoding="utf-8") as file:
-        return file.read()
-
-
-def rows(text):
+def rows(text: str) -> list[list[str]]:
     """The cells of each row of a table, without heads and rules."""
     lines = [it for it in text.splitlines() if it.startswith("|")]
     cells = [[cell.strip() for cell in it.strip("|").split("|")] for it in lines]
@@ -57,30 +56,22 @@ def rows(text):
     ]
 
 
-def is_rule(line):
+def is_rule(line: str) -> bool:
     return set(line) <= set("|-: ")
 
 
-def named(cell):
+def named(cell: str) -> list[str]:
     return re.findall(r"`([^`]+)`", cell)
 
 
-def crates_of():
-    return [
-        line.split(":")[0].split()[0]
-        for line in text_of("crates.txt").splitlines()
-        if ":" in line and not line.startswith("#")
-    ]
-
-
-def missing_crates():
+def missing_crates() -> Found:
     """The crates that a document does not name, and how many crates there are."""
-    crates = crates_of()
+    crates = list(programs.dependencies())
     faults = [
         f"{path} does not name the crate {it}"
         for path in ("README.md", "docs/understand/ARCHITECTURE.md")
         for it in crates
-        if f"`{it}`" not in text_of(path)
+        if f"`{it}`" not in programs.text_of(path)
     ]
     return faults, len(crates)
 
@@ -89,12 +80,13 @@ def missing_crates():
 EVERYWHERE = {"lib", "main", "laws", "fault"}
 
 
-def wrong_modules():
+def wrong_modules() -> Found:
     """The modules that a table of docs/understand/ARCHITECTURE.md names and that are not there, or that it lacks; and
     how many it names."""
-    faults, count = [], 0
+    faults: list[str] = []
+    count = 0
     head = r"(?:^The modules of `(\w+)`:|^\*\*`(\w+)`\*\*[^\n]*)\n\n(\| Modules \|.*?)(?:\n\n|\Z)"
-    for plain, bold, table in re.findall(head, text_of("docs/understand/ARCHITECTURE.md"), re.M | re.S):
+    for plain, bold, table in re.findall(head, programs.text_of("docs/understand/ARCHITECTURE.md"), re.M | re.S):
         crate = plain or bold
         stated = {it for row in rows(table) for it in named(row[0])}
         there = {os.path.basename(it)[:-3] for it in glob.glob(f"{programs.TOP}/crates/{crate}/src/*.rt")}
@@ -110,47 +102,7 @@ def wrong_modules():
     return faults, count
 
 
-def tests_of(crate):
-    """The number of tests in the sources of a crate."""
-    paths = glob.glob(f"{programs.TOP}/crates/{crate}/src/**/*.rt", recursive=True)
-    return sum(len(re.findall(r"^\s*#\[test\]$", text_of(os.path.relpath(it, programs.TOP)), re.M)) for it in paths)
-
-
-def there_of(crate):
-    """The numbers of must-fail edits, tests and wrong bodies of a crate, which docs/maintain/GATE.md has to state."""
-    edits = glob.glob(f"{programs.TOP}/crates/{crate}/must-fail/*.edit")
-    bodies = glob.glob(f"{programs.TOP}/mutants/{crate}/*.edit")
-    return [len(edits), tests_of(crate), len(bodies)]
-
-
-def wrong_counts():
-    """The counts of docs/maintain/GATE.md that differ from what is there, and how many crates it counts."""
-    there = {it: there_of(it) for it in crates_of()}
-    stated = {
-        named(it[0])[0]: it[4:] for it in rows(text_of("docs/maintain/GATE.md")) if len(it) == 7 and named(it[0])
-    }
-    faults = [
-        f"docs/maintain/GATE.md counts a crate that is not in crates.txt: {it}" for it in stated if it not in there
-    ]
-    for crate, counts in there.items():
-        wanted = [str(it) for it in counts]
-        if stated.get(crate) != wanted:
-            faults.append(
-                f"docs/maintain/GATE.md: edits, tests and wrong bodies of {crate}: "
-                f"stated {stated.get(crate)}, there are {wanted}"
-            )
-    sums = (
-        [len(there)]
-        + [sum(it[at] for it in there.values()) for at in range(3)]
-        + [sum(len(cases.cases_in(it)) for it in programs.PROGRAMS)]
-    )
-    sentence = "{} crates, {} must-fail edits, {} tests, {} wrong bodies and {} cases of the programs".format(*sums)
-    if sentence not in " ".join(text_of("docs/maintain/GATE.md").split()):
-        faults.append(f"docs/maintain/GATE.md does not say: {sentence}")
-    return faults, len(stated)
-
-
-def documents():
+def documents() -> list[str]:
     """The paths of the documents in Markdown."""
     paths = (
         glob.glob(f"{programs.TOP}/*.md")
@@ -160,38 +112,42 @@ def documents():
     return sorted(os.path.relpath(it, programs.TOP) for it in paths)
 
 
-def blocks(text):
+def blocks(text: str) -> list[Block]:
     """The blocks of a document, each as its mark and its lines. The text between blocks has the mark None."""
     parts = re.split(r"^```(.*)\n", text, flags=re.M)
-    marks = [None] + parts[1::2]
+    marks: list[str | None] = [None, *parts[1::2]]
     return [(mark if at % 2 else None, part.splitlines()) for at, (mark, part) in enumerate(zip(marks, parts[0::2]))]
 
 
-def missing_links():
+def missing_links() -> Found:
     """The links of documents to files and headings that are not there, and how many links there are."""
     inline, named = r"\]\(([^)#:]*(?:#[^)]*)?)\)", r"^\[\w+\]: ([^#:\s]*(?:#\S*)?)$"
     links = [
-        (path, it) for path in documents() for kind in (inline, named) for it in re.findall(kind, text_of(path), re.M)
+        (path, it)
+        for path in documents()
+        for kind in (inline, named)
+        for it in re.findall(kind, programs.text_of(path), re.M)
     ]
     return [f"{path} links to nothing: {it}" for path, it in links if not leads_somewhere(path, it)], len(links)
 
 
-def leads_somewhere(path, target):
+def leads_somewhere(path: str, target: str) -> bool:
     file, _, heading = target.partition("#")
     aim = os.path.normpath(os.path.join(os.path.dirname(path), file)) if file else path
     if not os.path.exists(os.path.join(programs.TOP, aim)):
         return False
-    titles = re.findall(r"^#+ (.*)$", text_of(aim), re.M) if aim.endswith(".md") else []
+    titles = re.findall(r"^#+ (.*)$", programs.text_of(aim), re.M) if aim.endswith(".md") else []
     return not heading or heading in [re.sub(r"[^a-z0-9 -]", "", it.lower()).replace(" ", "-") for it in titles]
 
 
-def missing_targets():
+def missing_targets() -> Found:
     """The `make` targets and scripts that documents name and that are not there, and how many they name."""
-    targets = set(re.findall(r"^([a-z]+):", text_of("Makefile"), re.M))
-    faults, count = [], 0
+    targets = set(re.findall(r"^([a-z]+):", programs.text_of("Makefile"), re.M))
+    faults: list[str] = []
+    count = 0
     for path in documents():
-        makes = re.findall(r"(?:`|^    )make ([a-z]+)", text_of(path), re.M)
-        scripts = re.findall(r"\btools/[a-z_/]+\.(?:py|c|cpp)\b", text_of(path))
+        makes = re.findall(r"(?:`|^    )make ([a-z]+)", programs.text_of(path), re.M)
+        scripts = re.findall(r"\btools/[a-z_/]+\.(?:py|c|cpp)\b", programs.text_of(path))
         count += len(makes) + len(scripts)
         faults += [
             f"{path} names a target that the Makefile does not have: {it}" for it in makes if it not in targets
@@ -204,12 +160,12 @@ def missing_targets():
     return faults, count
 
 
-def unmarked():
+def unmarked() -> Found:
     """The commands that stand outside of the blocks marked `console`, and how many lines stand there."""
     lines = [
         (path, it)
         for path in documents()
-        for mark, block in blocks(text_of(path))
+        for mark, block in blocks(programs.text_of(path))
         if mark != "console"
         for it in block
     ]
@@ -220,48 +176,49 @@ def unmarked():
     ], len(lines)
 
 
-def fault_words():
+def fault_words() -> list[str]:
     """The words that the line of a fault may have, from the sources."""
     sources = [f"crates/hsp_faults/src/{it}" for it in ("fault_text.rt", "fault_words.rt", "verdict_text.rt")]
     sources.append("crates/hsp_stream/src/fault_text.rt")
-    found = [word for it in sources for word in re.findall(r'b"(?:\d+ )?([A-Z][A-Za-z0-9]+)', text_of(it))]
+    found = [word for it in sources for word in re.findall(r'b"(?:\d+ )?([A-Z][A-Za-z0-9]+)', programs.text_of(it))]
     return sorted(set(found) | {"Usage", "read failed", "write failed"})
 
 
-def missing_words():
+def missing_words() -> Found:
     """The words of faults without a row in docs/use/FAULTS.md or a paragraph in a manual page, and how many words
     there are."""
     listed = {
         cell.split()[-1] if cell[:1].isdigit() or cell.startswith("log: ") else cell
-        for cell in (it[0] for it in rows(text_of("docs/use/FAULTS.md")))
+        for cell in (it[0] for it in rows(programs.text_of("docs/use/FAULTS.md")))
     }
     manual = {
         it.split()[-1] if it.startswith("log:") else it
         for page in PAGES
-        for it in re.findall(r"^\.B (.*)$", text_of(page), re.M)
+        for it in re.findall(r"^\.B (.*)$", programs.text_of(page), re.M)
     }
     words = fault_words()
     faults = [f"docs/use/FAULTS.md has no row for {it}" for it in words if it not in listed]
     return faults + [f"no manual page has a paragraph for {it}" for it in words if it not in manual], len(words)
 
 
-def manual_steps(page):
+def manual_steps(page: str) -> list[transcripts.Step]:
     """The commands of a manual page."""
-    examples = re.findall(r"^\.EX\n(.*?)^\.EE$", text_of(page), re.M | re.S)
+    examples = re.findall(r"^\.EX\n(.*?)^\.EE$", programs.text_of(page), re.M | re.S)
     lines = [line.replace("\\-", "-").replace("\\e", "\\") for it in examples for line in it.splitlines()]
     return transcripts.steps_of(lines)
 
 
-def files():
+def files() -> Iterator[str]:
     """The files of the repository, without what git keeps, compiled Python and what the folders `out` hold."""
     for at, folders, names in os.walk(programs.TOP):
         folders[:] = sorted(it for it in folders if it not in (".git", "out", "__pycache__"))
         yield from (os.path.join(at, it) for it in names)
 
 
-def merge_marks():
+def merge_marks() -> Found:
     """The marks of a merge that were left in files, and how many files there are."""
-    faults, count = [], 0
+    faults: list[str] = []
+    count = 0
     for path in files():
         count += 1
         with open(path, "rb") as file:
@@ -274,7 +231,7 @@ def merge_marks():
     return faults, count
 
 
-def wrong_kit():
+def wrong_kit() -> Found:
     """The fault where the README does not name the kit of this machine. The README states the sum of the kit's logic,
     and any kit 13 with this logic will do."""
     if not shutil.which("rt"):
@@ -285,17 +242,20 @@ def wrong_kit():
     fine = (
         logic
         and name.startswith("rattle-kit-13")
-        and f"`logic {logic}`" in text_of("README.md")
-        and "`rattle-kit-13`" in text_of("README.md")
+        and f"`logic {logic}`" in programs.text_of("README.md")
+        and "`rattle-kit-13`" in programs.text_of("README.md")
     )
     return [] if fine else [f"README.md does not name this machine's kit: {said}"], 1
 
 
-def wrong_commands(program):
+def wrong_commands(program: str) -> Found:
     """The commands of the documents that print something other than the documents show, and how many there are."""
     found = {
         path: [
-            step for mark, lines in blocks(text_of(path)) if mark == "console" for step in transcripts.steps_of(lines)
+            step
+            for mark, lines in blocks(programs.text_of(path))
+            if mark == "console"
+            for step in transcripts.steps_of(lines)
         ]
         for path in documents()
     }
@@ -312,7 +272,7 @@ def wrong_commands(program):
     return faults, sum(len(it) for it in found.values())
 
 
-def wrong_in(shell, found, program):
+def wrong_in(shell: str, found: dict[str, list[transcripts.Step]], program: str) -> list[str]:
     """The commands of operators' pages that print something else in another shell than bash, if that is installed."""
     if not shutil.which(shell):
         print(f"{shell} IS NOT INSTALLED HERE: the commands of operators' pages were not tried with it")
@@ -328,7 +288,6 @@ def wrong_in(shell, found, program):
 KINDS = {
     "crates": missing_crates,
     "modules of crates": wrong_modules,
-    "crates counted": wrong_counts,
     "links": missing_links,
     "targets and scripts": missing_targets,
     "lines outside of transcripts": unmarked,
@@ -338,7 +297,7 @@ KINDS = {
 }
 
 
-def main():
+def main() -> int:
     arguments = argparse.ArgumentParser(description="Checks the names in the documents, and runs their commands.")
     arguments.add_argument("--names", action="store_true", help="run no command")
     arguments.add_argument(

@@ -150,7 +150,9 @@ def check_kinds(it: Programs, draw: random.Random) -> list[str]:
 
 def check_places(it: Programs, draw: random.Random) -> list[str]:
     rows = [entry for entry in oracle.entries(draw, 500) if "\r" not in entry[1]]
-    wanted = log_of("handle,site,place,server_id", (line for _, handle in rows for line in oracle.THREE.places(handle)))
+    wanted = log_of(
+        "handle,site,place,server_id", (line for _, handle in rows for line in oracle.THREE.places(handle))
+    )
     found = fault("places", it.run(PLACES, log_of("region,handle", rows)), (wanted, b"", 0))
     return found + fault(
         "places of handles", it.run(PLACES, log_of("handle", ([it] for _, it in rows))), (wanted, b"", 0)

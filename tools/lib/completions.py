@@ -188,12 +188,9 @@ def _of_zsh(option: Option) -> str:
 
 
 def _arguments(command: Command) -> str:
-    words = {FILE: ["'*:file:_files'"], FOLDER: ["'1:folder:_files -/'"], f"{FOLDER} {FILE}": []}.get(
-        command.words, []
-    )
-    if command.words == f"{FOLDER} {FILE}":
-        words = ["'1:folder:_files -/'", "'*:file:_files'"]
-    listed = [*map(_of_zsh, command.options), *words]
+    folder, files = "'1:folder:_files -/'", "'*:file:_files'"
+    words = {FILE: [files], FOLDER: [folder], f"{FOLDER} {FILE}": [folder, files]}
+    listed = [*map(_of_zsh, command.options), *words.get(command.words, [])]
     joined = " \\\n                ".join(["_arguments", *listed])
     return joined
 

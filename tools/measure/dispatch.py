@@ -93,7 +93,10 @@ def answers_of(words: list[str]) -> str:
     """The digest of what a run prints."""
     with subprocess.Popen(words, stdout=subprocess.PIPE, stderr=subprocess.DEVNULL) as run:
         assert run.stdout
-        return hashlib.file_digest(run.stdout, "sha256").hexdigest()
+        digest = hashlib.sha256()
+        while block := run.stdout.read(1 << 20):
+            digest.update(block)
+        return digest.hexdigest()
 
 
 def measure(kinds: list[Way], many: int, turns: int) -> dict[str, list[float]]:

@@ -50,7 +50,7 @@ def ran(words: list[str], folder: str, environment: dict[str, str], out: str = o
 def put_logs(folder: str, rows: list[str], counts: list[int], many: int) -> None:
     """The log of all fronts, a file of each front, and one of each without rows."""
     draw = random.Random(2)
-    whole = instances.log(folder, "rows", "region,handle", rows, counts, many, draw)
+    whole = instances.log(folder, "rows", ["region,handle", *rows], counts, many, draw)
     fronts = [open(os.path.join(folder, f"front-{it}.csv"), "w") for it in range(FRONTS)]
     with open(whole) as lines, open(os.path.join(folder, "events.csv"), "w") as events:
         head = next(lines)
