@@ -145,9 +145,9 @@ given_sums it all given.Spent among = grind arith
 given_sums it all given.Unknown among = grind arith
 given_sums it all (given.Refused refusal) among = grind arith
 
--- ---- desks
+-- ---- responders
 
--- a desk has answered rows since it was `first`
+-- a responder has answered rows since it was `first`
 pub record HasAnswered (first last : Answering) (rows lines : List (List ℕ)) : Type 0 where
   pub costs : last.kind_dispatcher.costs ≡ first.kind_dispatcher.costs
   pub instance : last.kind_dispatcher.held.instance ≡ first.kind_dispatcher.held.instance

@@ -1,4 +1,4 @@
--- Talks at a desk that answers rows.
+-- Talks at a responder that answers rows.
 use Rattle.std.proofs.Common.{◌≡◌, ◌≢◌, ◌∙◌, ℕ, List, [], map, Option, None, Some, Result, Ok, Err, IfErr, refl, ap}
 use Rattle.hsp_tables.specs.Costs.{CostEntry}
 use Rattle.hsp_instance.specs.Instance.{Instance}
@@ -26,7 +26,7 @@ use Rattle.hsp_stream.specs.declared.given.StreamSums.{StreamSums}
 use Rattle.hsp_stream.proofs.RowsAnswered.{answers_all, answers_none}
 
 abbrev pub RefusesRow : Answering → List ℕ → Answering → NoHeader → Type 0
-RefusesRow desk row next fault = IsNoHeader desk.form row
+RefusesRow responder row next fault = IsNoHeader responder.form row
 
 module _ (first : Answering) (form : first.form ≡ None) (none : first.sums ≡ none_said) where
   -- what was taken was answered

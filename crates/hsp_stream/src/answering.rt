@@ -48,8 +48,8 @@ fn answer_portion<P: Peer>(
         &accepted.certificate,
         portion,
     )?;
-    let mut desk = Answerer::new(alloc, costs, dispatcher)?;
-    answer_rows(alloc, &mut desk, peer)
+    let mut responder = Answerer::new(alloc, costs, dispatcher)?;
+    answer_rows(alloc, &mut responder, peer)
 }
 
 // The same by the costs of the inputs. They were read before, so that only memory can run out.
