@@ -217,11 +217,11 @@ def sound(
         for line in list(finding_lines(found.errors))[:-1]:
             say(line, err=True)
         sys.exit(found.status)
-    warnings = [it for it in found.warnings if it.kind != OLD_PLAN]
-    for it in (it for it in warnings if it.kind == MUCH_ADDED):
-        say(f"hsp: {it.message}; {it.remedy}", err=True)
+    warnings = [warning for warning in found.warnings if warning.kind != OLD_PLAN]
+    for warning in (warning for warning in warnings if warning.kind == MUCH_ADDED):
+        say(f"hsp: {warning.message}; {warning.remedy}", err=True)
     if warnings:
-        titles = visible(listed(dict.fromkeys(it.message for it in warnings), 2))
+        titles = visible(listed(dict.fromkeys(warning.message for warning in warnings), 2))
         say(f"hsp: {some(len(warnings), 'warning')}: {titles} (hsp doctor {visible(shell_word(folder))})", err=True)
     return found.service
 
@@ -249,23 +249,23 @@ def json_of(plan: Planned, reference: Reference | None) -> str:
     """What the lines show, for other programs."""
     servers = [
         {
-            "site": it.site,
-            "server_id": it.id,
-            "load": plan.loads[it.number],
-            "capacity": plan.service.capacity(it),
-            "price": plan.prices[it.number],
+            "site": server.site,
+            "server_id": server.id,
+            "load": plan.loads[server.number],
+            "capacity": plan.service.capacity(server),
+            "price": plan.prices[server.number],
         }
-        for it in plan.service.servers
+        for server in plan.service.servers
     ]
     gains = [
         {
-            "site": it.server.site,
-            "server_id": it.server.id,
-            "one_query_saves": it.one,
-            "room": it.room,
-            "room_saves": it.all,
+            "site": gain.server.site,
+            "server_id": gain.server.id,
+            "one_query_saves": gain.one,
+            "room": gain.room,
+            "room_saves": gain.all,
         }
-        for it in plan.gains
+        for gain in plan.gains
     ]
     shares = [{"region": a, "site": b, "queries": c, "share": d} for a, b, c, d in shares_of(plan)]
     regional = by_shares(plan)
@@ -279,7 +279,7 @@ def json_of(plan: Planned, reference: Reference | None) -> str:
         "cost_at_cheapest_sites": reference.cost if reference else None,
         "servers": servers,
         "room": gains,
-        "regions": [{"region": it, "queries": a, "cost": b} for it, (a, b) in plan.regions.items()],
+        "regions": [{"region": region, "queries": a, "cost": b} for region, (a, b) in plan.regions.items()],
         "shares": shares,
         "by_shares_alone": {"servers_too_full": regional.servers, "queries_too_many": regional.queries},
     }
@@ -293,7 +293,9 @@ def show_shortage(service: Service, desk: Desk, as_json: bool) -> None:
     after = with_purchase(service, desk, bought) if bought else None
     if as_json:
         purchase = [
-            {"site": it.site, "server_id": it.id, "more": more} for it, more in (bought or {}).items() if after
+            {"site": server.site, "server_id": server.id, "more": more}
+            for server, more in (bought or {}).items()
+            if after
         ]
         report = {"title": service.titles.title, "served": False, "queries": service.asked, "lack": short.lack}
         give(json.dumps({**report, "least_purchase": purchase or None}, indent=2, ensure_ascii=False) + "\n")
@@ -347,7 +349,7 @@ def plan(
     found = planned(service, desk)
     reference = cheapest(service, desk)
     if not as_csv:
-        priced = [it for it in service.servers if found.prices[it.number] > 0 and found.is_full(it)]
+        priced = [server for server in service.servers if found.prices[server.number] > 0 and found.is_full(server)]
         found = with_gains(found, desk, progress(len(priced)))
     verdict = desk.verdict(service.inputs, service.plan_file)
     if verdict != "yes":
@@ -370,7 +372,7 @@ def name_of_earlier(old: Service, now: Service) -> str:
     """The title of another folder's plan. Where both have one title, the folder is named too."""
     if old.titles.title != now.titles.title:
         return old.titles.title
-    own, other = (os.path.abspath(it.folder).split(os.sep) for it in (old, now))
+    own, other = (os.path.abspath(service.folder).split(os.sep) for service in (old, now))
     parts = next((at for at in range(1, len(own)) if own[-at:] != other[-at:]), 1)
     return f"{old.titles.title} ({os.sep.join(own[-parts:])})"
 
@@ -381,11 +383,15 @@ def earlier(folder: str, desk: Desk, now: Service) -> tuple[Service, Reference] 
     if not old.certificate.is_plan:
         return None
     found = planned(old, desk)
-    loads = {(it.site, it.id): found.loads[it.number] for it in old.servers}
+    loads = {(server.site, server.id): found.loads[server.number] for server in old.servers}
     numbers = {site.name: at for at, site in enumerate(now.sites)}
     names = [site.name for site in old.sites]
-    shares = {(region, numbers[names[at]]): it for (region, at), it in found.shares.items() if names[at] in numbers}
-    before = [loads.get((it.site, it.id), 0) for it in now.servers]
+    shares = {
+        (region, numbers[names[at]]): queries
+        for (region, at), queries in found.shares.items()
+        if names[at] in numbers
+    }
+    before = [loads.get((server.site, server.id), 0) for server in now.servers]
     words = f"in the plan of {name_of_earlier(old, now)}"
     return old, Reference(words, found.cost, old.asked, before, found.regions, shares)
 
@@ -401,7 +407,7 @@ def view_of(service: Service, desk: Desk, before: str | None) -> View:
         shown.bought = bought if bought and after else {}
     if after:
         found = planned(after, desk)
-        shown.plan = with_gains(found, desk, progress(sum(it > 0 for it in found.prices)))
+        shown.plan = with_gains(found, desk, progress(sum(price > 0 for price in found.prices)))
         if desk.verdict(after.inputs, after.plan_file) != "yes":
             raise Missing("hsplan check doesn't say yes to hsplan's own plan: please report this with your files")
     held = earlier(before, desk, service) if before else None
@@ -497,7 +503,7 @@ class WordsBehind(click.Command):
         if "--" in args:
             at = args.index("--")
             context.meta["words"] = args[at + 1 :]
-            if [it for it in args[:at] if it not in ("--json", "--strict")]:
+            if [arg for arg in args[:at] if arg not in ("--json", "--strict")]:
                 context.fail("give either DIR, or the words of a command of hsplan behind --")
             args = args[:at]
         first = args[0] if args else ""

@@ -26,7 +26,7 @@ def step(command: str, why: str) -> str:
 def next_lines(folder: str, desk: Desk) -> Iterator[str]:
     """What stands in the folder, and the command that comes next there."""
     at = _behind(folder)
-    there = [it for it in NAMES.values() if os.path.exists(os.path.join(folder, it))]
+    there = [name for name in NAMES.values() if os.path.exists(os.path.join(folder, name))]
     if not there:
         yield f"no service here: a folder of one has {listed(NAMES.values())}"
         yield step("hsp new DIR", "makes such a folder")
@@ -61,7 +61,7 @@ def networks_in(folder: str) -> list[str]:
 def costs_first(service: Service) -> str:
     """What the costs lack before a demand is counted: many handles are joined by them. Nothing where all is there."""
     paying = {region for region, _ in service.costs}
-    lacking = [it for it in networks_in(service.folder) if it not in paying]
+    lacking = [asked for asked in networks_in(service.folder) if asked not in paying]
     if paying and not lacking:
         return ""
     which = f" of {listed(lacking, 6)}" if lacking else ""

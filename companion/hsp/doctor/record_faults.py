@@ -211,7 +211,7 @@ def _indices(question: Question) -> str:
         return ""
     path = question.path("values")
     usual = [*range(1, 33), 100, 101, 200, 300, 301]
-    good = [str(it) for it in usual if not run("hsplan", "site", f"--index={it}", path).status]
+    good = [str(index) for index in usual if not run("hsplan", "site", f"--index={index}", path).status]
     return " or ".join(good[:4])
 
 
@@ -254,7 +254,7 @@ def bad_file(question: Question, said: Said, kind: str) -> Explained:
     """A file that is no record, or no value list."""
     draft = question.files[kind]
     octets = draft.original.octets
-    if kind == "values" or any(it.startswith("--index") for it in question.options):
+    if kind == "values" or any(option.startswith("--index") for option in question.options):
         return _bad_list(question, said, kind)
     advised, _ = record_words(octets, said, draft.original.path, question.desk)
     place = Place()
@@ -298,8 +298,8 @@ def value_of_list(question: Question, said: Said) -> Explained:
     """`hsplan site --index`: the list has no value there, or another one."""
     draft = question.files["file"]
     path = draft.original.path
-    index = next((it.partition("=")[2] for it in question.options if it.startswith("--index")), "")
-    good = [str(it) for it in range(1, 33) if not run("hsplan", "site", f"--index={it}", path).status]
+    index = next((option.partition("=")[2] for option in question.options if option.startswith("--index")), "")
+    good = [str(number) for number in range(1, 33) if not run("hsplan", "site", f"--index={number}", path).status]
     why = "no value has this index" if said.word == "NoValue" else "the value with this index is no HS_SITE"
     remedy = f"write --index {good[0]}" if good else "look up the index of the site's value"
     return Explained(found(path, Place(), Words(f"no site at index {index}", remedy, why), said.line), [])

@@ -35,7 +35,7 @@ def inputs_of(files: dict[str, str]) -> Inputs | None:
 
 def form_of(said: Request) -> Form:
     pattern = re.compile(os.fsencode(said["pattern"])) if said["pattern"] else None
-    prefixes = frozenset(os.fsencode(it) for it in said["prefixes"])
+    prefixes = frozenset(os.fsencode(prefix) for prefix in said["prefixes"])
     return Form(said["name"], said["client"], said["handle"], said["path"], pattern, prefixes, said["time"])
 
 
@@ -78,8 +78,8 @@ def merge(request: Request) -> Reply:
     """Adds up the tables of parts."""
     before = request["before"]
     table = merged(before, Table(Desk(), inputs_of(request["files"])))
-    skipped = [it for said in before for it in said["skipped"]]
-    return {**table.said(), "asked": sum(it["asked"] for it in before), "skipped": skipped}
+    skipped = [reason for said in before for reason in said["skipped"]]
+    return {**table.said(), "asked": sum(reason["asked"] for reason in before), "skipped": skipped}
 
 
 WORK: dict[str, Callable[[Request], Reply]] = {"count": count, "merge": merge, "answer": answers.answer}

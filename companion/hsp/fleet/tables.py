@@ -45,9 +45,9 @@ def joined(desk: Desk, inputs: Inputs, counts: Counts) -> Counts:
     finally:
         os.unlink(log)
     base = math.isqrt(most) + 1
-    high = joined(desk, inputs, [(it, count // base) for it, count in counts])
-    low = joined(desk, inputs, [(it, count % base) for it, count in counts])
-    return [(it, base * more + less) for (it, more), (_, less) in zip(high, low, strict=True)]
+    high = joined(desk, inputs, [(pair, count // base) for pair, count in counts])
+    low = joined(desk, inputs, [(pair, count % base) for pair, count in counts])
+    return [(pair, base * more + less) for (pair, more), (_, less) in zip(high, low, strict=True)]
 
 
 @dataclass
@@ -92,9 +92,9 @@ class Table:
 
 def merged(tables: Iterable[dict[str, object]], into: Table) -> Table:
     """The tables of parts as one, in their order."""
-    for it in tables:
-        into.is_joined |= bool(it["is_joined"])
-        into.add(counts_in(str(it["table"])))
+    for table in tables:
+        into.is_joined |= bool(table["is_joined"])
+        into.add(counts_in(str(table["table"])))
     if into.is_joined:
         into.join()
     return into
@@ -103,8 +103,8 @@ def merged(tables: Iterable[dict[str, object]], into: Table) -> Table:
 def skipped_of(parts: Iterable[dict[str, object]]) -> Skipped:
     """What was passed over in all parts, and where the first line of each reason stands."""
     whole = Skipped()
-    for it in parts:
-        counts, first = it["counts"], it["first"]
+    for part in parts:
+        counts, first = part["counts"], part["first"]
         assert isinstance(counts, dict) and isinstance(first, dict)
         for reason, count in counts.items():
             whole.first.setdefault(reason, first[reason])

@@ -48,7 +48,7 @@ def new(folder: str, example: bool) -> None:
     No file is overwritten.
     """
     paths = create(folder, skeleton.example() if example else skeleton.empty())
-    say(f"{folder} has {listed([os.path.basename(it) for it in paths], 9)}")
+    say(f"{folder} has {listed([os.path.basename(path) for path in paths], 9)}")
     next_one = "hsp plan" if example else "hsp sites FILE.. --into"
     say(f"next: {next_one} {shell_word(folder)}")
 
@@ -71,18 +71,18 @@ def gathered(paths: tuple[str, ...], names: tuple[str, ...], files: Files) -> li
     """The sites of all files under the given names. A record that came before is left out."""
     found: list[Found] = []
     for path in paths:
-        for it in files.read(path, octets_of(path)):
-            twin = next((other for other in found if other.octets == it.octets), None)
+        for site in files.read(path, octets_of(path)):
+            twin = next((other for other in found if other.octets == site.octets), None)
             if twin:
                 files.left.append(f"{path}: the record of {twin.name} once more")
             else:
-                found.append(it)
-    if any(not is_utf8(it) for it in names):
+                found.append(site)
+    if any(not is_utf8(given) for given in names):
         raise Unfit("a name isn't text")
     if len(names) > len(found):
         raise Unfit(f"{some(len(names), 'name')} for {some(len(found), 'site')}")
-    named = [replace(it, name=name) for it, name in zip(found, names)] + found[len(names) :]
-    if len({it.name for it in named}) < len(named):
+    named = [replace(site, name=name) for site, name in zip(found, names)] + found[len(names) :]
+    if len({site.name for site in named}) < len(named):
         raise Unfit("two sites have the same name; give each its own --name")
     return named
 
@@ -102,16 +102,16 @@ def sites(paths: tuple[str, ...], into: str | None, names: tuple[str, ...], capa
     written.
     """
     if into:
-        refuse_clashes(paths, [path_in(into, NAMES[it]) for it in ("settings", "capacity")])
+        refuse_clashes(paths, [path_in(into, NAMES[kind]) for kind in ("settings", "capacity")])
     desk = Desk()
     files = Files(desk)
     found = gathered(paths, names, files)
-    notes = files.taken + [f"left out: {it}" for it in files.left]
+    notes = files.taken + [f"left out: {left}" for left in files.left]
     if into is None:
         read_back("".join(map(block, found)).encode(), 0, found, desk)
-        for it in found:
-            rows = "".join(f"# {site},{server},{room}\n" for site, server, room in capacity_rows(it, capacity))
-            give(f"{block(it)}# its rows of capacity.csv:\n{rows}")
+        for other in found:
+            rows = "".join(f"# {site},{server},{room}\n" for site, server, room in capacity_rows(other, capacity))
+            give(f"{block(other)}# its rows of capacity.csv:\n{rows}")
         for line in notes:
             say(line, err=True)
         return
@@ -119,13 +119,13 @@ def sites(paths: tuple[str, ...], into: str | None, names: tuple[str, ...], capa
         result = joined(into, found, capacity, desk)
         if result.added:
             replace_all(result.contents)
-    notes += [f"left out: {it.file}: its record is in the settings already" for it in result.known]
-    for line in [line for it in result.added for line in lines_of(it)] + notes:
+    notes += [f"left out: {known.file}: its record is in the settings already" for known in result.known]
+    for line in [line for added in result.added for line in lines_of(added)] + notes:
         say(line)
     if not result.added:
         say("nothing is added")
         return
-    servers = sum(len(it.site().servers) for it in result.added)
+    servers = sum(len(added.site().servers) for added in result.added)
     room = f"with the capacity {capacity:,}" + ("" if capacity else ": put in what each takes")
     where = " and ".join(result.contents)
     say(f"{some(len(result.added), 'site')} added to {where}; {some(servers, 'server')} {room}")
@@ -143,7 +143,7 @@ def form_of(given: dict[str, Any]) -> Form:
         if "client" not in groups or ("handle" in groups) == ("path" in groups):
             wanted = "it needs the groups (?P<client>..), and either (?P<handle>..) or (?P<path>..)"
             raise click.BadParameter(wanted, param_hint="--regex")
-    prefixes = frozenset(os.fsencode(it.rstrip("/").upper()) for it in given["prefix"])
+    prefixes = frozenset(os.fsencode(prefix.rstrip("/").upper()) for prefix in given["prefix"])
     names = given["client"], given["handle"], given["path"] or ""
     return Form(given["format"], *names, pattern, prefixes, given["time"])
 
@@ -173,7 +173,7 @@ def skipped_lines(reading: Reading) -> list[str]:
     """How many lines were passed over, why, and where the first one of each reason stands."""
     if not reading.skipped.counts:
         return []
-    counts = sorted(reading.skipped.counts.items(), key=lambda it: (-it[1], it[0]))
+    counts = sorted(reading.skipped.counts.items(), key=lambda pair: (-pair[1], pair[0]))
     lines = [f"  {count:,}  {reason}; first {reading.skipped.first[reason]}" for reason, count in counts]
     return [f"skipped {some(reading.skipped.sum, 'line')}", *lines]
 
@@ -327,9 +327,9 @@ def with_forms(command: Command) -> Command:
 
 def refuse_own(logs: Sequence[str], regions: str, into: str | None, outputs: Sequence[str], given: Any) -> None:
     """Refuses outputs that are inputs, or one another, or in the place of another file of DIR."""
-    others = [it for kind, it in NAMES.items() if kind != "demand"] + [VALUES, TITLES]
-    beside = [path_in(into, it) for it in others] if into else []
-    own = [given[it] for it in ("settings", "values", "costs") if given[it]]
+    others = [name for kind, name in NAMES.items() if kind != "demand"] + [VALUES, TITLES]
+    beside = [path_in(into, name) for name in others] if into else []
+    own = [given[kind] for kind in ("settings", "values", "costs") if given[kind]]
     refuse_clashes([*logs, regions, *beside, *own], outputs)
 
 
@@ -360,7 +360,7 @@ def demand(logs: tuple[str, ...], regions: str, into: str | None, kept: str | No
     """
     desk = Desk()
     output = output_of(given, into)
-    refuse_own(logs, regions, into, [it for it in (output, kept) if it], given)
+    refuse_own(logs, regions, into, [own for own in (output, kept) if own], given)
     refuse_clashes([path_in(into, NAMES["demand"])] if into else [], [kept] if kept else [])
     reading = Reading(form_of(given), regions_in(regions, given["by"], given["elsewhere"], desk), Judge(desk))
     if sys.stderr.isatty():

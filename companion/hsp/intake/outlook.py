@@ -57,7 +57,7 @@ def _sum(sites: list[Site], costs: Costs) -> int:
 
 def _cheapest(costs: Costs, most: int) -> Costs:
     """The costs of only so many sites of each region, the cheapest ones."""
-    return {region: dict(sorted(own.items(), key=lambda it: it[1])[:most]) for region, own in costs.items()}
+    return {region: dict(sorted(own.items(), key=lambda pair: pair[1])[:most]) for region, own in costs.items()}
 
 
 def _without(site: str, costs: Costs) -> Costs | None:
@@ -70,11 +70,11 @@ def fewer(sites: list[Site], costs: Costs) -> Iterator[str]:
     """What brings most kinds, and how many there are without it."""
     kinds = most_kinds(sites, costs)
     whole = sum(kinds.values())
-    region = max(kinds, key=lambda it: kinds[it])
+    region = max(kinds, key=lambda name: kinds[name])
     if len(kinds) > 1:
         yield f"{whole - kinds[region]:,} remain without region {region}, which brings most"
-    rests = {it.name: _sum(sites, rest) for it in sites if (rest := _without(it.name, costs)) is not None}
-    site = min(rests, key=lambda it: rests[it], default="")
+    rests = {own.name: _sum(sites, rest) for own in sites if (rest := _without(own.name, costs)) is not None}
+    site = min(rests, key=lambda name: rests[name], default="")
     if site and rests[site] < whole:
         yield f"{rests[site]:,} remain without costs to {site}, the site that brings most"
     for most in range(max(map(len, costs.values())) - 1, 0, -1):

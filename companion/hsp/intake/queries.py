@@ -54,14 +54,14 @@ class Judge:
             self._octets = 0
         fresh = list(asked - self._known)
         if fresh:
-            log = LOG_HEAD + b"".join(b"any,%b\n" % field_of(it) for it in fresh)
+            log = LOG_HEAD + b"".join(b"any,%b\n" % field_of(field) for field in fresh)
             for handle, answer in zip(fresh, self._desk.answers_without_sites(log, len(fresh))):
                 if answer.startswith(REFUSED):
                     why = answer.removeprefix(REFUSED).removeprefix(BAD_HANDLE)
                     self._faults[handle] = f"not a handle ({why})"
             self._known.update(fresh)
             self._octets += sum(map(len, fresh)) + BESIDE * len(fresh)
-        return {it: self._faults[it] for it in asked & self._faults.keys()} if self._faults else {}
+        return {own: self._faults[own] for own in asked & self._faults.keys()} if self._faults else {}
 
 
 @dataclass
@@ -81,10 +81,10 @@ class Reading:
 
 def _taker(path: str, form: Form, first: list[tuple[int, bytes]]) -> tuple[Form, Take]:
     """How the lines of a log are taken, by its first lines where no form is named."""
-    lines = [it for _, it in first]
+    lines = [line for _, line in first]
     chosen: Form | None = form
     if form.name == "auto" and not form.pattern:
-        chosen = likeliest((replace(form, name=it) for it in NAMES), lines)
+        chosen = likeliest((replace(form, name=name) for name in NAMES), lines)
         if not chosen:
             raise Unfit(f"{path}: line {first[0][0]}: a log of no known form; {NAME_IT}")
     assert chosen

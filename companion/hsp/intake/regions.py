@@ -90,12 +90,12 @@ class Networks:
             other = found[family].setdefault((first, prefix), region)
             if other != region:
                 rows = self._rows(path, octets)
-                above = next(at for at, it, _ in rows if _network(path, at, it) == (family, first, prefix))
+                above = next(at for at, begin, _ in rows if _network(path, at, begin) == (family, first, prefix))
                 both = f"{shown(region.decode())} here and {shown(other.decode())} in line {above}"
                 raise Unfit(f"{path}: line {line}: {network} has two regions, {both}; take one of the lines out")
         self._ranges = {
-            family: ranges(((*key, region) for key, region in it.items()), BITS[family])
-            for family, it in found.items()
+            family: ranges(((*key, region) for key, region in networks.items()), BITS[family])
+            for family, networks in found.items()
         }
 
     @staticmethod
@@ -217,7 +217,7 @@ def named(places: dict[str, str], desk: Desk) -> None:
     """Refuses a region whose name hsplan refuses. Each has the place where it stands."""
     names = list(places)
     for at in range(0, len(names), AT_ONCE):
-        rows = ([it, "10/1", 1] for it in names[at : at + AT_ONCE])
+        rows = ([own, "10/1", 1] for own in names[at : at + AT_ONCE])
         try:
             desk.plan(desk.without_sites(os.fsencode(table_of(HEADERS["demand"], rows))))
         except Refused as fault:

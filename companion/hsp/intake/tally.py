@@ -39,7 +39,7 @@ def rows_of(counts: Iterable[tuple[Query, int]]) -> Iterator[bytes]:
 
 def _most_first(counts: Counter[Query]) -> list[tuple[Query, int]]:
     """Those with the most queries first, so that the same counts have the same table."""
-    return sorted(counts.items(), key=lambda it: (-it[1], it[0]))
+    return sorted(counts.items(), key=lambda pair: (-pair[1], pair[0]))
 
 
 class Tally:
@@ -136,7 +136,7 @@ class Tally:
             paying = {row[0].encode() for row in table(inputs.costs)}
         except (csv.Error, UnicodeDecodeError) as error:
             raise Unfit(f"{inputs.costs}: not a table: {error}") from None
-        return sorted(it.decode("utf-8", "replace") for it in self.regions - paying)
+        return sorted(region.decode("utf-8", "replace") for region in self.regions - paying)
 
     def _accepted(self, demand: bytes) -> None:
         """Has hsplan read a table of demand before it is written."""

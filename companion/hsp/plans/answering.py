@@ -17,7 +17,7 @@ CAPACITY, SETTINGS = "capacity-in-units.csv", "settings-in-units.toml"
 def answer_command(inputs: Inputs, plan: str, unit: int, log: str = "/dev/stdin") -> str:
     """The command that answers a log by a plan. The inputs are those in units."""
     words = [*inputs.words(), "--plan", plan, *(["--unit", str(unit)] if unit > 1 else []), "--log", log]
-    shown = [it if it.startswith("--") else shlex.quote(named(it)) for it in words]
+    shown = [word if word.startswith("--") else shlex.quote(named(word)) for word in words]
     return " ".join(["hsplan-stream", "answer", *shown])
 
 

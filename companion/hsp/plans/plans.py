@@ -81,7 +81,7 @@ class Planned:
 
     @property
     def full(self) -> list[Server]:
-        return [it for it in self.service.servers if self.is_full(it)]
+        return [server for server in self.service.servers if self.is_full(server)]
 
     def added(self, row: int) -> int:
         """What a row costs above its cheapest site."""
@@ -123,10 +123,10 @@ def _shares(service: Service, certificate: Certificate) -> Shares:
 def _hosts(service: Service, loads: list[int]) -> list[Host]:
     prices = service.certificate.prices("host")
     found = []
-    for it, price in zip(service.settings.get("host", []), prices):
-        own = [server for server in service.servers if server.address == it["address"].lower()]
-        load, limit = sum(loads[server.number] for server in own), it["limit"]
-        found.append(Host(dotted(it["address"]), limit, load, price, own, 0 < limit < load + service.unit))
+    for host, price in zip(service.settings.get("host", []), prices):
+        own = [server for server in service.servers if server.address == host["address"].lower()]
+        load, limit = sum(loads[server.number] for server in own), host["limit"]
+        found.append(Host(dotted(host["address"]), limit, load, price, own, 0 < limit < load + service.unit))
     return found
 
 
@@ -138,13 +138,13 @@ def planned(service: Service, desk: Desk) -> Planned:
     for use in service.certificate.uses:
         uses.setdefault(use.row, []).append((use.site, use.queries))
         sums[service.server(use.site, service.rows[use.row].handle).number] += use.queries
-    loads = [it.load for it in reports]
+    loads = [report.load for report in reports]
     if sums != loads:
         raise Missing("the uses by place differ from hsplan's report of loads: please report this with your files")
     return Planned(
         service,
         loads,
-        [it.price for it in reports],
+        [report.price for report in reports],
         bound,
         desk.regions(service.inputs, service.plan_file),
         _shares(service, service.certificate),
@@ -165,7 +165,7 @@ def cheapest(service: Service, desk: Desk) -> Reference | None:
     shares = _shares(service, certificate)
     regions = desk.regions(inputs, plan)
     words = "if all asked their cheapest site"
-    return Reference(words, certificate.cost, service.asked, [it.load for it in loads], regions, shares)
+    return Reference(words, certificate.cost, service.asked, [load.load for load in loads], regions, shares)
 
 
 def _with_room(desk: Desk, service: Service, server: Server, room: int) -> Inputs:
@@ -184,14 +184,14 @@ def _gain(desk: Desk, plan: Planned, server: Server) -> Gain:
 
 def with_gains(plan: Planned, desk: Desk, done: Callable[[], None] = lambda: None) -> Planned:
     """The plan with what room saves at its full servers. A price only bounds that, so each is planned."""
-    priced = [it for it in plan.service.servers if plan.prices[it.number] > 0 and plan.is_full(it)]
-    priced.sort(key=lambda it: -plan.prices[it.number])
+    priced = [server for server in plan.service.servers if plan.prices[server.number] > 0 and plan.is_full(server)]
+    priced.sort(key=lambda server: -plan.prices[server.number])
     found = []
     with concurrent.futures.ThreadPoolExecutor(min(4, os.cpu_count() or 1)) as pool:
-        for gain in pool.map(lambda it: _gain(desk, plan, it), priced[:MOST_GAINS]):
+        for gain in pool.map(lambda server: _gain(desk, plan, server), priced[:MOST_GAINS]):
             found.append(gain)
             done()
-    found.sort(key=lambda it: (-it.one, -it.all))
+    found.sort(key=lambda saving: (-saving.one, -saving.all))
     return replace(plan, gains=found)
 
 
@@ -199,9 +199,9 @@ def shortage(service: Service, desk: Desk) -> Shortage:
     """Who lacks what, and the servers that these rows may use."""
     reached = desk.reached(service.inputs, service.plan_file)
     certificate = service.certificate
-    rows = [service.rows[it] for it in certificate.rows]
+    rows = [service.rows[number] for number in certificate.rows]
     stranded = sorted({row.region for row in rows if not service.sites_for(row.region)})
-    servers = [it for it in service.servers if (it.site, it.id) in reached]
+    servers = [server for server in service.servers if (server.site, server.id) in reached]
     return Shortage(certificate.demand, certificate.capacity, rows, servers, stranded)
 
 
@@ -209,8 +209,8 @@ def _twinned(service: Service, desk: Desk, cost: Callable[[int], int], dear: int
     """A plan where each site has a twin without limits, at a cost that is `dear` higher."""
     sites = settings_text(service.settings) + settings_text(service.settings, "hsp-twin-")
     rows: list[tuple[str, str, int]] = []
-    for (region, site), it in service.costs.items():
-        rows += [(region, site, cost(it)), (region, f"hsp-twin-{site}", cost(it) + dear)]
+    for (region, site), price in service.costs.items():
+        rows += [(region, site, cost(price)), (region, f"hsp-twin-{site}", cost(price) + dear)]
     room = dict(service.capacities)
     room.update({(f"hsp-twin-{site}", at): service.boundless for site, at in service.capacities})
     inputs = service.inputs.but(
@@ -227,8 +227,8 @@ def least_purchase(service: Service, desk: Desk) -> dict[Server, int] | None:
     dearest = max(service.costs.values(), default=0)
     if 2 * len(service.sites) > MOST_SITES or 2 * len(service.servers) > MOST_SERVERS or dearest * 20 > GREATEST_COST:
         return None
-    least = _twinned(service, desk, lambda it: 0, 1)
-    best = _twinned(service, desk, lambda it: it, GREATEST_COST - dearest)
+    least = _twinned(service, desk, lambda _: 0, 1)
+    best = _twinned(service, desk, lambda cost: cost, GREATEST_COST - dearest)
     if not least.is_plan or not best.is_plan:
         return None
     bought: Counter[Server] = Counter()
@@ -252,13 +252,17 @@ def with_purchase(service: Service, desk: Desk, bought: dict[Server, int]) -> Se
 
 def above(service: Service, loads: Iterable[int | Fraction]) -> tuple[int, int]:
     """How many servers would get more than they can take, and how many queries too many."""
-    over = [load - service.capacity(it) for it, load in zip(service.servers, loads) if load > service.capacity(it)]
+    over = [
+        load - service.capacity(server)
+        for server, load in zip(service.servers, loads)
+        if load > service.capacity(server)
+    ]
     return len(over), round(sum(over))
 
 
 def above_limits(hosts: Iterable[Host], loads: Sequence[int | Fraction]) -> int:
     """How many machines would get more than their limits."""
-    return sum(sum(loads[it.number] for it in host.servers) > host.limit for host in hosts)
+    return sum(sum(loads[server.number] for server in host.servers) > host.limit for host in hosts)
 
 
 def too_full(words: str, hosts: int) -> str:

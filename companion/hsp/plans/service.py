@@ -129,7 +129,7 @@ class Service:
 
     @property
     def servers(self) -> list[Server]:
-        return [it for site in self.sites for it in site.servers]
+        return [server for site in self.sites for server in site.servers]
 
     @property
     def regions(self) -> list[str]:
@@ -160,7 +160,7 @@ class Service:
     def kind(self, row: Row) -> tuple[tuple[str, int], ...]:
         """The server that a row has at each site that its region may use: the same for all handles of a kind."""
         servers = (self.server(at, row.handle) for at in self.sites_for(row.region))
-        return tuple((it.site, it.id) for it in servers)
+        return tuple((server.site, server.id) for server in servers)
 
 
 def _absent(folder: str, paths: list[str]) -> list[str]:
@@ -190,9 +190,9 @@ def inputs_in(folder: str, given: dict[str, str | None], unit: int) -> Inputs:
 
 def newer_than(inputs: Inputs, plan: str) -> list[str]:
     """The names of the inputs that changed after a plan was written."""
-    files = [it for it in (inputs.settings, inputs.values, inputs.demand, inputs.costs, inputs.capacity) if it]
+    files = [path for path in (inputs.settings, inputs.values, inputs.demand, inputs.costs, inputs.capacity) if path]
     time = os.stat(plan).st_mtime
-    return [os.path.basename(it) for it in files if os.stat(it).st_mtime > time]
+    return [os.path.basename(path) for path in files if os.stat(path).st_mtime > time]
 
 
 def table(path: str) -> list[list[str]]:
@@ -207,7 +207,7 @@ def settings_in(path: str) -> dict[str, Any]:
     """Settings that hsplan takes."""
     octets = whole(path).removeprefix(b"\xef\xbb\xbf")
     if b'"""' not in octets and b"'''" not in octets:  # nor are comments settings
-        octets = b"\n".join(it[0] for it in re.finditer(rb"(?m)^[ \t]*[^#\s][^\r\n]*", octets))
+        octets = b"\n".join(line[0] for line in re.finditer(rb"(?m)^[ \t]*[^#\s][^\r\n]*", octets))
     return tomllib.loads(octets.decode())
 
 
@@ -222,7 +222,7 @@ def dotted(address: str) -> str:
 def titles_in(folder: str, title: str | None, cost: str | None) -> Titles:
     """The words of `hsp.toml`; a title and a unit of cost that were given come first, the folder's name last."""
     said = titles_of(folder)
-    names = [it for it in os.path.abspath(folder).split(os.sep) if it not in ("out", "")]
+    names = [part for part in os.path.abspath(folder).split(os.sep) if part not in ("out", "")]
     plain: dict[str, str] = {key: str(said[key]) for key in TITLE_KEYS if key in said}
     fallback = names[-1] if names else folder
     own_title = title if title else plain.get("title", fallback)
@@ -249,12 +249,12 @@ def sites_of(desk: Desk, inputs: Inputs, settings: dict[str, Any]) -> list[Site]
     """The sites of the settings. hsplan reads their records."""
     sites: list[Site] = []
     first = 0
-    for it in settings.get("site", []):
-        if "record" in it:
-            fields = desk.site(bytes.fromhex(it["record"]))
+    for site in settings.get("site", []):
+        if "record" in site:
+            fields = desk.site(bytes.fromhex(site["record"]))
         else:
-            fields = desk.site_of_value(inputs.values or "", it["index"])
-        sites.append(site_of(it["name"], fields, first))
+            fields = desk.site_of_value(inputs.values or "", site["index"])
+        sites.append(site_of(site["name"], fields, first))
         first += len(sites[-1].servers)
     return sites
 
@@ -296,7 +296,7 @@ def service_of(folder: str, desk: Desk, inputs: Inputs, titles: Titles, mark: Ma
         settings,
         sites_of(desk, inputs, settings),
         rows,
-        {(region, site): int(it) for region, site, it in table(inputs.costs)},
+        {(region, site): int(cost) for region, site, cost in table(inputs.costs)},
         {(site, int(server)): int(room) for site, server, room in table(inputs.capacity)},
         certificate,
         plan_file,
