@@ -20,7 +20,7 @@ from hsp.base.grammar import COMMANDS
 from hsp.base.groups import Group
 from hsp.base.numbers import listed, some
 from hsp.base.paths import path_in, shell_word
-from hsp.base.programs import Desk, Missing, Refused
+from hsp.base.programs import Missing, Programs, Refused
 from hsp.base.signals import Stopped, stopping
 from hsp.base.text import colored, escaped, give, say, show_progress, visible
 from hsp.doctor import Examined, examined, examined_words
@@ -165,7 +165,7 @@ def main(context: click.Context) -> None:
     """
     if context.invoked_subcommand is None:
         if sys.stdout.isatty():
-            for line in next_lines(".", Desk()):
+            for line in next_lines(".", Programs()):
                 say(line)
             say("help  hsp --help")
         else:
@@ -206,13 +206,13 @@ def progress(number: int) -> Callable[[], None]:
 
 
 def sound(
-    folder: str, desk: Desk, given: dict[str, str | None], title: str | None = None, cost: str | None = None
+    folder: str, programs: Programs, given: dict[str, str | None], title: str | None = None, cost: str | None = None
 ) -> Service:
     """Reads a folder in which hsplan has no fault; otherwise prints the faults, and ends. Warnings are one line.
 
     An old plan is none of these, since the commands that ask plan anew.
     """
-    found = examined(folder, desk, given, title, cost)
+    found = examined(folder, programs, given, title, cost)
     if not found.service:
         for line in list(finding_lines(found.errors))[:-1]:
             say(line, err=True)
@@ -286,11 +286,11 @@ def json_of(plan: Planned, reference: Reference | None) -> str:
     return json.dumps(report, indent=2, ensure_ascii=False) + "\n"
 
 
-def show_shortage(service: Service, desk: Desk, as_json: bool) -> None:
+def show_shortage(service: Service, programs: Programs, as_json: bool) -> None:
     """Shows who lacks what, and what has to be bought. Ends with status 3."""
-    short = shortage(service, desk)
-    bought = None if short.stranded else least_purchase(service, desk)
-    after = with_purchase(service, desk, bought) if bought else None
+    short = shortage(service, programs)
+    bought = None if short.stranded else least_purchase(service, programs)
+    after = with_purchase(service, programs, bought) if bought else None
     if as_json:
         purchase = [
             {"site": server.site, "server_id": server.id, "more": more}
@@ -306,12 +306,12 @@ def show_shortage(service: Service, desk: Desk, as_json: bool) -> None:
     sys.exit(3)
 
 
-def keep(service: Service, desk: Desk, path: str) -> list[str]:
+def keep(service: Service, programs: Programs, path: str) -> list[str]:
     """Writes a plan, and beside it what else is needed to answer by it. Returns what is to be said of that."""
     contents: dict[str, bytes] = {}
     lines: list[str] = []
     if not os.path.exists(path) or os.path.isfile(path):
-        inputs, contents = in_units(service, desk, path)
+        inputs, contents = in_units(service, programs, path)
         lines = answer_lines(service, inputs, path)
     refuse_clashes(service.inputs.files(), contents)
     replace_all({path: service.certificate.text.encode(), **contents})
@@ -342,19 +342,19 @@ def plan(
     """
     path = output or path_in(folder, "plan.txt")
     refuse_clashes(read_in(folder, given), [] if no_save else [path])
-    desk = Desk()
-    service = sound(folder, desk, given, cost=unit)
+    programs = Programs()
+    service = sound(folder, programs, given, cost=unit)
     if not service.certificate.is_plan:
-        show_shortage(service, desk, as_json)
-    found = planned(service, desk)
-    reference = cheapest(service, desk)
+        show_shortage(service, programs, as_json)
+    found = planned(service, programs)
+    reference = cheapest(service, programs)
     if not as_csv:
         priced = [server for server in service.servers if found.prices[server.number] > 0 and found.is_full(server)]
-        found = with_gains(found, desk, progress(len(priced)))
-    verdict = desk.verdict(service.inputs, service.plan_file)
+        found = with_gains(found, programs, progress(len(priced)))
+    verdict = programs.verdict(service.inputs, service.plan_file)
     if verdict != "yes":
         ended(1, f"hsplan check says {verdict} to hsplan's own plan: please report this with your files")
-    lines = [] if no_save else keep(service, desk, path)
+    lines = [] if no_save else keep(service, programs, path)
     if as_csv or as_json:
         give(csv_of(found) if as_csv else json_of(found, reference))
         return
@@ -365,7 +365,7 @@ def plan(
     for line in [f"check {colored(verdict, 'green')}: no plan within these capacities costs less{kept}", *lines]:
         say(line)
     if not (service.sites and service.rows or any(given.values())):
-        say(next_step(service, desk))
+        say(next_step(service, programs))
 
 
 def name_of_earlier(old: Service, now: Service) -> str:
@@ -377,12 +377,12 @@ def name_of_earlier(old: Service, now: Service) -> str:
     return f"{old.titles.title} ({os.sep.join(own[-parts:])})"
 
 
-def earlier(folder: str, desk: Desk, now: Service) -> tuple[Service, Reference] | None:
+def earlier(folder: str, programs: Programs, now: Service) -> tuple[Service, Reference] | None:
     """Another folder's plan, as a reference for this one. Sites are matched by their names."""
-    old = sound(folder, desk, {})
+    old = sound(folder, programs, {})
     if not old.certificate.is_plan:
         return None
-    found = planned(old, desk)
+    found = planned(old, programs)
     loads = {(server.site, server.id): found.loads[server.number] for server in old.servers}
     numbers = {site.name: at for at, site in enumerate(now.sites)}
     names = [site.name for site in old.sites]
@@ -396,21 +396,21 @@ def earlier(folder: str, desk: Desk, now: Service) -> tuple[Service, Reference] 
     return old, Reference(words, found.cost, old.asked, before, found.regions, shares)
 
 
-def view_of(service: Service, desk: Desk, before: str | None) -> View:
+def view_of(service: Service, programs: Programs, before: str | None) -> View:
     """All that the page shows: the plan, or the shortage and the plan after the least purchase."""
-    shown = View(service, None, cheapest(service, desk), sources=sources_of(service.folder, service.inputs))
+    shown = View(service, None, cheapest(service, programs), sources=sources_of(service.folder, service.inputs))
     after: Service | None = service
     if not service.certificate.is_plan:
-        shown.short = shortage(service, desk)
-        bought = None if shown.short.stranded else least_purchase(service, desk)
-        after = with_purchase(service, desk, bought) if bought else None
+        shown.short = shortage(service, programs)
+        bought = None if shown.short.stranded else least_purchase(service, programs)
+        after = with_purchase(service, programs, bought) if bought else None
         shown.bought = bought if bought and after else {}
     if after:
-        found = planned(after, desk)
-        shown.plan = with_gains(found, desk, progress(sum(price > 0 for price in found.prices)))
-        if desk.verdict(after.inputs, after.plan_file) != "yes":
+        found = planned(after, programs)
+        shown.plan = with_gains(found, programs, progress(sum(price > 0 for price in found.prices)))
+        if programs.verdict(after.inputs, after.plan_file) != "yes":
             raise Missing("hsplan check doesn't say yes to hsplan's own plan: please report this with your files")
-    held = earlier(before, desk, service) if before else None
+    held = earlier(before, programs, service) if before else None
     if held:
         shown.before, shown.reference = held
         shown.changes = changes_between(held[0], service)
@@ -437,9 +437,9 @@ def view(
     """
     path = output or path_in(folder, "plan.html")
     refuse_clashes(read_in(folder, given) + (read_in(before, {}) if before else []), [path])
-    desk = Desk()
-    service = sound(folder, desk, given, title, unit)
-    text = render(view_of(service, desk, before))
+    programs = Programs()
+    service = sound(folder, programs, given, title, unit)
+    text = render(view_of(service, programs, before))
     write(path, text)
     rows = some(len(service.rows), "kind" if service.mark.is_joined else "row")
     say(f"{path}  {len(text.encode()) / 1024:,.0f} KiB, {rows}")
@@ -477,16 +477,16 @@ def whatif(
     By default: more room at each full server, each site lost, and 10% more demand.
     """
     refuse_clashes(read_in(folder, given), [chart] if chart else [])
-    desk = Desk()
-    service = sound(folder, desk, given, cost=unit)
+    programs = Programs()
+    service = sound(folder, programs, given, cost=unit)
     if server:
         own = server_named(service, server)
         room = service.capacity(own)
         ends = (room // 2 if low is None else low, room * 3 // 2 if high is None else high)
-        cases = sizes(Changes(service, desk, progress(points)), own, min(ends), max(ends), points)
+        cases = sizes(Changes(service, programs, progress(points)), own, min(ends), max(ends), points)
     else:
         number = len(full_servers(service)) + len(service.sites) + 1
-        cases = standard(Changes(service, desk, progress(number)), step)
+        cases = standard(Changes(service, programs, progress(number)), step)
     if as_csv:
         give(cases_csv(cases))
     else:
@@ -537,9 +537,9 @@ def doctor(context: click.Context, folder: str, strict: bool, as_json: bool, **g
     Where hsplan has no fault, it shows what is accepted and seldom meant. In place of DIR the words of a command of
     hsplan may stand behind --, as in: hsp doctor -- plan --settings settings.toml --demand demand.csv
     """
-    desk = Desk()
+    programs = Programs()
     words = context.meta.get("words")
-    found = examined(folder, desk, given) if words is None else examined_words(words, desk)
+    found = examined(folder, programs, given) if words is None else examined_words(words, programs)
     summary = "no fault in these words and files"
     if found.service:
         summary = f"{colored('no fault', 'green')}  {head(found.service)}"

@@ -183,8 +183,8 @@ def _temporary(folder: str) -> Iterator[None]:
         raise OSError(fault.errno, f"{fault.strerror}; {remedy}", folder) from None
 
 
-class Desk:
-    """A folder for the files that are made on the way, and the questions that are asked with them."""
+class Programs:
+    """hsplan and hsplan-stream with the questions that are asked, and a folder for the files that are made on the way."""
 
     def __init__(self) -> None:
         with _temporary("TMPDIR"), uncut():
@@ -199,7 +199,7 @@ class Desk:
         return path
 
     def add(self, path: str, pieces: Iterable[bytes]) -> None:
-        """Writes on at the end of a file of this desk."""
+        """Writes on at the end of a file of this folder."""
         with _temporary(self._folder.name), open(path, "ab") as file:
             file.writelines(pieces)
 

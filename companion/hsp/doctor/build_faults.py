@@ -36,7 +36,7 @@ def site_at(question: Question, number: int) -> Known:
     sites = listed_in(question.text("settings"), "site")
     site = sites[number] if number < len(sites) else {}
     if isinstance(site.get("record"), str):
-        path = question.desk.put(bytes.fromhex(site["record"]), ".site")
+        path = question.programs.put(bytes.fromhex(site["record"]), ".site")
         printed = run("hsplan", "site", path)
     elif "values" in question.files:
         printed = run("hsplan", "site", f"--index={site.get('index')}", question.path("values"))

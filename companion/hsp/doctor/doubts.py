@@ -14,7 +14,7 @@ from urllib.parse import unquote
 from hsp.base.grammar import GREATEST_CAPACITY, HEADERS
 from hsp.base.numbers import listed, some
 from hsp.base.paths import path_in, shell_word
-from hsp.base.programs import Desk
+from hsp.base.programs import Programs
 from hsp.base.spelling import near
 from hsp.doctor.accepting import is_named, needless
 from hsp.doctor.findings import WARNING, Finding, Place, Text, Words, decoded, found, quoted, read_text
@@ -381,7 +381,7 @@ def sites(read: Read) -> None:
         seen.setdefault(key, site["name"])
 
 
-def stale_plan(service: Service, desk: Desk, path: str) -> list[str] | None:
+def stale_plan(service: Service, programs: Programs, path: str) -> list[str] | None:
     """The inputs that are newer than a plan which the checker refuses for them; None where the plan still holds.
 
     A plan of the folder isn't one of other files that were given.
@@ -390,13 +390,13 @@ def stale_plan(service: Service, desk: Desk, path: str) -> list[str] | None:
     own = {path_in(service.folder, name) for name in (*NAMES.values(), VALUES)}
     if not {inputs.settings, inputs.demand, inputs.costs, inputs.capacity} <= own:
         return None
-    return None if desk.verdict(inputs, path) == "yes" else newer_than(inputs, path)
+    return None if programs.verdict(inputs, path) == "yes" else newer_than(inputs, path)
 
 
-def old_plan(read: Read, desk: Desk) -> None:
+def old_plan(read: Read, programs: Programs) -> None:
     """A plan in the folder that isn't one of its inputs, or isn't one of them any more."""
     path = path_in(read.service.folder, "plan.txt")
-    newer = stale_plan(read.service, desk, path) if os.path.isfile(path) else None
+    newer = stale_plan(read.service, programs, path) if os.path.isfile(path) else None
     if newer is None:
         return
     message, why = "the plan isn't one of these files", "it was cut, edited, or made of other files"
@@ -431,7 +431,7 @@ WHOLE, LOST = (sites, rows, units, free), (priceless, handles, twins)
 REST = (hosts, idle, pairs, zeros, unused)
 
 
-def doubts(service: Service, desk: Desk, of_folder: bool = True) -> Iterator[Finding]:
+def doubts(service: Service, programs: Programs, of_folder: bool = True) -> Iterator[Finding]:
     """All that is accepted and seldom meant, by its weight; of a folder, its titles and its plan too.
 
     What hsp.toml accepts is left out.
@@ -446,7 +446,7 @@ def doubts(service: Service, desk: Desk, of_folder: bool = True) -> Iterator[Fin
         look(read)
     if of_folder:
         titles(read)
-        old_plan(read, desk)
+        old_plan(read, programs)
     accept = service.titles.accept
     yield from (own for own in read.findings if not any(is_named(own, name) for name in accept))
     if of_folder:

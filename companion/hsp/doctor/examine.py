@@ -10,7 +10,7 @@ from dataclasses import dataclass
 
 from hsp.base.numbers import listed
 from hsp.base.paths import path_in, shell_word
-from hsp.base.programs import Desk, Missing, Refused
+from hsp.base.programs import Missing, Programs, Refused
 from hsp.base.unfit import Unfit
 from hsp.doctor.doubts import doubts
 from hsp.doctor.findings import ERROR, Finding, Place, Words, found, read_text
@@ -47,7 +47,7 @@ def status_of(result: Diagnosis) -> int:
 
 
 def examined(
-    folder: str, desk: Desk, given: dict[str, str | None], title: str | None = None, cost: str | None = None
+    folder: str, programs: Programs, given: dict[str, str | None], title: str | None = None, cost: str | None = None
 ) -> Examined:
     """What is wrong with a folder, or what is doubtful where nothing is wrong."""
     paths = {kind: given.get(kind) or path_in(folder, name) for kind, name in NAMES.items()}
@@ -57,15 +57,15 @@ def examined(
         paths["values"] = values
     if not any(os.path.exists(paths[kind]) for kind in NAMES):
         return Examined([_no_service(folder)], 5)
-    question = Question(desk, "plan", {kind: draft_of(desk, path) for kind, path in paths.items()})
+    question = Question(programs, "plan", {kind: draft_of(programs, path) for kind, path in paths.items()})
     copies = {kind: draft.copy for kind, draft in question.files.items() if draft.copy}
     try:
         mark = mark_of(folder, given)
         inputs = inputs_in(folder, {**given, **copies}, mark.unit)
-        service = service_of(folder, desk, inputs, titles_in(folder, title, cost), mark)
+        service = service_of(folder, programs, inputs, titles_in(folder, title, cost), mark)
     except (Refused, Missing, Unfit, OSError) as fault:
         return _refused(question, folder, fault)
-    work = guarded(lambda show: _all(doubts(service, desk), show))
+    work = guarded(lambda show: _all(doubts(service, programs), show))
     return Examined(work.findings, 0, work.is_ended, service)
 
 
@@ -155,7 +155,7 @@ def titles_faults(folder: str) -> list[Finding]:
     ]
 
 
-def examined_words(words: list[str], desk: Desk) -> Examined:
+def examined_words(words: list[str], programs: Programs) -> Examined:
     """What is wrong with the words of a command, and with its files, or what is doubtful where nothing is wrong."""
     from hsp.doctor.faults import of_words, said_of_words
 
@@ -166,7 +166,7 @@ def examined_words(words: list[str], desk: Desk) -> Examined:
             streamed.append(finding)
             show(finding)
 
-        result = of_words(desk, words, once)
+        result = of_words(programs, words, once)
         _all((finding for finding in result.findings if finding not in streamed), show)
         return Diagnosis([], status_of(result), result.is_cut_short)
 

@@ -7,8 +7,8 @@ import subprocess
 from collections.abc import Callable
 from dataclasses import replace
 
-from hsp.base.grammar import FILES, COMMANDS
-from hsp.base.programs import Desk, program, run
+from hsp.base.grammar import COMMANDS, FILES
+from hsp.base.programs import Programs, program, run
 from hsp.base.text import is_utf8
 from hsp.doctor import (
     answer_faults,
@@ -223,7 +223,7 @@ def without_answers(question: Question) -> Question:
     return replace(question, program="hsplan", command="plan", files=files, options=(), words=())
 
 
-def question_of(desk: Desk, line: Line) -> Question:
+def question_of(programs: Programs, line: Line) -> Question:
     """The question that the words of a line ask."""
     options, others = split(line)
     form = COMMANDS[line.command]
@@ -231,14 +231,14 @@ def question_of(desk: Desk, line: Line) -> Question:
     for option in options:
         if option.name in FILES and option.value is not None:
             values.setdefault(option.name, option.value)
-    files = {name: draft_of(desk, value) for name, value in values.items()}
+    files = {name: draft_of(programs, value) for name, value in values.items()}
     rest = tuple(f"--{option.name}={option.value}" for option in options if option.name not in FILES)
     if form.last == "file" and others:
-        files["file"] = draft_of(desk, others[0].text)
-    return Question(desk, line.command, files, rest, tuple(word.text for word in others), line.program)
+        files["file"] = draft_of(programs, others[0].text)
+    return Question(programs, line.command, files, rest, tuple(word.text for word in others), line.program)
 
 
-def of_words(desk: Desk, words: list[str], show: Show = unheard) -> Diagnosis:
+def of_words(programs: Programs, words: list[str], show: Show = unheard) -> Diagnosis:
     """All faults of the words of a command, and of its files; or what is doubtful where nothing is wrong."""
     line = line_of(words)
     if word_faults.command_fault(line):
@@ -247,7 +247,7 @@ def of_words(desk: Desk, words: list[str], show: Show = unheard) -> Diagnosis:
     odd = [word for word in line.words if not is_utf8(word.text)]
     if odd:
         return Diagnosis([word_faults.not_utf8(line, word) for word in odd], USAGE_STATUS)
-    question = question_of(desk, line)
+    question = question_of(programs, line)
     status = _status(line, question)
     if status == USAGE_STATUS:
         return Diagnosis(word_faults.usage(line) + _of_files(question), status)
@@ -283,4 +283,4 @@ def _of_files(question: Question) -> list[Finding]:
     if found_ones or not kinds <= set(question.files):
         return found_ones
     files = {kind: draft for kind, draft in question.files.items() if kind in kinds | {"values"}}
-    return diagnosed(Question(question.desk, "plan", files)).findings
+    return diagnosed(Question(question.programs, "plan", files)).findings

@@ -103,7 +103,7 @@ def absent_in(log: Table, at: int, pairs: set[tuple[str, str]]) -> Absent:
 def _by_kind(question: Question, service: Service, absent: Absent) -> int:
     """How many of the rows are of a kind that the demand has."""
     asked = absent.asked()
-    places = question.desk.places(service.inputs, dict.fromkeys(row.handle for row in asked))
+    places = question.programs.places(service.inputs, dict.fromkeys(row.handle for row in asked))
     of_log = replace(service, places=places)
     known = {(row.region, service.kind(row)) for row in service.rows}
     return sum((row.region, of_log.kind(row)) in known for row in asked)

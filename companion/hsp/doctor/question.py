@@ -11,7 +11,7 @@ from collections.abc import Callable
 from dataclasses import dataclass, field, replace
 
 from hsp.base.grammar import HEADERS
-from hsp.base.programs import Desk, program
+from hsp.base.programs import Programs, program
 from hsp.base.text import is_utf8
 from hsp.doctor.findings import Finding, Text, encoded, read_text
 
@@ -103,7 +103,7 @@ def said_of(status: int, line: str) -> Said:
 class Question:
     """A program, its command, its files, and its other words. `left_out` are rows that copies no longer have."""
 
-    desk: Desk
+    programs: Programs
     command: str
     files: dict[str, Draft]
     options: tuple[str, ...] = ()
@@ -129,7 +129,7 @@ class Question:
         draft = self.files[kind]
         if draft.lines is None:
             return draft.copy or draft.original.path
-        return self.desk.put(draft.text.octets)
+        return self.programs.put(draft.text.octets)
 
     def text(self, kind: str) -> Text:
         return self.files[kind].text
@@ -174,12 +174,12 @@ class Question:
         return said_of(done.returncode, line.removeprefix(f"{self.program}: "))
 
 
-def draft_of(desk: Desk, path: str) -> Draft:
+def draft_of(programs: Programs, path: str) -> Draft:
     """A file as it is read. A pipe can be read once, and hsplan takes no name that isn't UTF-8: these are copied."""
     try:
         if path != "/dev/null" and (is_pipe(path) or not is_utf8(path) and os.path.isfile(path)):
             text = read_text(path)
-            return Draft(text, copy=desk.put(text.octets))
+            return Draft(text, copy=programs.put(text.octets))
         return Draft(read_text(path))
     except (OSError, ValueError):
         return Draft(Text(path, b""))

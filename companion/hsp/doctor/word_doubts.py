@@ -45,7 +45,7 @@ def service_in(question: Question, mark: Mark) -> Service | None:
         titles = titles_in(folder, None, None)
     except Unfit:  # of a broken hsp.toml, which no command of hsplan reads
         titles = Titles(folder)
-    return service_of(folder, question.desk, inputs, titles, mark)
+    return service_of(folder, question.programs, inputs, titles, mark)
 
 
 def of_log(question: Question, service: Service | None, mark: Mark) -> Iterator[Finding]:
@@ -97,5 +97,5 @@ def word_doubts(question: Question, line: Line) -> list[Finding]:
     """All that is accepted and seldom meant, where a command has no fault."""
     mark = mark_of_words(question)
     service = service_in(question, mark)
-    of_files = doubts(service, question.desk, of_folder=False) if service else []
+    of_files = doubts(service, question.programs, of_folder=False) if service else []
     return [*of_handle(line), *of_mark(question, mark), *of_files, *of_log(question, service, mark)]

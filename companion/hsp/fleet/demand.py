@@ -11,7 +11,7 @@ import click
 
 from hsp.base.bounds import whole
 from hsp.base.files import locked, replace_all
-from hsp.base.programs import Desk, Inputs
+from hsp.base.programs import Inputs, Programs
 from hsp.base.text import give, say
 from hsp.base.unfit import Unfit
 from hsp.fleet import kit
@@ -122,15 +122,15 @@ def demand(logs: tuple[str, ...], regions: str, into: str | None, keep: str | No
     It runs on many processors or machines. A LOG is the path of a file that every worker can read, or @HOST=PATH where
     only the workers of one host can. The table is that of hsp demand over all logs in their order.
     """
-    desk = Desk()
+    programs = Programs()
     place, output = place_of(given), output_of(given, into)
     named = [log_of(log, keep) for log in logs]
     _checked(named, regions, into, output, given)
     span, form = _span(given), form_of(given)
-    seek = regions_in(regions, given["by"], given["elsewhere"], desk)
-    reading, tally = Reading(form, seek, Judge(desk)), Tally(desk)
+    seek = regions_in(regions, given["by"], given["elsewhere"], programs)
+    reading, tally = Reading(form, seek, Judge(programs)), Tally(programs)
     expect(twice([log.path for log in named if not log.host]))
-    inputs = foreseen(regions, into, given, True, desk)
+    inputs = foreseen(regions, into, given, True, programs)
     asked = {"form": fields_of_form(form), "by": given["by"], "elsewhere": given["elsewhere"], "span": astuple(span)}
     targets: Targets = [(log.kept, log.host) for log in named]
     with session(place, targets) as engine:

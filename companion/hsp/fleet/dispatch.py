@@ -17,7 +17,7 @@ from hsp.base.files import refuse_clashes
 from hsp.base.grammar import GREATEST_UNIT, MOST_FRONTS
 from hsp.base.numbers import listed, some
 from hsp.base.paths import path_in, shell_word
-from hsp.base.programs import Desk, Inputs, Missing
+from hsp.base.programs import Inputs, Missing, Programs
 from hsp.base.text import say
 from hsp.base.unfit import Unfit
 from hsp.fleet import kit
@@ -155,9 +155,9 @@ def any_handle_line(folder: str, logs: tuple[str, ...], plan: str | None, fronts
     )
 
 
-def of_these_files(folder: str, desk: Desk, inputs: Inputs, plan: str) -> None:
+def of_these_files(folder: str, programs: Programs, inputs: Inputs, plan: str) -> None:
     """Refuses a plan of other files, or of files that have changed, before any worker is asked."""
-    verdict = desk.verdict(inputs, plan)
+    verdict = programs.verdict(inputs, plan)
     if not verdict.startswith("no "):
         return
     newer = newer_than(inputs, plan)
@@ -188,7 +188,7 @@ def dispatch(folder: str, logs: tuple[str, ...], plan: str | None, **given: Any)
     front,region,handle.
     """
     place, fronts = place_of(given), fronts_of(logs, given["fronts"])
-    mark, desk = mark_in(folder), Desk()
+    mark, programs = mark_in(folder), Programs()
     given["unit"] = unit_of(given, mark)
     certificate = plan or path_in(folder, "plan.txt")
     if not os.path.isfile(certificate):
@@ -198,8 +198,8 @@ def dispatch(folder: str, logs: tuple[str, ...], plan: str | None, **given: Any)
     refuse_clashes(read, [path for front in own for path in front.targets])
     if not mark.is_plain and not given["any_handle"]:
         say(f"hsp: {any_handle_line(folder, logs, plan, given['fronts'])}", err=True)
-    of_these_files(folder, desk, inputs, certificate)
-    files = {**kit.files_of(desk.in_units(inputs), certificate), **kit.programs(), "hsp.zip": kit.companion()}
+    of_these_files(folder, programs, inputs, certificate)
+    files = {**kit.files_of(programs.in_units(inputs), certificate), **kit.programs(), "hsp.zip": kit.companion()}
     targets: Targets = [(front.targets, front.host) for front in fronts]
     with contextlib.ExitStack() as stack:
         folder = stack.enter_context(beside(fronts[0])) if fronts[0].number is None else ""

@@ -12,7 +12,7 @@ from dataclasses import dataclass, field
 
 from hsp.base.bounds import MOST_HELD, Query, weight
 from hsp.base.grammar import MOST_DEMAND_ROWS
-from hsp.base.programs import Desk, Inputs, Refused
+from hsp.base.programs import Inputs, Programs, Refused
 from hsp.base.unfit import Unfit
 from hsp.intake.logs import Skipped
 from hsp.intake.tally import HEADER, advice, rows_of
@@ -28,16 +28,16 @@ def counts_in(text: str) -> Counts:
     return [((region.encode(), handle.encode()), int(count)) for region, handle, count in rows]
 
 
-def joined(desk: Desk, inputs: Inputs, counts: Counts) -> Counts:
+def joined(programs: Programs, inputs: Inputs, counts: Counts) -> Counts:
     """The sums of each kind, in the order in which the kinds first come.
 
     A demand has a greatest count, and sums may be above it. Then the counts are parted into a high and a low digit,
     whose sums are joined apart: sums of kinds add up.
     """
-    log = desk.put(HEADER, ".csv")
-    desk.add(log, rows_of(counts))
+    log = programs.put(HEADER, ".csv")
+    programs.add(log, rows_of(counts))
     try:
-        return counts_in(desk.kinds(inputs, log, None))
+        return counts_in(programs.kinds(inputs, log, None))
     except Refused as fault:
         most = max(count for _, count in counts)
         if "CountTooLarge" not in fault.line or most < 2:
@@ -45,8 +45,8 @@ def joined(desk: Desk, inputs: Inputs, counts: Counts) -> Counts:
     finally:
         os.unlink(log)
     base = math.isqrt(most) + 1
-    high = joined(desk, inputs, [(pair, count // base) for pair, count in counts])
-    low = joined(desk, inputs, [(pair, count % base) for pair, count in counts])
+    high = joined(programs, inputs, [(pair, count // base) for pair, count in counts])
+    low = joined(programs, inputs, [(pair, count % base) for pair, count in counts])
     return [(pair, base * more + less) for (pair, more), (_, less) in zip(high, low, strict=True)]
 
 
@@ -54,7 +54,7 @@ def joined(desk: Desk, inputs: Inputs, counts: Counts) -> Counts:
 class Table:
     """Counts in the order in which their pairs, or their kinds, first come."""
 
-    desk: Desk
+    programs: Programs
     inputs: Inputs | None
     most: int = MOST_PAIRS
     counts: dict[Query, int] = field(default_factory=dict)
@@ -77,9 +77,9 @@ class Table:
                 "Give --into DIR with settings.toml and costs.csv, so that rows of one kind are joined"
             )
         try:
-            self.counts = dict(joined(self.desk, self.inputs, list(self.counts.items())))
+            self.counts = dict(joined(self.programs, self.inputs, list(self.counts.items())))
         except Refused as fault:
-            raise Unfit(advice(fault, self.inputs, self.desk)) from None
+            raise Unfit(advice(fault, self.inputs, self.programs)) from None
         self.is_joined, self.octets = True, weight(self.counts)
 
     def said(self) -> dict[str, object]:

@@ -16,7 +16,7 @@ from hsp.base.files import create, locked, refuse_clashes, replace_all, together
 from hsp.base.grammar import GREATEST_CAPACITY, GREATEST_UNIT, LOG_HEAD
 from hsp.base.numbers import listed, some
 from hsp.base.paths import path_in, shell_word
-from hsp.base.programs import Desk, Inputs
+from hsp.base.programs import Inputs, Programs
 from hsp.base.text import give, is_utf8, say, show_progress
 from hsp.base.unfit import Unfit
 from hsp.intake import skeleton
@@ -103,12 +103,12 @@ def sites(paths: tuple[str, ...], into: str | None, names: tuple[str, ...], capa
     """
     if into:
         refuse_clashes(paths, [path_in(into, NAMES[kind]) for kind in ("settings", "capacity")])
-    desk = Desk()
-    files = Files(desk)
+    programs = Programs()
+    files = Files(programs)
     found = gathered(paths, names, files)
     notes = files.taken + [f"left out: {left}" for left in files.left]
     if into is None:
-        read_back("".join(map(block, found)).encode(), 0, found, desk)
+        read_back("".join(map(block, found)).encode(), 0, found, programs)
         for other in found:
             rows = "".join(f"# {site},{server},{room}\n" for site, server, room in capacity_rows(other, capacity))
             give(f"{block(other)}# its rows of capacity.csv:\n{rows}")
@@ -116,7 +116,7 @@ def sites(paths: tuple[str, ...], into: str | None, names: tuple[str, ...], capa
             say(line, err=True)
         return
     with locked([into]):
-        result = joined(into, found, capacity, desk)
+        result = joined(into, found, capacity, programs)
         if result.added:
             replace_all(result.contents)
     notes += [f"left out: {known.file}: its record is in the settings already" for known in result.known]
@@ -197,7 +197,9 @@ def expect(lines: list[str]) -> None:
         say(f"hsp: {line}", err=True)
 
 
-def foreseen(regions: str, into: str | None, given: dict[str, Any], is_long: bool, desk: Desk) -> Inputs | None:
+def foreseen(
+    regions: str, into: str | None, given: dict[str, Any], is_long: bool, programs: Programs
+) -> Inputs | None:
     """The sites and the costs of a service. Before logs are read it refuses what can't be joined or noted at their
     end, and says what long logs will likely need."""
     inputs, output = service_of(into, given), output_of(given, into)
@@ -207,7 +209,7 @@ def foreseen(regions: str, into: str | None, given: dict[str, Any], is_long: boo
     if given["unit"]:
         refuse_unit(inputs, named)
     if is_long or given["unit"]:
-        expect(outlook(inputs, named, into, desk))
+        expect(outlook(inputs, named, into, programs))
     return inputs
 
 
@@ -358,17 +360,17 @@ def demand(logs: tuple[str, ...], regions: str, into: str | None, kept: str | No
     A LOG may be packed by gzip, bzip2 or xz; - is standard input. Its form is that of a handle server (server), of an
     HTTP proxy (proxy), JSON lines (json) or a table (csv). Without --into and -o the table is printed.
     """
-    desk = Desk()
+    programs = Programs()
     output = output_of(given, into)
     refuse_own(logs, regions, into, [own for own in (output, kept) if own], given)
     refuse_clashes([path_in(into, NAMES["demand"])] if into else [], [kept] if kept else [])
-    reading = Reading(form_of(given), regions_in(regions, given["by"], given["elsewhere"], desk), Judge(desk))
+    reading = Reading(form_of(given), regions_in(regions, given["by"], given["elsewhere"], programs), Judge(programs))
     if sys.stderr.isatty():
         gauge = Gauge(logs, 2 if given["busiest_hour"] else 1)
         reading.watch, reading.progress = gauge.watch, Progress(gauge).show
-    tally, is_long = Tally(desk), any(map(may_be_long, logs))
+    tally, is_long = Tally(programs), any(map(may_be_long, logs))
     expect(twice(logs))
-    inputs = foreseen(regions, into, given, is_long, desk)
+    inputs = foreseen(regions, into, given, is_long, programs)
     tally.joins_by(inputs)
     busiest = by_time(logs, reading, given)
     with together() as files:

@@ -14,7 +14,7 @@ from hsp.base.bounds import whole
 from hsp.base.grammar import HEADERS
 from hsp.base.numbers import listed, some
 from hsp.base.paths import path_in
-from hsp.base.programs import Desk, Inputs, Refused, table_of
+from hsp.base.programs import Inputs, Programs, Refused, table_of
 from hsp.base.unfit import Unfit
 from hsp.intake.records import OPTIONS
 from hsp.intake.sitefiles import Found, tidy
@@ -87,7 +87,7 @@ def _servers_in(path: str, octets: bytes) -> set[tuple[str, str]]:
     return {(row[0], row[1]) for row in rows[1:] if len(row) == 3}
 
 
-def joined(folder: str, sites: list[Found], capacity: int, desk: Desk) -> Joined:
+def joined(folder: str, sites: list[Found], capacity: int, programs: Programs) -> Joined:
     """Adds sites to the texts of a folder's settings and capacities. hsplan reads back what comes out."""
     settings, capacities = (path_in(folder, NAMES[kind]) for kind in ("settings", "capacity"))
     texts = {path: _octets(path) for path in (settings, capacities)}
@@ -111,7 +111,7 @@ def joined(folder: str, sites: list[Found], capacity: int, desk: Desk) -> Joined
     gap = b"\n" if texts[settings] else b""
     texts[settings] += gap + "\n".join(block(site) for site in result.added).encode() if result.added else b""
     values = os.path.join(folder, VALUES)
-    read_back(texts[settings], len(before), result.added, desk, values if os.path.isfile(values) else None)
+    read_back(texts[settings], len(before), result.added, programs, values if os.path.isfile(values) else None)
     return result
 
 
@@ -132,18 +132,20 @@ def refusal(own: Found, fault: Refused) -> str:
     return f"{own.file}: {says}{remedy}"
 
 
-def read_back(settings: bytes, before: int, added: list[Found], desk: Desk, values: str | None = None) -> None:
+def read_back(
+    settings: bytes, before: int, added: list[Found], programs: Programs, values: str | None = None
+) -> None:
     """Compares the sites that were added behind others with what hsplan reads from the settings."""
-    inputs = Inputs(desk.put(settings, ".toml"), "", "", "", values)
+    inputs = Inputs(programs.put(settings, ".toml"), "", "", "", values)
     try:
-        desk.places(inputs, ["0.NA/0"])
+        programs.places(inputs, ["0.NA/0"])
     except Refused as fault:
         match = re.search(r" site ([0-9]+)", fault.line)
         number = int(match[1]) - before if match else -1
         if not 0 <= number < len(added):
             raise
         raise Unfit(refusal(added[number], fault)) from None
-    read = {site.name: site for site in sites_of(desk, inputs, tomllib.loads(settings.decode("utf-8-sig")))}
+    read = {site.name: site for site in sites_of(programs, inputs, tomllib.loads(settings.decode("utf-8-sig")))}
     for own in added:
         wanted, found = own.site(), read[own.name]
         same = [(a.id, a.address) for a in wanted.servers] == [(a.id, a.address) for a in found.servers]

@@ -15,7 +15,7 @@ from dataclasses import dataclass
 from typing import Any
 
 from hsp.base.grammar import NAME_SIGNS
-from hsp.base.programs import Desk, Refused
+from hsp.base.programs import Programs, Refused
 from hsp.base.unfit import Unfit, shown
 from hsp.intake.records import counted
 from hsp.intake.sitejson import Notes, Part, from_base64, record_of
@@ -50,8 +50,8 @@ class Found:
 class Files:
     """Reads files. Remembers what was left out, and gives each site a name of its own."""
 
-    def __init__(self, desk: Desk) -> None:
-        self.desk = desk
+    def __init__(self, programs: Programs) -> None:
+        self.programs = programs
         self.left: list[str] = []
         self.taken: list[str] = []
         self._names: set[str] = set()
@@ -88,14 +88,14 @@ class Files:
 
     def _fields(self, octets: bytes) -> str | None:
         try:
-            return self.desk.site(octets)
+            return self.programs.site(octets)
         except Refused:
             return None
 
     def _why(self, octets: bytes) -> str:
         """What hsplan says of octets that are no record."""
         try:
-            return self.desk.site(octets)
+            return self.programs.site(octets)
         except Refused as fault:
             return f"hsplan says {fault.line.removeprefix('site: ')}"
 
@@ -108,7 +108,7 @@ class Files:
 
     def _of_list(self, file: str, octets: bytes) -> Iterator[Found]:
         """The sites of a value list. Octets that look like a site are one where hsplan finds it by its index."""
-        path = self.desk.put(octets, ".values") if MARKER in octets else ""
+        path = self.programs.put(octets, ".values") if MARKER in octets else ""
         room = MOST_TRIED * len(octets)
         for match in itertools.islice(re.finditer(re.escape(MARKER), octets), MOST_VALUES):
             index = int.from_bytes(octets[max(0, match.start() - 4) : match.start()], "big")
@@ -122,7 +122,7 @@ class Files:
                 return
             fields = self._fields(record)
             try:
-                same = fields is not None and self.desk.site_of_value(path, index) == fields
+                same = fields is not None and self.programs.site_of_value(path, index) == fields
             except Refused:
                 continue
             if same and fields:
@@ -196,7 +196,7 @@ class Files:
         """The site of a record that is made of JSON."""
         record = record_of(part)
         try:
-            fields = self.desk.site(record.octets())
+            fields = self.programs.site(record.octets())
         except Refused as fault:
             raise part.unfit(f"hsplan refuses its record: {fault.line}") from None
         if fields != record.fields():

@@ -15,7 +15,7 @@ from typing import Any
 from hsp.base.bounds import whole
 from hsp.base.numbers import part, some
 from hsp.base.paths import path_in
-from hsp.base.programs import BOUNDLESS, Certificate, Desk, Inputs, Missing, Refused
+from hsp.base.programs import BOUNDLESS, Certificate, Inputs, Missing, Programs, Refused
 from hsp.base.text import escaped
 from hsp.base.unfit import Unfit
 from hsp.plans.marks import Mark, mark_in, titles_of
@@ -245,15 +245,15 @@ def site_of(name: str, fields: str, first: int) -> Site:
     return Site(name, option, servers)
 
 
-def sites_of(desk: Desk, inputs: Inputs, settings: dict[str, Any]) -> list[Site]:
+def sites_of(programs: Programs, inputs: Inputs, settings: dict[str, Any]) -> list[Site]:
     """The sites of the settings. hsplan reads their records."""
     sites: list[Site] = []
     first = 0
     for site in settings.get("site", []):
         if "record" in site:
-            fields = desk.site(bytes.fromhex(site["record"]))
+            fields = programs.site(bytes.fromhex(site["record"]))
         else:
-            fields = desk.site_of_value(inputs.values or "", site["index"])
+            fields = programs.site_of_value(inputs.values or "", site["index"])
         sites.append(site_of(site["name"], fields, first))
         first += len(sites[-1].servers)
     return sites
@@ -266,11 +266,11 @@ def mark_of(folder: str, given: dict[str, str | None]) -> Mark:
 
 
 def read_service(
-    folder: str, desk: Desk, given: dict[str, str | None], title: str | None = None, cost: str | None = None
+    folder: str, programs: Programs, given: dict[str, str | None], title: str | None = None, cost: str | None = None
 ) -> Service:
     """Reads a folder. hsplan plans it first, so any fault of the files is hsplan's."""
     mark = mark_of(folder, given)
-    return service_of(folder, desk, inputs_in(folder, given, mark.unit), titles_in(folder, title, cost), mark)
+    return service_of(folder, programs, inputs_in(folder, given, mark.unit), titles_in(folder, title, cost), mark)
 
 
 def _in_one_line(path: str, rows: list[Row]) -> None:
@@ -283,9 +283,9 @@ def _in_one_line(path: str, rows: list[Row]) -> None:
             )
 
 
-def service_of(folder: str, desk: Desk, inputs: Inputs, titles: Titles, mark: Mark) -> Service:
+def service_of(folder: str, programs: Programs, inputs: Inputs, titles: Titles, mark: Mark) -> Service:
     """Reads files, as `read_service` does."""
-    certificate, plan_file = desk.plan(inputs)
+    certificate, plan_file = programs.plan(inputs)
     settings = settings_in(inputs.settings)
     rows = [Row(region, handle, inputs.unit * int(count)) for region, handle, count in table(inputs.demand)]
     _in_one_line(inputs.demand, rows)
@@ -294,13 +294,13 @@ def service_of(folder: str, desk: Desk, inputs: Inputs, titles: Titles, mark: Ma
         titles,
         inputs,
         settings,
-        sites_of(desk, inputs, settings),
+        sites_of(programs, inputs, settings),
         rows,
         {(region, site): int(cost) for region, site, cost in table(inputs.costs)},
         {(site, int(server)): int(room) for site, server, room in table(inputs.capacity)},
         certificate,
         plan_file,
-        desk.places(inputs, dict.fromkeys(row.handle for row in rows)),
+        programs.places(inputs, dict.fromkeys(row.handle for row in rows)),
         mark,
     )
 

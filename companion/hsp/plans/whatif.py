@@ -9,7 +9,7 @@ from dataclasses import dataclass
 
 from hsp.base.grammar import HEADERS
 from hsp.base.numbers import average, listed, queries_of, signed
-from hsp.base.programs import Desk, Missing
+from hsp.base.programs import Missing, Programs
 from hsp.base.spelling import near
 from hsp.base.text import bold, colored
 from hsp.plans.plans import capacity_file
@@ -36,11 +36,11 @@ class Case:
 class Changes:
     """Plans a service again and again, each time with one thing changed."""
 
-    def __init__(self, service: Service, desk: Desk, done: Callable[[], None] = lambda: None) -> None:
-        self.service, self.desk, self.done = service, desk, done
+    def __init__(self, service: Service, programs: Programs, done: Callable[[], None] = lambda: None) -> None:
+        self.service, self.programs, self.done = service, programs, done
 
     def planned(self, kind: str, what: str, room: int = 0, **changed: str) -> Case:
-        certificate, _ = self.desk.plan(self.service.inputs.but(**changed))
+        certificate, _ = self.programs.plan(self.service.inputs.but(**changed))
         self.done()
         if not certificate.is_plan:
             return Case(kind, what, room, None, None, certificate.demand - certificate.capacity)
@@ -51,12 +51,12 @@ class Changes:
     def with_room(self, kind: str, server: Server, room: int) -> Case:
         """A server that can take so many queries."""
         capacities = {**self.service.capacities, (server.site, server.id): room}
-        return self.planned(kind, server.label, room, capacity=capacity_file(self.desk, capacities))
+        return self.planned(kind, server.label, room, capacity=capacity_file(self.programs, capacities))
 
     def without(self, site: str) -> Case:
         """No region may use the site."""
         costs = ((region, name, cost) for (region, name), cost in self.service.costs.items() if name != site)
-        return self.planned(LOST, site, costs=self.desk.put_table(HEADERS["costs"], costs))
+        return self.planned(LOST, site, costs=self.programs.put_table(HEADERS["costs"], costs))
 
     def with_demand(self, percent: float) -> Case:
         """Each row asks for more queries, rounded up to units."""
@@ -65,7 +65,7 @@ class Changes:
             (row.region, row.handle, -int(-row.count * (100 + percent) // (100 * unit))) for row in self.service.rows
         )
         what = f"{percent:g}% more demand"
-        return self.planned(DEMAND, what, demand=self.desk.put_table(HEADERS["demand"], rows))
+        return self.planned(DEMAND, what, demand=self.programs.put_table(HEADERS["demand"], rows))
 
 
 def full_servers(service: Service) -> list[Server]:
