@@ -48,6 +48,7 @@ front_at [] ys i x e = grind arith
 front_at (y ∷ xs) ys zero x e = e
 front_at (y ∷ xs) ys (suc i) x e = front_at xs ys i x e
 
+-- an element of the second of two lists in a row, by its place behind the first
 pub back_at : {A : Type 0} (xs ys : List A) (i : ℕ) → slice_get (xs ++ ys) (length xs + i) ≡ slice_get ys i
 back_at [] ys i = let e : 0 + i ≡ i = omega arith in rw e refl
 back_at (x ∷ xs) ys i = let e : suc (length xs) + i ≡ suc (length xs + i) = omega arith in rw e (back_at xs ys i)
