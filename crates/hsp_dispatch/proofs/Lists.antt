@@ -35,8 +35,3 @@ zip_at R (a ∷ xs) (b ∷ ys) zero x y all at there =
     let right : b ≡ y = same_Some b y there in
     rw (← left, ← right) all.0
 zip_at R (a ∷ xs) (b ∷ ys) (suc k) x y all at there = zip_at R xs ys k x y all.1 at there
-
-pub all_so : {A : Type 0} (P Q : A → Type 0) → ((x : A) → P x → Q x) → (xs : List A) → AllByRecursion P xs
-    → AllByRecursion Q xs
-all_so P Q so [] all = tt
-all_so P Q so (x ∷ xs) all = (so x all.0, all_so P Q so xs all.1)

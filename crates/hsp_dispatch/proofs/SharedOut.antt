@@ -29,9 +29,10 @@ use Rattle.hsp_dispatch.specs.Standings.{AreBounded}
 use Rattle.hsp_dispatch.specs.declared.share.Cell.{Cell}
 use Rattle.hsp_dispatch.specs.declared.portion.Portion.{Portion}
 use Rattle.hsp_dispatch.proofs.Parts.{part_left, part_none, parts_are, parts_bounded, parts_more, parts_of_row}
-use Rattle.hsp_dispatch.proofs.Lists.{all_so, take_next}
+use Rattle.hsp_dispatch.proofs.Lists.{take_next}
 use Rattle.hsp_dispatch.proofs.Shares.{none_at}
 use Rattle.hsp_text.proofs.Lists.{all_take}
+use Rattle.hsp_instance.proofs.Lists.{all_so}
 
 -- ---- uses in order
 
@@ -59,7 +60,7 @@ order_from one (next ∷ uses) order =
     let parts = and_parts (is_before one next) (ascends_from is_before (Some next) uses) order in
     let first = before_is one next parts.0 in
     let rest = order_from next uses parts.1 in (
-      (first, all_so (Before next) (Before one) (λ later after. before_both one next later first after) uses rest.0),
+      (first, all_so (Before next) (Before one) uses (λ later after. before_both one next later first after) rest.0),
       rest,
     )
 

@@ -36,6 +36,12 @@ map_take_next f xs i x e =
 pub take_whole : {A : Type 0} (xs : List A) → take (length xs) xs ≡ xs
 take_whole = take-length
 
+-- what follows of each from what holds of all
+pub all_so : {A : Type 0} (P Q : A → Type 0) (xs : List A) → ((x : A) → P x → Q x) → AllByRecursion P xs
+    → AllByRecursion Q xs
+all_so P Q [] so all = tt
+all_so P Q (x ∷ xs) so all = (so x all.0, all_so P Q xs so all.1)
+
 -- what holds of all that a function gives
 pub all_map : {A B : Type 0} (P : A → Type 0) (Q : B → Type 0) (f : A → B) (xs : List A) → ((x : A) → P x → Q (f x))
     → AllByRecursion P xs → AllByRecursion Q (map f xs)
