@@ -5,6 +5,7 @@ use Rattle.std.specs.List.{AllByRecursion, AllZip, slice_get}
 use Rattle.std.proofs.lemmas.List.{take_more}
 use Rattle.std.proofs.lemmas.Option.{get_or_from_slice_get, same_Some, slice_get_within}
 
+-- one element more is taken
 pub take_next : {A : Type 0} (xs : List A) (k : ℕ) (x : A) → slice_get xs k ≡ Some x
     → take (k + 1) xs ≡ take k xs ++ x ∷ []
 take_next {A} xs k x e =
@@ -25,6 +26,7 @@ zip_push R [] (b ∷ ys) x y all is = absurd all
 zip_push R (a ∷ xs) [] x y all is = absurd all
 zip_push R (a ∷ xs) (b ∷ ys) x y all is = (all.0, zip_push R xs ys x y all.1 is)
 
+-- what holds of two lists side by side holds at each place
 pub zip_at : {A B : Type 0} (R : A → B → Type 0) (xs : List A) (ys : List B) (k : ℕ) (x : A) (y : B) → AllZip R xs ys
     → slice_get xs k ≡ Some x
     → slice_get ys k ≡ Some y → R x y

@@ -16,6 +16,7 @@ use Rattle.hsp_tables.proofs.KeyedReading.{nat_le-over}
 use Rattle.hsp_tables.proofs.TableLaws.{nat_lt-upto, regions_of-append}
 use Rattle.hsp_text.proofs.Steps.{lt_true}
 
+-- what is not there is none
 none_is : {A : Type 0} (o : Option A) → is_some o ≡ false → o ≡ None
 none_is o e = grind arith
 
@@ -41,9 +42,11 @@ module _ {K Row S : Type 0} (table : Table Row) (entry : K × ℕ → Row) (eq :
   among (other ∷ es) = rw (same e other, among es) refl
 
   module _ (number : ℕ) (fields : Fields) (old : Option ℕ) (is : Spells number fields old) where
+    -- the record's number is that of the rows before it
     at_number : number ≡ length rows
     at_number = is.numbered ∙ sym (length-map m.entries entry)
 
+    -- there is room, the record is read, and its key is looked for
     first_tests : (nat_le table.most_rows (length rows) ≡ false) × (table.row_in (length rows) fields ≡ Ok (entry e))
         × (list_any (table.same_key (entry e)) rows ≡ is_some old)
     first_tests = (
@@ -58,6 +61,7 @@ module _ {K Row S : Type 0} (table : Table Row) (entry : K × ℕ → Row) (eq :
 
     module _ (new : is_some old ≡ false) (seen : List (List ℕ))
         (regions : seen ≡ seen_with table (regions_of table rows) (entry e)) where
+      -- the regions seen are those of the rows
       seen_are : regions_of table (rows ++ entry e ∷ []) ≡ seen
       seen_are = regions_of-append table rows (entry e) ∙ sym regions
 
@@ -67,13 +71,16 @@ module _ {K Row S : Type 0} (table : Table Row) (entry : K × ℕ → Row) (eq :
 
       -- or it is the next row
       module _ (entries : List (K × ℕ)) (inserted : entries ≡ insert_entry eq m.entries key value) where
+        -- the row is put behind the others
         next : map entry entries ≡ rows ++ entry e ∷ []
         next =
             ap (map entry) (inserted ∙ insert_entry-new eq m key value (sym is.looked ∙ none_is old new))
             ∙ map-append entry m.entries (e ∷ [])
 
+        -- a row of a new key is kept
         pub kept_next : length seen ≤ MOST_REGIONS → with_row (row_after table) rows fields ≡ Ok (map entry entries)
         kept_next few = rw (next, first_tests.0, first_tests.1, first_tests.2, new, seen_are, nat_lt-upto _ _ few) refl
 
+        -- the regions seen are those of the rows that are kept
         pub kept_regions : seen ≡ regions_of table (map entry entries)
         kept_regions = rw next (sym seen_are)
