@@ -8,6 +8,7 @@
 mod counting;
 mod fault;
 mod fields;
+mod found;
 mod header;
 pub mod laws;
 mod place;
@@ -22,6 +23,7 @@ mod writing;
 
 pub use fault::RecordsFault;
 pub use fields::{three_fields, two_fields};
+pub use found::{Checked, Found};
 pub use header::{is_header, take_header};
 pub use place::Place;
 pub use placed::PlacedRecord;

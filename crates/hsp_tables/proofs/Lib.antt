@@ -9,3 +9,4 @@ pub mod SettingsLists
 pub mod TableReading
 pub mod TableKinds
 pub mod KeyedReading
+mod FaultyRows

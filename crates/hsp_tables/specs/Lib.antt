@@ -10,3 +10,5 @@ pub mod LentKeys
 pub mod Rows
 pub mod Settings
 pub mod SettingsRows
+pub mod Faulty
+pub mod Kept

@@ -7,6 +7,7 @@ mod capacity;
 mod costs;
 mod demand;
 mod fault;
+mod faulty;
 mod fields;
 mod hosts;
 mod keyed;
