@@ -10,3 +10,4 @@ pub mod TableReading
 pub mod TableKinds
 pub mod KeyedReading
 mod FaultyRows
+mod FaultyLaws

@@ -1,7 +1,7 @@
 -- Every faulty row of a table. A row that has a fault is left out: the rows behind it are read as if it weren't there,
 -- but for their numbers, which count it.
 use Rattle.std.specs.Prelude.{◌≡◌, ◌+◌, ◌-◌, ◌^◌, Bool, true, false, ℕ, List, [], ◌∷◌, ◌++◌, min, Option, Some, None}
-use Rattle.std.specs.Prelude.{Result, Ok, Err, if◌then◌else◌}
+use Rattle.std.specs.Prelude.{Result, Ok, Err, is_some, if◌then◌else◌}
 use Rattle.hsp_csv.specs.Found.{first_fault, listed, place_at}
 use Rattle.hsp_csv.specs.Header.{same_fields}
 use Rattle.hsp_csv.specs.Places.{Placed, fields_in, first_line}
@@ -81,8 +81,8 @@ fault_in (Err fault) = Some fault
 abbrev pub BeginsWithTheFault : {Row : Type 0} → Table Row → Type 0
 BeginsWithTheFault table = (all : List Placed) → first_fault (faults_of table all) ≡ fault_in (table_of table (fields_in all))
 
--- a fault of one field has a field: the fields before it are as they should be, and it is not
+-- a fault of one field has a field that is not as it should be
 abbrev pub HasItsField : {Row : Type 0} → Table Row → Type 0
 HasItsField table =
     (number : ℕ) (fields : Fields) (fault : TableFault) → table.row_in number fields ≡ Err fault
-    → is_of_field fault ≡ true → (field : ℕ) × (field_at_fault table fault fields ≡ Some field)
+    → is_of_field fault ≡ true → is_some (field_at_fault table fault fields) ≡ true

@@ -12,3 +12,4 @@ pub mod Settings
 pub mod SettingsRows
 pub mod Faulty
 pub mod Kept
+pub mod TableChecks

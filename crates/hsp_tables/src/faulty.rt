@@ -138,8 +138,10 @@ impl<K: Kind> Kept<K> {
         self.row = row.saturating_add(1);
         match add_record::<K>(alloc, &mut self.rows, &mut self.regions, row, placed.fields()) {
             Ok(()) => Ok(Checked::Good),
-            Err(TableFault::OutOfMemory) => Err(AllocError),
-            Err(fault) => Ok(faulty::<K>(row, placed, fault)),
+            Err(fault) => match fault {
+                TableFault::OutOfMemory => Err(AllocError),
+                other => Ok(faulty::<K>(row, placed, other)),
+            },
         }
     }
 }

@@ -16,6 +16,7 @@ mod members;
 mod settings;
 mod sites;
 mod table;
+mod table_check;
 
 pub use capacity::{Capacities, CapacityRow, read_capacity};
 pub use costs::{CostRow, Costs, read_costs};
@@ -23,3 +24,4 @@ pub use demand::{Demand, DemandRow, read_demand};
 pub use fault::TableFault;
 pub use settings::{Settings, read_settings};
 pub use sites::Source;
+pub use table_check::{TableCheck, TableKind, is_table_header};
