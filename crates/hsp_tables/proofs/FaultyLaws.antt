@@ -1,6 +1,6 @@
 -- The list of the faulty rows of a table begins with the fault by which the table is refused.
 use Rattle.std.proofs.Common.{◌≡◌, ◌∙◌, ◌≤◌, ◌<◌, ◌+◌, ◌-◌, ◌^◌, ℕ, Bool, true, false, List, [], ◌∷◌, ◌++◌, length, Some, Ok, Err}
-use Rattle.std.proofs.Common.{Result, cond, refl, arith}
+use Rattle.std.proofs.Common.{Result, cond, refl, arith, is_some, ◌&&◌}
 use Rattle.std.proofs.lemmas.Bool.Decides.{nat_tests}
 use Rattle.std.proofs.lemmas.List.{length-append}
 use Rattle.hsp_csv.specs.Found.{first_fault, listed}
@@ -10,12 +10,14 @@ use Rattle.hsp_csv.specs.Records.{Fields}
 use Rattle.hsp_csv.specs.declared.found.Found.{Found}
 use Rattle.hsp_text.specs.Answers.{◌>>=◌}
 use Rattle.hsp_tables.specs.declared.fault.TableFault.{TableFault}
+use Rattle.hsp_tables.specs.declared.fault.TableFault.TheVariants as fault_of
 use Rattle.hsp_tables.specs.declared.fault.TableFault.TheVariants.{Header, TooManyRows}
-use Rattle.hsp_tables.specs.Capacities.{capacity_table}
-use Rattle.hsp_tables.specs.Costs.{cost_table}
-use Rattle.hsp_tables.specs.Demand.{demand_table}
+use Rattle.hsp_tables.specs.Capacities.{capacity_of, capacity_table, is_capacity_field}
+use Rattle.hsp_tables.specs.Costs.{cost_of, cost_table, is_cost_field}
+use Rattle.hsp_tables.specs.Demand.{demand_of, demand_table, is_demand_field}
 use Rattle.hsp_tables.specs.Faulty.{BeginsWithTheFault, HasItsField, checked_as, fault_in, faulty_rows, found_header, next_row}
-use Rattle.hsp_tables.specs.Faulty.{is_of_field, with_good}
+use Rattle.hsp_tables.specs.Faulty.{first_bad, is_of_field, with_good}
+use Rattle.hsp_tables.specs.Fields.{of_three}
 use Rattle.hsp_tables.specs.InTurn.{rows_after}
 use Rattle.hsp_tables.specs.Table.{Table, row_after, row_at}
 
@@ -66,11 +68,51 @@ costs_begin = begins_with_fault cost_table (omega arith)
 pub capacities_begin : BeginsWithTheFault capacity_table
 capacities_begin = begins_with_fault capacity_table (omega arith)
 
+-- too many fields or too few are no fault of a field
+not_of_field : {Row : Type 0} (fault : TableFault) (number : ℕ)
+    → ◌≡◌ {A = Result Row TableFault} (Err (fault_of.Fields number)) (Err fault) → is_of_field fault ≡ true → ⊥
+not_of_field fault number e is = grind arith
+
+-- of three fields one that is not as it should be is found
+is_found : (is_good : ℕ → List ℕ → Bool) (a b c : List ℕ) → (is_good 0 a && (is_good 1 b && is_good 2 c)) ≡ false
+    → is_some (first_bad is_good (a ∷ b ∷ c ∷ [])) ≡ true
+is_found is_good a b c bad = grind arith
+
+-- three fields that spell no row are not all as they should be
+demand_is_bad : (number : ℕ) (a b c : List ℕ) (fault : TableFault) → demand_of number a b c ≡ Err fault
+    → (is_demand_field 0 a && (is_demand_field 1 b && is_demand_field 2 c)) ≡ false
+demand_is_bad number a b c fault e = grind arith
+
+costs_are_bad : (number : ℕ) (a b c : List ℕ) (fault : TableFault) → cost_of number a b c ≡ Err fault
+    → (is_cost_field 0 a && (is_cost_field 1 b && is_cost_field 2 c)) ≡ false
+costs_are_bad number a b c fault e = grind arith
+
+capacities_are_bad : (number : ℕ) (a b c : List ℕ) (fault : TableFault) → capacity_of number a b c ≡ Err fault
+    → (is_capacity_field 0 a && (is_capacity_field 1 b && is_capacity_field 2 c)) ≡ false
+capacities_are_bad number a b c fault e = grind arith
+
+-- a table whose rows are of three fields
+module _ {Row : Type 0} (table : Table Row) (read : ℕ → List ℕ → List ℕ → List ℕ → Result Row TableFault)
+    (of : (number : ℕ) (fields : Fields) → table.row_in number fields ≡ of_three read number fields)
+    (bad : (number : ℕ) (a b c : List ℕ) (fault : TableFault) → read number a b c ≡ Err fault
+        → (table.is_good 0 a && (table.is_good 1 b && table.is_good 2 c)) ≡ false) where
+  fields_fault : (number : ℕ) (fields : Fields) (fault : TableFault) → of_three read number fields ≡ Err fault
+      → is_of_field fault ≡ true → is_some (first_bad table.is_good fields) ≡ true
+  fields_fault number [] fault e is = absurd (not_of_field fault number e is)
+  fields_fault number (a ∷ []) fault e is = absurd (not_of_field fault number e is)
+  fields_fault number (a ∷ b ∷ []) fault e is = absurd (not_of_field fault number e is)
+  fields_fault number (a ∷ b ∷ c ∷ []) fault e is = is_found table.is_good a b c (bad number a b c fault e)
+  fields_fault number (a ∷ b ∷ c ∷ d ∷ more) fault e is = absurd (not_of_field fault number e is)
+
+  has_its_field : HasItsField table
+  has_its_field number fields fault e is =
+      rw is (fields_fault number fields fault (rw of at e) is)
+
 pub demand_has_its_field : HasItsField demand_table
-demand_has_its_field number fields fault e of = grind arith
+demand_has_its_field = has_its_field demand_table demand_of (λ number fields. refl) demand_is_bad
 
 pub costs_have_their_field : HasItsField cost_table
-costs_have_their_field number fields fault e of = grind arith
+costs_have_their_field = has_its_field cost_table cost_of (λ number fields. refl) costs_are_bad
 
 pub capacities_have_their_field : HasItsField capacity_table
-capacities_have_their_field number fields fault e of = grind arith
+capacities_have_their_field = has_its_field capacity_table capacity_of (λ number fields. refl) capacities_are_bad
