@@ -2,7 +2,8 @@
 // their fields begin; a row that is one line; a field that is written.
 //
 // The `csv` crate reads the records. Its own headers are off, a record may have any number of fields, and nothing is
-// trimmed; all its other settings are at their defaults. The octets `EF BB BF` at the start of a text are passed over once.
+// trimmed; all its other settings are at their defaults. The octets `EF BB BF` at the start of a text are passed over
+// once.
 #![tactic(auto)]
 
 mod counting;

@@ -61,6 +61,7 @@ no_mark : (tail : List ℕ) → strip_bom (row_text default_writer header ++ tai
 unfolding strip_bom fields_text is_blank escaped
 no_mark tail = refl
 
+-- the records of rows are read back as these rows
 pub records_back : (rows : List Row) → records_of (table_text rows) ≡ header ∷ records_of_rows rows
 unfolding records_from next_record
 records_back rows =

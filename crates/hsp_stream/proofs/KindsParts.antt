@@ -90,6 +90,7 @@ both_read form (fields ∷ x) y [] b p q = absurd p
 both_read form (fields ∷ x) y (r ∷ a) b p q = (p.0, both_read form x y a b p.1 q)
 
 module _ (costs : List CostEntry) (sites : List Site) where
+  -- a record that is counted spells a row
   record_reads : (form : CountForm) (n : ℕ) (table next : List Row) (fields : Fields)
       → with_record costs sites form n table fields ≡ Ok next
       → (row : Row) × Spells form fields row × (next ≡ counted (by_capped costs sites) table row)

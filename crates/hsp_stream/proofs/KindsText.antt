@@ -70,6 +70,7 @@ lines-append (x ∷ a) b =
     ap (λ t. row_text default_writer x ++ t) (lines-append a b)
     ∙ sym (append_assoc (row_text default_writer x) (lines_of a) (lines_of b))
 
+-- the records of two lists of rows stand one after the other
 pub records-append : (a b : List Row) → records_of_rows (a ++ b) ≡ records_of_rows a ++ records_of_rows b
 records-append [] b = refl
 records-append (x ∷ a) b = ap (λ t. fields_of_row x ∷ t) (records-append a b)

@@ -63,6 +63,7 @@ row_named row parts read e =
     })
 
 module _ (costs : List CostEntry) (sites : List Site) where
+  -- counting a record keeps the table one of kinds
   record_kept : (form : CountForm) (row : ℕ) (table next : List Row) (fields : Fields) → IsKindTable costs sites table
       → with_record costs sites form row table fields ≡ Ok next → IsKindTable costs sites next
   record_kept form row table next fields are e =

@@ -11,7 +11,6 @@ ghost use Rattle.hsp_tables.specs.Table.{KeepsFirstFault, ReadsAsItsRelation};
 
 /// A table reads as its relation says: exactly the rows that its records spell under the header, where they are within
 /// the limits and no two have the same key; otherwise exactly its first fault.
-#[tactic(auto, using(crate::proofs::TableKinds::demand_is_its_relation, crate::proofs::TableKinds::costs_are_their_relation, crate::proofs::TableKinds::capacities_are_their_relation))]
 pub fn reading_is_the_relation()
     ensures demand { ReadsAsItsRelation demand_table }
     ensures costs { ReadsAsItsRelation cost_table }

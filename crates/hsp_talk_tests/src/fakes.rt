@@ -1,4 +1,5 @@
-// Peers that give pieces and note what happens, a reader and a writer whose first calls fail, and a responder that counts.
+// Peers that give pieces and note what happens, a reader and a writer whose first calls fail, and a responder that
+// counts.
 
 ghost use Rattle.std.specs.Prelude.{⊤};
 

@@ -81,8 +81,8 @@ fn a_reader_and_a_writer_are_a_peer(rt: HostRuntime) {
     }
 }
 
-// Pieces that are a row each; a row of more octets than may reach a responder, of which 1,048,577 do; and a piece of rows
-// that have two lines each.
+// Pieces that are a row each; a row of more octets than may reach a responder, of which 1,048,577 do; and a piece of
+// rows that have two lines each.
 #[test]
 fn long_rows_and_many_rows_are_answered(rt: HostRuntime) {
     let long = [b'x'; 8192];
