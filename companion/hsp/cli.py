@@ -20,7 +20,7 @@ from hsp.base.grammar import COMMANDS
 from hsp.base.groups import Group
 from hsp.base.numbers import listed, some
 from hsp.base.paths import path_in, shell_word
-from hsp.base.programs import Desk, Missing, Refused
+from hsp.base.programs import Missing, Programs, Refused
 from hsp.base.signals import Stopped, stopping
 from hsp.base.text import colored, escaped, give, say, show_progress, visible
 from hsp.doctor import Examined, examined, examined_words
@@ -165,7 +165,7 @@ def main(context: click.Context) -> None:
     """
     if context.invoked_subcommand is None:
         if sys.stdout.isatty():
-            for line in next_lines(".", Desk()):
+            for line in next_lines(".", Programs()):
                 say(line)
             say("help  hsp --help")
         else:
@@ -206,22 +206,22 @@ def progress(number: int) -> Callable[[], None]:
 
 
 def sound(
-    folder: str, desk: Desk, given: dict[str, str | None], title: str | None = None, cost: str | None = None
+    folder: str, programs: Programs, given: dict[str, str | None], title: str | None = None, cost: str | None = None
 ) -> Service:
     """Reads a folder in which hsplan has no fault; otherwise prints the faults, and ends. Warnings are one line.
 
     An old plan is none of these, since the commands that ask plan anew.
     """
-    found = examined(folder, desk, given, title, cost)
+    found = examined(folder, programs, given, title, cost)
     if not found.service:
         for line in list(finding_lines(found.errors))[:-1]:
             say(line, err=True)
         sys.exit(found.status)
-    warnings = [it for it in found.warnings if it.kind != OLD_PLAN]
-    for it in (it for it in warnings if it.kind == MUCH_ADDED):
-        say(f"hsp: {it.message}; {it.remedy}", err=True)
+    warnings = [warning for warning in found.warnings if warning.kind != OLD_PLAN]
+    for warning in (warning for warning in warnings if warning.kind == MUCH_ADDED):
+        say(f"hsp: {warning.message}; {warning.remedy}", err=True)
     if warnings:
-        titles = visible(listed(dict.fromkeys(it.message for it in warnings), 2))
+        titles = visible(listed(dict.fromkeys(warning.message for warning in warnings), 2))
         say(f"hsp: {some(len(warnings), 'warning')}: {titles} (hsp doctor {visible(shell_word(folder))})", err=True)
     return found.service
 
@@ -249,23 +249,23 @@ def json_of(plan: Planned, reference: Reference | None) -> str:
     """What the lines show, for other programs."""
     servers = [
         {
-            "site": it.site,
-            "server_id": it.id,
-            "load": plan.loads[it.number],
-            "capacity": plan.service.capacity(it),
-            "price": plan.prices[it.number],
+            "site": server.site,
+            "server_id": server.id,
+            "load": plan.loads[server.number],
+            "capacity": plan.service.capacity(server),
+            "price": plan.prices[server.number],
         }
-        for it in plan.service.servers
+        for server in plan.service.servers
     ]
     gains = [
         {
-            "site": it.server.site,
-            "server_id": it.server.id,
-            "one_query_saves": it.one,
-            "room": it.room,
-            "room_saves": it.all,
+            "site": gain.server.site,
+            "server_id": gain.server.id,
+            "one_query_saves": gain.one,
+            "room": gain.room,
+            "room_saves": gain.all,
         }
-        for it in plan.gains
+        for gain in plan.gains
     ]
     shares = [{"region": a, "site": b, "queries": c, "share": d} for a, b, c, d in shares_of(plan)]
     regional = by_shares(plan)
@@ -279,21 +279,23 @@ def json_of(plan: Planned, reference: Reference | None) -> str:
         "cost_at_cheapest_sites": reference.cost if reference else None,
         "servers": servers,
         "room": gains,
-        "regions": [{"region": it, "queries": a, "cost": b} for it, (a, b) in plan.regions.items()],
+        "regions": [{"region": region, "queries": a, "cost": b} for region, (a, b) in plan.regions.items()],
         "shares": shares,
         "by_shares_alone": {"servers_too_full": regional.servers, "queries_too_many": regional.queries},
     }
     return json.dumps(report, indent=2, ensure_ascii=False) + "\n"
 
 
-def show_shortage(service: Service, desk: Desk, as_json: bool) -> None:
+def show_shortage(service: Service, programs: Programs, as_json: bool) -> None:
     """Shows who lacks what, and what has to be bought. Ends with status 3."""
-    short = shortage(service, desk)
-    bought = None if short.stranded else least_purchase(service, desk)
-    after = with_purchase(service, desk, bought) if bought else None
+    short = shortage(service, programs)
+    bought = None if short.stranded else least_purchase(service, programs)
+    after = with_purchase(service, programs, bought) if bought else None
     if as_json:
         purchase = [
-            {"site": it.site, "server_id": it.id, "more": more} for it, more in (bought or {}).items() if after
+            {"site": server.site, "server_id": server.id, "more": more}
+            for server, more in (bought or {}).items()
+            if after
         ]
         report = {"title": service.titles.title, "served": False, "queries": service.asked, "lack": short.lack}
         give(json.dumps({**report, "least_purchase": purchase or None}, indent=2, ensure_ascii=False) + "\n")
@@ -304,12 +306,12 @@ def show_shortage(service: Service, desk: Desk, as_json: bool) -> None:
     sys.exit(3)
 
 
-def keep(service: Service, desk: Desk, path: str) -> list[str]:
+def keep(service: Service, programs: Programs, path: str) -> list[str]:
     """Writes a plan, and beside it what else is needed to answer by it. Returns what is to be said of that."""
     contents: dict[str, bytes] = {}
     lines: list[str] = []
     if not os.path.exists(path) or os.path.isfile(path):
-        inputs, contents = in_units(service, desk, path)
+        inputs, contents = in_units(service, programs, path)
         lines = answer_lines(service, inputs, path)
     refuse_clashes(service.inputs.files(), contents)
     replace_all({path: service.certificate.text.encode(), **contents})
@@ -340,19 +342,19 @@ def plan(
     """
     path = output or path_in(folder, "plan.txt")
     refuse_clashes(read_in(folder, given), [] if no_save else [path])
-    desk = Desk()
-    service = sound(folder, desk, given, cost=unit)
+    programs = Programs()
+    service = sound(folder, programs, given, cost=unit)
     if not service.certificate.is_plan:
-        show_shortage(service, desk, as_json)
-    found = planned(service, desk)
-    reference = cheapest(service, desk)
+        show_shortage(service, programs, as_json)
+    found = planned(service, programs)
+    reference = cheapest(service, programs)
     if not as_csv:
-        priced = [it for it in service.servers if found.prices[it.number] > 0 and found.is_full(it)]
-        found = with_gains(found, desk, progress(len(priced)))
-    verdict = desk.verdict(service.inputs, service.plan_file)
+        priced = [server for server in service.servers if found.prices[server.number] > 0 and found.is_full(server)]
+        found = with_gains(found, programs, progress(len(priced)))
+    verdict = programs.verdict(service.inputs, service.plan_file)
     if verdict != "yes":
         ended(1, f"hsplan check says {verdict} to hsplan's own plan: please report this with your files")
-    lines = [] if no_save else keep(service, desk, path)
+    lines = [] if no_save else keep(service, programs, path)
     if as_csv or as_json:
         give(csv_of(found) if as_csv else json_of(found, reference))
         return
@@ -363,48 +365,52 @@ def plan(
     for line in [f"check {colored(verdict, 'green')}: no plan within these capacities costs less{kept}", *lines]:
         say(line)
     if not (service.sites and service.rows or any(given.values())):
-        say(next_step(service, desk))
+        say(next_step(service, programs))
 
 
 def name_of_earlier(old: Service, now: Service) -> str:
     """The title of another folder's plan. Where both have one title, the folder is named too."""
     if old.titles.title != now.titles.title:
         return old.titles.title
-    own, other = (os.path.abspath(it.folder).split(os.sep) for it in (old, now))
+    own, other = (os.path.abspath(service.folder).split(os.sep) for service in (old, now))
     parts = next((at for at in range(1, len(own)) if own[-at:] != other[-at:]), 1)
     return f"{old.titles.title} ({os.sep.join(own[-parts:])})"
 
 
-def earlier(folder: str, desk: Desk, now: Service) -> tuple[Service, Reference] | None:
+def earlier(folder: str, programs: Programs, now: Service) -> tuple[Service, Reference] | None:
     """Another folder's plan, as a reference for this one. Sites are matched by their names."""
-    old = sound(folder, desk, {})
+    old = sound(folder, programs, {})
     if not old.certificate.is_plan:
         return None
-    found = planned(old, desk)
-    loads = {(it.site, it.id): found.loads[it.number] for it in old.servers}
+    found = planned(old, programs)
+    loads = {(server.site, server.id): found.loads[server.number] for server in old.servers}
     numbers = {site.name: at for at, site in enumerate(now.sites)}
     names = [site.name for site in old.sites]
-    shares = {(region, numbers[names[at]]): it for (region, at), it in found.shares.items() if names[at] in numbers}
-    before = [loads.get((it.site, it.id), 0) for it in now.servers]
+    shares = {
+        (region, numbers[names[at]]): queries
+        for (region, at), queries in found.shares.items()
+        if names[at] in numbers
+    }
+    before = [loads.get((server.site, server.id), 0) for server in now.servers]
     words = f"in the plan of {name_of_earlier(old, now)}"
     return old, Reference(words, found.cost, old.asked, before, found.regions, shares)
 
 
-def view_of(service: Service, desk: Desk, before: str | None) -> View:
+def view_of(service: Service, programs: Programs, before: str | None) -> View:
     """All that the page shows: the plan, or the shortage and the plan after the least purchase."""
-    shown = View(service, None, cheapest(service, desk), sources=sources_of(service.folder, service.inputs))
+    shown = View(service, None, cheapest(service, programs), sources=sources_of(service.folder, service.inputs))
     after: Service | None = service
     if not service.certificate.is_plan:
-        shown.short = shortage(service, desk)
-        bought = None if shown.short.stranded else least_purchase(service, desk)
-        after = with_purchase(service, desk, bought) if bought else None
+        shown.short = shortage(service, programs)
+        bought = None if shown.short.stranded else least_purchase(service, programs)
+        after = with_purchase(service, programs, bought) if bought else None
         shown.bought = bought if bought and after else {}
     if after:
-        found = planned(after, desk)
-        shown.plan = with_gains(found, desk, progress(sum(it > 0 for it in found.prices)))
-        if desk.verdict(after.inputs, after.plan_file) != "yes":
+        found = planned(after, programs)
+        shown.plan = with_gains(found, programs, progress(sum(price > 0 for price in found.prices)))
+        if programs.verdict(after.inputs, after.plan_file) != "yes":
             raise Missing("hsplan check doesn't say yes to hsplan's own plan: please report this with your files")
-    held = earlier(before, desk, service) if before else None
+    held = earlier(before, programs, service) if before else None
     if held:
         shown.before, shown.reference = held
         shown.changes = changes_between(held[0], service)
@@ -431,9 +437,9 @@ def view(
     """
     path = output or path_in(folder, "plan.html")
     refuse_clashes(read_in(folder, given) + (read_in(before, {}) if before else []), [path])
-    desk = Desk()
-    service = sound(folder, desk, given, title, unit)
-    text = render(view_of(service, desk, before))
+    programs = Programs()
+    service = sound(folder, programs, given, title, unit)
+    text = render(view_of(service, programs, before))
     write(path, text)
     rows = some(len(service.rows), "kind" if service.mark.is_joined else "row")
     say(f"{path}  {len(text.encode()) / 1024:,.0f} KiB, {rows}")
@@ -471,16 +477,16 @@ def whatif(
     By default: more room at each full server, each site lost, and 10% more demand.
     """
     refuse_clashes(read_in(folder, given), [chart] if chart else [])
-    desk = Desk()
-    service = sound(folder, desk, given, cost=unit)
+    programs = Programs()
+    service = sound(folder, programs, given, cost=unit)
     if server:
         own = server_named(service, server)
         room = service.capacity(own)
         ends = (room // 2 if low is None else low, room * 3 // 2 if high is None else high)
-        cases = sizes(Changes(service, desk, progress(points)), own, min(ends), max(ends), points)
+        cases = sizes(Changes(service, programs, progress(points)), own, min(ends), max(ends), points)
     else:
         number = len(full_servers(service)) + len(service.sites) + 1
-        cases = standard(Changes(service, desk, progress(number)), step)
+        cases = standard(Changes(service, programs, progress(number)), step)
     if as_csv:
         give(cases_csv(cases))
     else:
@@ -497,7 +503,7 @@ class WordsBehind(click.Command):
         if "--" in args:
             at = args.index("--")
             context.meta["words"] = args[at + 1 :]
-            if [it for it in args[:at] if it not in ("--json", "--strict")]:
+            if [arg for arg in args[:at] if arg not in ("--json", "--strict")]:
                 context.fail("give either DIR, or the words of a command of hsplan behind --")
             args = args[:at]
         first = args[0] if args else ""
@@ -531,9 +537,9 @@ def doctor(context: click.Context, folder: str, strict: bool, as_json: bool, **g
     Where hsplan has no fault, it shows what is accepted and seldom meant. In place of DIR the words of a command of
     hsplan may stand behind --, as in: hsp doctor -- plan --settings settings.toml --demand demand.csv
     """
-    desk = Desk()
+    programs = Programs()
     words = context.meta.get("words")
-    found = examined(folder, desk, given) if words is None else examined_words(words, desk)
+    found = examined(folder, programs, given) if words is None else examined_words(words, programs)
     summary = "no fault in these words and files"
     if found.service:
         summary = f"{colored('no fault', 'green')}  {head(found.service)}"

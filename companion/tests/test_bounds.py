@@ -20,7 +20,7 @@ import pytest
 from hsp.base import bounds
 
 from hsp.base.bounds import LARGEST, pieces, weight, whole
-from hsp.base.programs import Desk
+from hsp.base.programs import Programs
 from hsp.base.unfit import Unfit
 from hsp.doctor import guard
 from hsp.doctor.findings import Place, Words, found
@@ -134,17 +134,17 @@ def forged_list(values: int, zeros: int) -> bytes:
 def test_candidates_are_not_kept(tmp_path: Path, monkeypatch: pytest.MonkeyPatch) -> None:
     monkeypatch.setenv("TMPDIR", str(tmp_path))
     monkeypatch.setattr("tempfile.tempdir", None)
-    desk, put = Desk(), Desk.put
+    programs, put = Programs(), Programs.put
     written = []
 
-    def counting(self: Desk, text: bytes, suffix: str = ".txt") -> str:
+    def counting(self: Programs, text: bytes, suffix: str = ".txt") -> str:
         written.append(len(text))
         return put(self, text, suffix)
 
-    monkeypatch.setattr(Desk, "put", counting)
+    monkeypatch.setattr(Programs, "put", counting)
     octets = forged_list(300, 100_000)
     with pytest.raises(Unfit):
-        Files(desk).read("forged", octets)
+        Files(programs).read("forged", octets)
     assert sum(written) < 8 * len(octets)
     assert [it.suffix for it in tmp_path.glob("hsp-*/*")] == [".values"]
 
@@ -164,12 +164,12 @@ def test_long_lines_take_little_memory(tmp_path: Path) -> None:
 
 def test_queries_are_written_out_by_their_octets(monkeypatch: pytest.MonkeyPatch, example: Example) -> None:
     """The table is that of one count over everything."""
-    draw, folder, desk = random.Random(3), example("two-sites"), Desk()
-    inputs = read_service(str(folder), desk, {}).inputs
+    draw, folder, programs = random.Random(3), example("two-sites"), Programs()
+    inputs = read_service(str(folder), programs, {}).inputs
     asked = [(draw.choice((b"eu", b"us")), b"20.500.1/%d" % draw.randrange(600)) for _ in range(3000)]
     monkeypatch.setattr("hsp.intake.tally.MOST_HELD", 20_000)
     monkeypatch.setattr(bounds, "MOST_AT_ONCE", 50)
-    one, many = Tally(desk), Tally(desk, most=1 << 40)
+    one, many = Tally(programs), Tally(programs, most=1 << 40)
     for _ in one.add(asked):
         assert weight(one._counts) <= 20_000 + 50 * 250
     monkeypatch.setattr("hsp.intake.tally.MOST_HELD", 1 << 40)
@@ -182,10 +182,10 @@ def test_queries_are_written_out_by_their_octets(monkeypatch: pytest.MonkeyPatch
 
 
 def test_tables_of_a_fleet_are_joined_by_their_octets(monkeypatch: pytest.MonkeyPatch, example: Example) -> None:
-    desk = Desk()
-    inputs = read_service(str(example("two-sites")), desk, {}).inputs
+    programs = Programs()
+    inputs = read_service(str(example("two-sites")), programs, {}).inputs
     monkeypatch.setattr(tables, "MOST_HELD", 40_000)
-    held = tables.Table(desk, inputs)
+    held = tables.Table(programs, inputs)
     held.add(((b"eu", b"20.500.1/%d" % number), 1) for number in range(50))
     assert not held.is_joined and held.octets == weight(held.counts)
     held.add(((b"eu", b"20.500.1/%d" % number), 1) for number in range(50, 100))
@@ -216,7 +216,7 @@ def test_what_is_remembered_is_bounded(monkeypatch: pytest.MonkeyPatch) -> None:
         assert remembered[b"%d" % number] == b"%d" % number
         assert len(remembered) <= 41
     assert remembered[b"199"] == b"199" and len(seen) == 200
-    judge = Judge(Desk(), most=5000)
+    judge = Judge(Programs(), most=5000)
     for number in range(0, 200, 20):
         assert judge.faults(b"20.500.1/%d" % it for it in range(number, number + 20)) == {}
         assert len(judge._known) <= 60

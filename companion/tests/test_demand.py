@@ -27,7 +27,7 @@ from click.testing import CliRunner
 
 from lib import examples
 import maxmind
-from hsp.base.programs import Desk, Inputs, Refused
+from hsp.base.programs import Inputs, Programs, Refused
 from hsp.cli import main
 from hsp.intake.forms import Form
 from hsp.intake.logs import LONGEST, Skipped, numbered
@@ -517,8 +517,8 @@ def test_any_number_of_handles_is_joined_by_kinds(tmp_path: Path) -> None:
     assert "has 18 rows, each for the handles that have the same servers" in result.stdout
     log = (folder / "log.csv").read_text().splitlines()
     assert log[0] == "region,handle" and log[2] == "us,20.500.1234/n1" and len(log) == 20_001
-    desk = Desk()
-    direct = desk.kinds(inputs_of(folder), str(folder / "log.csv"), None)
+    programs = Programs()
+    direct = programs.kinds(inputs_of(folder), str(folder / "log.csv"), None)
     assert direct == (folder / "demand.csv").read_text()
     files = ("--settings", folder / "settings.toml", "--costs", folder / "costs.csv")
     assert invoke(*words, *files).stdout == direct
@@ -536,8 +536,8 @@ def test_counts_beyond_memory_give_the_same_table(tmp_path: Path) -> None:
     seek = regions_in(regions_file(tmp_path), "", None)
     tables = []
     for most in (100, 1 << 20):
-        desk = Desk()
-        reading, tally = Reading(Form(), seek, Judge(desk, 1000)), Tally(desk, most)
+        programs = Programs()
+        reading, tally = Reading(Form(), seek, Judge(programs, 1000)), Tally(programs, most)
         for _ in tally.add(queries(str(path), reading)):
             pass
         text, is_joined = tally.demand(inputs, None)
@@ -553,8 +553,8 @@ def test_a_count_that_is_too_large_needs_a_unit(tmp_path: Path) -> None:
     words = ("demand", tmp_path / "few.csv", "--regions", regions_file(tmp_path), "--into", folder)
     invoke(*words, "--unit", "10")
     assert (folder / "demand.csv").read_text() == "region,handle,count\neu,20.1/a,101\n"
-    desk = Desk()
-    tally = Tally(desk)
+    programs = Programs()
+    tally = Tally(programs)
     for _ in range(1001):
         for _ in tally.add([(b"eu", b"20.1/a")] * 1000):
             pass
@@ -637,8 +637,8 @@ def test_a_database_needs_its_package(tmp_path: Path, monkeypatch: pytest.Monkey
 def processor_seconds(path: Path, seek: Seek) -> float:
     """The seconds of the processor that counting a log takes, those of hsplan-stream among them."""
     before = sum(os.times()[:4])
-    tally = Tally(Desk())
-    for _ in tally.add(queries(str(path), Reading(Form(), seek, Judge(Desk())))):
+    tally = Tally(Programs())
+    for _ in tally.add(queries(str(path), Reading(Form(), seek, Judge(Programs())))):
         pass
     assert tally.asked == 20 * LINES
     return sum(os.times()[:4]) - before
@@ -719,7 +719,7 @@ def test_standard_input_is_read_once(hsp: Hsp, words: list[str]) -> None:
 
 def test_a_row_that_hsplan_refuses_is_shown() -> None:
     """By its region and its handle, also where it isn't the first one. A database may name regions so."""
-    tally = Tally(Desk())
+    tally = Tally(Programs())
     for _ in tally.add([(b"eu", b"20.500.1/a"), (b"eu", b"20.500.1/a"), (b"no name", b"20.500.1/b")]):
         pass
     refused = "hsplan refuses this demand: demand: BadName row 1 in the row 'no name,20.500.1/b,1'"
@@ -745,5 +745,5 @@ def test_reasons_stand_by_their_counts_and_then_by_their_words(tmp_path: Path) -
 @pytest.mark.parametrize("unit, remedy", [(1_000_000, "give --unit 1000000"), (1_000_001, "count the logs in parts")])
 def test_no_unit_is_advised_that_is_refused(unit: int, remedy: str) -> None:
     """hsplan-stream takes units up to 1,000,000."""
-    line = advice(Refused(1, f"log: CountTooLarge row 3 unit {unit}"), Inputs("", "", "", ""), Desk())
+    line = advice(Refused(1, f"log: CountTooLarge row 3 unit {unit}"), Inputs("", "", "", ""), Programs())
     assert line.endswith(remedy)

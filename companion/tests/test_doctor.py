@@ -11,7 +11,7 @@ from pathlib import Path
 
 import pytest
 
-from hsp.base.programs import Desk
+from hsp.base.programs import Programs
 from hsp.doctor import Examined, examined
 from hsp.doctor.findings import ERROR, Finding
 from hsp.doctor.printing import grouped, lines
@@ -278,7 +278,7 @@ def broken(folder: Path, file: str, edit: Edit) -> Examined:
     with open(path, encoding="utf-8", newline="") as source:
         text = source.read()
     path.write_bytes(edit(text).encode("utf-8"))
-    return examined(str(folder), Desk(), {"settings": str(path)} if file == HOSTS else {})
+    return examined(str(folder), Programs(), {"settings": str(path)} if file == HOSTS else {})
 
 
 def shown_of(findings: list[Finding], folder: Path) -> str:
@@ -322,13 +322,13 @@ def test_a_block_that_was_left_out_moves_no_other(example: Example) -> None:
     text = re.sub(r'record = "0', 'record = "', (folder / SETTINGS).read_text())
     (folder / SETTINGS).write_text(text)
     wanted = [(SETTINGS, 3, 10, "settings: BadSite site 0"), (SETTINGS, 6, 10, "settings: BadSite site 1")]
-    assert [(*at(it), it.said) for it in examined(str(folder), Desk(), {}).errors] == wanted
+    assert [(*at(it), it.said) for it in examined(str(folder), Programs(), {}).errors] == wanted
     first, second = re.findall(r'record = "(\w+)"', text)
     lines = [
         f'  {{ name = "{name}", record = "{it}" }},' for name, it in (("paris", "0" + first), ("reston", second))
     ]
     (folder / SETTINGS).write_text("\n".join(["site = [", *lines, "]", ""]))
-    found = examined(str(folder), Desk(), {}).errors
+    found = examined(str(folder), Programs(), {}).errors
     assert [(*at(it), it.said) for it in found] == [(SETTINGS, 3, 31, "settings: BadSite site 1")]
 
 
@@ -336,12 +336,12 @@ def test_two_faults_of_one_block(example: Example) -> None:
     folder = example("two-sites")
     text = (folder / HOSTS).read_text().replace("limit = 2000\n", "")
     (folder / SETTINGS).write_text(text.replace('"000000000000000000000000c6336416"', '"198.51.100.22"'))
-    found = examined(str(folder), Desk(), {}).errors
+    found = examined(str(folder), Programs(), {}).errors
     assert [(it.line, it.said) for it in found] == [(8, "settings: BadHost host 0"), (7, "settings: BadHost host 0")]
     (folder / SETTINGS).write_text(
         'title = "mine"\nunit = "ms"\n' + (TOP / "examples/two-sites/settings.toml").read_text()
     )
-    assert [it.line for it in examined(str(folder), Desk(), {}).errors] == [1, 2]
+    assert [it.line for it in examined(str(folder), Programs(), {}).errors] == [1, 2]
 
 
 def at(finding: Finding) -> tuple[str, int, int]:
@@ -361,7 +361,7 @@ def test_all_files_at_once(hsp: Hsp, example: Example) -> None:
     ]
     for file, edit in edits:
         (folder / file).write_text(edit((folder / file).read_text()))
-    found = examined(str(folder), Desk(), {})
+    found = examined(str(folder), Programs(), {})
     assert [(*at(it), it.said) for it in found.errors] == [
         (SETTINGS, 2, 1, "settings: UnknownKey"),
         (DEMAND, 2, 4, "demand: BadHandle row 0 NoSlash"),
@@ -390,7 +390,7 @@ def test_a_word_of_the_name_of_a_site(example: Example) -> None:
         ("reston-hall", "atlantis", "[[site]]"),
     ):
         (folder / COSTS).write_text(costs.replace(f"us,{site}", f"us,{name}"))
-        (only,) = examined(str(folder), Desk(), {}).errors
+        (only,) = examined(str(folder), Programs(), {}).errors
         assert remedy in only.remedy, only
 
 
@@ -399,7 +399,7 @@ def test_two_rows_in_one_line_move_no_other(example: Example) -> None:
     folder = example("two-sites")
     text = (folder / CAPACITY).read_text()
     (folder / CAPACITY).write_text(text.replace("1500\n", "1500").replace("reston,2,1460", "reston,2,x"))
-    found = examined(str(folder), Desk(), {}).errors
+    found = examined(str(folder), Programs(), {}).errors
     assert [(it.line, it.column) for it in found] == [(2, 9), (4, 10)], found
 
 
@@ -407,7 +407,7 @@ def test_a_proxys_answer_in_place_of_the_settings(example: Example) -> None:
     """One finding, and none for the sites that the tables name."""
     folder = example("two-sites")
     (folder / SETTINGS).write_text(json.dumps({"responseCode": 1, "values": [{"type": "HS_SITE"}]}, indent=1))
-    (only,) = examined(str(folder), Desk(), {}).errors
+    (only,) = examined(str(folder), Programs(), {}).errors
     assert (only.message, only.line) == ("the settings are JSON, not TOML", 1)
     assert f"hsp sites {folder / SETTINGS} makes the blocks" in only.remedy
 
@@ -418,14 +418,14 @@ def test_columns_that_are_swapped_in_each_row(example: Example) -> None:
     head, *rows = (folder / DEMAND).read_text().splitlines()
     swapped = [",".join((it[1], it[0], it[2])) for it in (row.split(",") for row in rows)]
     (folder / DEMAND).write_text("\n".join([head, *swapped, ""]))
-    first, second = grouped(examined(str(folder), Desk(), {}).errors)
+    first, second = grouped(examined(str(folder), Programs(), {}).errors)
     assert first[0].remedy == "put the columns in the order region,handle,count" and len(first) == len(second) == 36
 
 
 def test_a_header_with_tabs_is_shown(example: Example) -> None:
     folder = example("two-sites")
     (folder / COSTS).write_text((folder / COSTS).read_text().replace(",", "\t"))
-    (only,) = examined(str(folder), Desk(), {}).errors
+    (only,) = examined(str(folder), Programs(), {}).errors
     assert only.text == "region\tsite\tcost" and only.end == len(only.text) + 1
 
 
@@ -435,7 +435,7 @@ def test_equal_faults_are_counted(hsp: Hsp, example: Example) -> None:
     lines = hsp("doctor", str(folder), status=1).stdout.splitlines()
     assert lines[0] == "error: count '475.0' isn't a whole number within its limit"
     assert "  and  35 more of this kind, in lines 3, 4, 5, 6, 7, 8, 9 and 28 more" in lines
-    assert len(examined(str(folder), Desk(), {}).errors) == 36
+    assert len(examined(str(folder), Programs(), {}).errors) == 36
 
 
 def test_the_lines_of_a_fault(hsp: Hsp, example: Example) -> None:
@@ -461,7 +461,7 @@ def test_json_has_the_same_findings(hsp: Hsp, example: Example) -> None:
     (folder / DEMAND).write_text(sub(",475", ",4.5")((folder / DEMAND).read_text()))
     (folder / COSTS).unlink()
     printed = json.loads(hsp("doctor", str(folder), "--json", status=5).stdout)
-    found = examined(str(folder), Desk(), {})
+    found = examined(str(folder), Programs(), {})
     assert [(it["file"], it["line"], it["column"], it["end"], it["message"], it["remedy"]) for it in printed] == [
         (it.file, it.line, it.column, it.end, it.message, it.remedy) for it in found.findings
     ]
@@ -523,7 +523,7 @@ def test_files_that_cannot_be_read(hsp: Hsp, example: Example, tmp_path: Path) -
 def test_files_in_other_forms(example: Example, octets: Callable[[bytes], bytes], remedy: str) -> None:
     folder = example("two-sites")
     (folder / DEMAND).write_bytes(octets((folder / DEMAND).read_bytes()))
-    assert remedy in examined(str(folder), Desk(), {}).errors[0].remedy
+    assert remedy in examined(str(folder), Programs(), {}).errors[0].remedy
 
 
 def test_forms_that_hsplan_takes(example: Example) -> None:
@@ -536,7 +536,7 @@ def test_forms_that_hsplan_takes(example: Example) -> None:
         folder = example("two-sites")
         for name in (DEMAND, COSTS, CAPACITY, SETTINGS):
             (folder / name).write_bytes(octets((folder / name).read_bytes()))
-        assert examined(str(folder), Desk(), {}).findings == []
+        assert examined(str(folder), Programs(), {}).findings == []
         for path in folder.iterdir():
             path.unlink()
         folder.rmdir()

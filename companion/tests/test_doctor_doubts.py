@@ -14,7 +14,7 @@ from pathlib import Path
 
 import pytest
 
-from hsp.base.programs import Desk
+from hsp.base.programs import Programs
 from hsp.doctor import examined
 from hsp.doctor.findings import WARNING
 
@@ -71,7 +71,7 @@ def test_a_doubt_has_its_place_and_its_remedy(example: Example, name: str) -> No
     folder = example("two-sites")
     path = folder / file
     path.write_text(edit(path.read_text()))
-    found = examined(str(folder), Desk(), {"settings": str(path)} if file == HOSTS else {})
+    found = examined(str(folder), Programs(), {"settings": str(path)} if file == HOSTS else {})
     assert not found.errors and found.status == 0
     own = [
         it
@@ -89,7 +89,7 @@ def test_a_doubt_is_not_raised_where_it_is_not_due(example: Example) -> None:
         file, edit, *_ = DOUBTS[name]
         folder = example("two-sites")
         (folder / file).write_text(edit((folder / file).read_text()))
-        found = examined(str(folder), Desk(), {"settings": str(folder / file)} if file == HOSTS else {})
+        found = examined(str(folder), Programs(), {"settings": str(folder / file)} if file == HOSTS else {})
         assert len(found.warnings) == 1 or len({it.kind for it in found.warnings}) == 1, (name, found.warnings)
         subprocess.run(["rm", "-r", str(folder)], check=True)
 
@@ -97,7 +97,7 @@ def test_a_doubt_is_not_raised_where_it_is_not_due(example: Example) -> None:
 def test_a_word_of_hsp_toml_that_nothing_reads(example: Example) -> None:
     folder = example("two-sites")
     (folder / "hsp.toml").write_text('title = "Films"\ncosts = "ms"\n[units]\n')
-    found = examined(str(folder), Desk(), {})
+    found = examined(str(folder), Programs(), {})
     assert not found.errors
     assert [(it.line, it.column, it.remedy) for it in found.warnings] == [(2, 1, "write cost"), (3, 2, "take it out")]
 
@@ -108,7 +108,7 @@ def test_two_sites_with_one_record(example: Example) -> None:
     first = next(it for it in lines if it.startswith("record"))
     lines[max(at for at, it in enumerate(lines) if it.startswith("record"))] = first
     (folder / SETTINGS).write_text("\n".join(lines) + "\n")
-    found = examined(str(folder), Desk(), {})
+    found = examined(str(folder), Programs(), {})
     assert [it.message for it in found.warnings if "has the record of" in it.message] or found.errors
 
 
@@ -134,7 +134,7 @@ def test_costs_that_are_all_0_are_named_by_a_plan(hsp: Hsp, example: Example) ->
 def test_costs_of_0_without_a_choice_are_no_doubt(example: Example) -> None:
     folder = example("two-sites")
     (folder / COSTS).write_text("region,site,cost\neu,paris,0\nus,reston,0\nasia,reston,0\n")
-    assert "costs of 0" not in [it.name for it in examined(str(folder), Desk(), {}).warnings]
+    assert "costs of 0" not in [it.name for it in examined(str(folder), Programs(), {}).warnings]
 
 
 def test_one_empty_file_is_one_finding(example: Example) -> None:
@@ -149,7 +149,7 @@ def test_one_empty_file_is_one_finding(example: Example) -> None:
         folder = example("two-sites")
         text = "" if name == SETTINGS else no_rows((folder / name).read_text())
         (folder / name).write_text(text)
-        assert [it.message for it in examined(str(folder), Desk(), {}).findings] == [message]
+        assert [it.message for it in examined(str(folder), Programs(), {}).findings] == [message]
         subprocess.run(["rm", "-r", str(folder)], check=True)
 
 
@@ -175,7 +175,7 @@ def test_an_accepted_name_that_no_warning_has(example: Example) -> None:
     folder = example("two-sites")
     (folder / COSTS).write_text(more("brasil,paris,5\n")((folder / COSTS).read_text()))
     (folder / "hsp.toml").write_text('title = "Films"\naccept = ["idle region brazil", "old plan", "idle"]\n')
-    found = examined(str(folder), Desk(), {})
+    found = examined(str(folder), Programs(), {})
     assert [(it.name, it.line, it.column, it.remedy) for it in found.warnings] == [
         ("needless name idle region brazil", 2, 12, "write idle region brasil"),
         ("needless name old plan", 2, 34, "take it out, if what it names is mended"),
@@ -199,14 +199,14 @@ def test_a_plan_older_than_its_inputs(hsp: Hsp, example: Example) -> None:
     hsp("plan", str(folder))
     later = os.stat(folder / "plan.txt").st_mtime + 10
     os.utime(folder / CAPACITY, (later, later))
-    assert examined(str(folder), Desk(), {}).warnings == []
+    assert examined(str(folder), Programs(), {}).warnings == []
     (folder / CAPACITY).write_text(sub("paris,2,1510", "paris,2,1400")((folder / CAPACITY).read_text()))
     os.utime(folder / CAPACITY, (later, later))
-    assert examined(str(folder), Desk(), {"demand": str(folder / "premiere.csv")}).warnings == []
-    (found,) = examined(str(folder), Desk(), {}).warnings
+    assert examined(str(folder), Programs(), {"demand": str(folder / "premiere.csv")}).warnings == []
+    (found,) = examined(str(folder), Programs(), {}).warnings
     assert found.message == "the plan is older than capacity.csv" and found.remedy == f"hsp plan {folder}"
     assert hsp("plan", str(folder)).stderr == ""
-    assert examined(str(folder), Desk(), {}).warnings == []
+    assert examined(str(folder), Programs(), {}).warnings == []
 
 
 def test_a_plan_that_was_cut_or_is_of_other_files(hsp: Hsp, example: Example) -> None:
@@ -216,11 +216,11 @@ def test_a_plan_that_was_cut_or_is_of_other_files(hsp: Hsp, example: Example) ->
     whole = (folder / "plan.txt").read_text()
     for text in (whole[:99], whole.replace("cost 307216", "cost 307215")):
         (folder / "plan.txt").write_text(text)
-        (found,) = examined(str(folder), Desk(), {}).warnings
+        (found,) = examined(str(folder), Programs(), {}).warnings
         assert found.message == "the plan isn't one of these files" and found.remedy == f"hsp plan {folder}"
         assert "plan.txt isn't a plan of these files" in at_a_terminal(folder)
     assert hsp("plan", str(folder)).stderr == ""
-    assert examined(str(folder), Desk(), {}).warnings == []
+    assert examined(str(folder), Programs(), {}).warnings == []
 
 
 @pytest.mark.parametrize("command", ["plan", "view", "whatif"])

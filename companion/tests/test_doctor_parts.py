@@ -7,7 +7,7 @@ from pathlib import Path
 
 import pytest
 
-from hsp.base.programs import Desk
+from hsp.base.programs import Programs
 from hsp.doctor import answer_faults, faults, toml_faults
 from hsp.doctor.findings import Text
 from hsp.doctor.numbers_advice import advice
@@ -26,7 +26,7 @@ def text_of(lines: str, path: str = "demand.csv") -> Text:
 
 
 def question_of(kind: str, lines: str) -> Question:
-    return Question(Desk(), "plan", {kind: Draft(text_of(lines))})
+    return Question(Programs(), "plan", {kind: Draft(text_of(lines))})
 
 
 def test_a_line_below_those_that_were_put_in_has_its_own_number() -> None:
@@ -62,7 +62,7 @@ def test_an_answer_that_cannot_be_written(tmp_path: Path) -> None:
     assert one.why == "a full disk, or a closed pipe"
     other = answer_faults.streams(question, Said(5, "log: ReadFailed", "log", "ReadFailed")).finding
     assert other and other.message == "the log can't be read to its end" and other.remedy.endswith("> /dev/null")
-    folder = Question(Desk(), "dispatch", {"log": Draft(Text(str(tmp_path), b""))})
+    folder = Question(Programs(), "dispatch", {"log": Draft(Text(str(tmp_path), b""))})
     third = answer_faults.streams(folder, Said(5, "log: ReadFailed", "log", "ReadFailed")).finding
     assert third and (third.why, third.remedy) == ("a folder, not a file", "give the file in it")
 
@@ -135,6 +135,6 @@ def test_faults_that_no_small_file_has() -> None:
 
 
 def test_octets_of_files_are_counted_where_memory_ran_out() -> None:
-    question = Question(Desk(), "plan", {"demand": Draft(text_of("a\n")), "costs": Draft(text_of("bcd\n"))})
+    question = Question(Programs(), "plan", {"demand": Draft(text_of("a\n")), "costs": Draft(text_of("bcd\n"))})
     (only,) = answer_faults.memory(question, Said(4, "OutOfMemory"))
     assert only.finding and only.finding.why == "the files have 6 octets" and only.mended == []

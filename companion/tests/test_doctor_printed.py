@@ -10,7 +10,7 @@ from pathlib import Path
 import pytest
 
 from hsp.base.bounds import LARGEST
-from hsp.base.programs import Desk, run
+from hsp.base.programs import Programs, run
 from hsp.doctor import examined, examined_words
 from hsp.doctor.numbers_advice import advice
 
@@ -156,7 +156,7 @@ def edited(folder: Path, file: str, edit: Edit) -> Path:
 
 
 def said_of(folder: Path, **given: str | None) -> str:
-    return shown_of(examined(str(folder), Desk(), dict(given)).findings, folder)
+    return shown_of(examined(str(folder), Programs(), dict(given)).findings, folder)
 
 
 @pytest.mark.parametrize("name", FAULTS)
@@ -218,7 +218,7 @@ def test_faults_of_paths(example: Example, monkeypatch: pytest.MonkeyPatch) -> N
     for path in [*absent, "large.csv", ".", "n" * 300]:
         assert_kept("faults", f"path: {path!r:.40}", said_of(Path("."), demand=path))
     words = "plan --settings settings.toml --demand= --costs costs.csv --capacity capacity.csv".split()
-    assert_kept("faults", "path: none", shown_of(examined_words(words, Desk()).findings, Path(".")))
+    assert_kept("faults", "path: none", shown_of(examined_words(words, Programs()).findings, Path(".")))
 
 
 @pytest.mark.parametrize("name", ["count", "cost", "capacity", "server_id", "front"])
@@ -341,7 +341,7 @@ def swapped(path: Path, old: bytes, new: bytes) -> None:
 def test_faults_of_words(folder: Path, name: str) -> None:
     edit, words = WORDS[name]
     edit(folder)
-    found = examined_words(words.split(), Desk())
+    found = examined_words(words.split(), Programs())
     assert_kept("faults", f"words: {name}", f"status {found.status}\n{shown_of(found.findings, Path('.'))}")
 
 

@@ -13,7 +13,7 @@ from pathlib import Path
 
 import pytest
 
-from hsp.base.programs import Desk
+from hsp.base.programs import Programs
 from hsp.doctor import Examined, examined
 from hsp.doctor.printing import json_of, lines
 
@@ -77,7 +77,7 @@ def check(folder: Path, found: Examined) -> None:
 
 
 def run(folder: Path) -> Examined:
-    found = examined(str(folder), Desk(), {})
+    found = examined(str(folder), Programs(), {})
     shown = list(lines(found.findings))
     assert not found.findings or any(it.startswith("  do   ") for it in shown)
     assert len(json.loads(json_of(found.findings))) == len(found.findings)

@@ -14,7 +14,7 @@ from typing import Any
 
 import pytest
 
-from hsp.base.programs import Desk
+from hsp.base.programs import Programs
 from hsp.doctor import examined_words
 from hsp.doctor.commands import line_of
 from hsp.doctor.printing import json_of, lines
@@ -41,7 +41,7 @@ def folder(example: Example, monkeypatch: pytest.MonkeyPatch) -> Path:
 
 def findings(words: str, status: int, head: str = "") -> list[dict[str, Any]]:
     """The findings for words, as objects. What is printed of them is kept under a head."""
-    found = examined_words(words.split(), Desk())
+    found = examined_words(words.split(), Programs())
     assert found.status == status
     if head:
         assert_kept("words", head, "\n".join(lines(found.findings)))
@@ -309,7 +309,7 @@ def test_words_that_are_spoilt_at_random(folder: Path) -> None:
         path = os.environ[line.program.upper().replace("-", "_")]
         own = [it.text for it in line.words]
         ended = subprocess.run([path, *own], stdin=subprocess.DEVNULL, capture_output=True, text=True)
-        found = examined_words(words, Desk())
+        found = examined_words(words, Programs())
         assert found.status == (ended.returncode if ended.returncode != 3 else bool(found.errors)), words
         said = {it.said for it in found.errors}
         first = ended.stderr.strip().partition(": ")[2] if ended.returncode else ""

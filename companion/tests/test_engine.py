@@ -17,7 +17,7 @@ from typing import Any
 
 import pytest
 
-from hsp.base.programs import Desk, Inputs, Missing, Refused
+from hsp.base.programs import Inputs, Missing, Programs, Refused
 from hsp.base.unfit import Unfit
 from hsp.fleet import answers, engine, local, parts, progress, remote, session
 from hsp.fleet.engine import NOT_YET, ByValue, Engine, Place, Unfinished
@@ -480,17 +480,17 @@ def test_a_fault_of_a_part_is_a_reply(
 
 
 def test_tables_that_cannot_be_joined(example: Example) -> None:
-    folder, desk = example("two-sites"), Desk()
+    folder, programs = example("two-sites"), Programs()
     inputs = Inputs(str(folder / "settings.toml"), "", str(folder / "costs.csv"), "")
-    table = Table(desk, inputs, most=1)
+    table = Table(programs, inputs, most=1)
     with pytest.raises(Unfit, match="no cost|can't join|TooMany|BadName"):
         table.add([((b"e u", b"20.1/a"), 1), ((b"e v", b"20.1/b"), 2)])
     with pytest.raises(Unfit, match="more than 8,192 rows of demand, which is what hsplan takes. Give --into DIR"):
-        Table(desk, None, most=1).add([((b"eu", b"20.1/a"), 1), ((b"eu", b"20.1/b"), 2)])
+        Table(programs, None, most=1).add([((b"eu", b"20.1/a"), 1), ((b"eu", b"20.1/b"), 2)])
     with pytest.raises(Refused):
-        joined(desk, inputs, [((b"e u", b"20.1/a"), 1)])
+        joined(programs, inputs, [((b"e u", b"20.1/a"), 1)])
     great = [((b"eu", b"20.1/a"), 10**12), ((b"us", b"20.1/b"), 5), ((b"eu", b"20.1/a"), 10**12 - 3)]
-    assert [count for _, count in joined(desk, inputs, great)] == [2 * 10**12 - 3, 5]
+    assert [count for _, count in joined(programs, inputs, great)] == [2 * 10**12 - 3, 5]
 
 
 def test_how_far_a_run_is(monkeypatch: pytest.MonkeyPatch) -> None:

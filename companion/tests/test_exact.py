@@ -16,7 +16,7 @@ from hsp.base import text
 
 from hsp.base.grammar import GREATEST_COUNT, MOST_DEMAND_ROWS
 from hsp.base.numbers import average, listed, part, percent, queries_of, signed, some
-from hsp.base.programs import Desk
+from hsp.base.programs import Programs
 from hsp.base.spelling import near
 from hsp.base.unfit import Unfit, shown
 from hsp.doctor import mark_doubts
@@ -218,7 +218,7 @@ def test_few_prefixes_are_held(monkeypatch: pytest.MonkeyPatch) -> None:
 
 def test_a_table_is_joined_above_so_many_rows_and_so_great_counts() -> None:
     for rows, count in ((MOST_DEMAND_ROWS, 1), (1, GREATEST_COUNT)):
-        own = Tally(Desk())
+        own = Tally(Programs())
         own.take({(b"eu", b"20.500.1/%d" % at): count for at in range(rows)}, False)
         table, is_joined = own.demand(None, None)
         assert (table.count(b"\n"), is_joined, own.handles) == (rows + 1, False, rows)
@@ -227,7 +227,7 @@ def test_a_table_is_joined_above_so_many_rows_and_so_great_counts() -> None:
         (1, GREATEST_COUNT + 1, "1 row of demand"),
         (2, GREATEST_COUNT + 1, "2 rows of demand"),
     ):
-        own = Tally(Desk())
+        own = Tally(Programs())
         own.take({(b"eu", b"20.500.1/%d" % at): count for at in range(rows)}, False)
         with pytest.raises(Unfit, match=f"^{said}; hsplan takes 8,192, with counts up to 1,000,000"):
             own.demand(None, None)
@@ -236,11 +236,11 @@ def test_a_table_is_joined_above_so_many_rows_and_so_great_counts() -> None:
 def test_pairs_are_spilled_above_so_many(monkeypatch: pytest.MonkeyPatch) -> None:
     spilled: list[int] = []
     monkeypatch.setattr(Tally, "_spill", lambda self: spilled.append(len(self._counts)) or self._counts.clear())
-    own = Tally(Desk(), most=3)
+    own = Tally(Programs(), most=3)
     for number in range(1, 6):
         list(own.add([(b"eu", b"20.500.1/%d" % number)]))
     assert (spilled, own.asked) == ([4], 5)
-    own = Tally(Desk())
+    own = Tally(Programs())
     monkeypatch.setattr(tally, "MOST_HELD", own._octets + 2 * 200 + 20)
     for number in range(3):
         list(own.add([(b"eu", b"20.500.1/%d" % number)]))
@@ -248,7 +248,7 @@ def test_pairs_are_spilled_above_so_many(monkeypatch: pytest.MonkeyPatch) -> Non
 
 
 def test_the_same_counts_have_the_same_table() -> None:
-    own = Tally(Desk())
+    own = Tally(Programs())
     own.take({(b"b", b"20.1/b"): 2, (b"a", b"20.1/b"): 2, (b"c", b"20.1/,"): 5, (b"a", b"20.1/a"): 2}, False)
     table = b'region,handle,count\nc,"20.1/,",5\na,20.1/a,2\na,20.1/b,2\nb,20.1/b,2\n'
     assert own.demand(None, None) == (table, False)
@@ -267,7 +267,9 @@ def test_handles_are_judged_in_batches(tmp_path: Path, monkeypatch: pytest.Monke
         shown.clear()
         monkeypatch.setattr(queries, "BATCH", batch)
         monkeypatch.setattr(queries, "BATCH_OCTETS", octets)
-        reading = Reading(Form("csv"), lambda _: b"eu", Judge(Desk()), progress=lambda _, lines: shown.append(lines))
+        reading = Reading(
+            Form("csv"), lambda _: b"eu", Judge(Programs()), progress=lambda _, lines: shown.append(lines)
+        )
         assert len(list(queries.queries(str(path), reading))) == 10 and reading.lines == 10
         return list(asked)
 
@@ -372,14 +374,14 @@ def test_what_is_nested_too_deep_is_said(monkeypatch: pytest.MonkeyPatch) -> Non
 
     monkeypatch.setattr(Files, "_sites", deep)
     with pytest.raises(Unfit, match="^a.json: its JSON is nested too deep$"):
-        Files(Desk()).read("a.json", b"[]")
+        Files(Programs()).read("a.json", b"[]")
 
 
 def test_what_brings_most_kinds(tmp_path: Path, monkeypatch: pytest.MonkeyPatch) -> None:
     """Nothing is said of sites or of regions that can't be left out."""
     places = [place("a", 2, 7), place("b", 2, 8), place("c", 2, 3)]
     folder = written(tmp_path / "s", settings="".join(it.block() for it in places), costs="", capacity="")
-    sites = sites_in(inputs_of(folder), Desk())
+    sites = sites_in(inputs_of(folder), Programs())
     monkeypatch.setattr(outlook, "MOST_KINDS", 10)
     apart = {"eu": {"a": 1}, "us": {"b": 1}}
     assert list(outlook.fewer(sites, apart)) == ["7 remain without region us, which brings most"]

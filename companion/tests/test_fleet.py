@@ -23,7 +23,7 @@ from typing import NamedTuple
 
 import pytest
 
-from hsp.base.programs import Desk, Inputs
+from hsp.base.programs import Inputs, Programs
 from hsp.base.unfit import Unfit
 from hsp.fleet import answers, local, parts, remote, tables
 from hsp.fleet.split import Parted
@@ -641,15 +641,15 @@ def test_a_cluster_whose_scheduler_goes_away_is_one_line(cluster: Cluster, tmp_p
 def test_sums_above_the_greatest_count_are_joined_exactly(tmp_path: Path) -> None:
     folder = service(tmp_path)
     inputs = Inputs(str(folder / "settings.toml"), "", str(folder / "costs.csv"), "")
-    draw, desk = random.Random(91), Desk()
+    draw, programs = random.Random(91), Programs()
     pairs = [(draw.choice([b"eu", b"us"]), b"20.500.1/x%d" % number) for number in range(3000)]
     small = [(it, draw.randrange(300)) for it in pairs]
-    plain = tables.joined(desk, inputs, small)
+    plain = tables.joined(programs, inputs, small)
     factor = 1_000_003
-    large = tables.joined(desk, inputs, [(it, count * factor) for it, count in small])
+    large = tables.joined(programs, inputs, [(it, count * factor) for it, count in small])
     assert large == [(it, count * factor) for it, count in plain] and max(it for _, it in large) > 10**10
     assert sum(it for _, it in plain) == sum(it for _, it in small) and len(plain) == 12
-    table = tables.Table(desk, inputs, most=100)
+    table = tables.Table(programs, inputs, most=100)
     for it in small:
         table.add([it])
     assert table.is_joined and table.counts.keys() >= dict(plain).keys()

@@ -10,7 +10,7 @@ from pathlib import Path
 
 import pytest
 
-from hsp.base.programs import Desk, Inputs
+from hsp.base.programs import Inputs, Programs
 from hsp.intake.kinds import most_kinds
 from hsp.intake.outlook import costs_in, sites_in
 
@@ -50,13 +50,13 @@ def test_as_many_kinds_as_hsplan_stream_counts(tmp_path: Path, seed: int) -> Non
     folder = written(
         tmp_path / "s", settings="".join(it.block() for it in sites), costs=random_costs(draw, sites), capacity=""
     )
-    desk, inputs = Desk(), inputs_of(folder)
-    kinds = most_kinds(sites_in(inputs, desk), costs_in(inputs.costs))
+    programs, inputs = Programs(), inputs_of(folder)
+    kinds = most_kinds(sites_in(inputs, programs), costs_in(inputs.costs))
     assert sum(kinds.values()) <= 8192
     number = 12 * max(kinds.values()) + 400
     names = [f"20.{draw.randrange(10**6)}/{draw.randrange(10**9)}" for _ in range(number)]
-    log = desk.put("region,handle\n" + "".join(f"{region},{name}\n" for region in REGIONS for name in names))
-    counted = [line.partition(",")[0] for line in desk.kinds(inputs, log, None).splitlines()[1:]]
+    log = programs.put("region,handle\n" + "".join(f"{region},{name}\n" for region in REGIONS for name in names))
+    counted = [line.partition(",")[0] for line in programs.kinds(inputs, log, None).splitlines()[1:]]
     assert {region: counted.count(region) for region in REGIONS} == kinds
 
 

@@ -10,7 +10,7 @@ from pathlib import Path
 
 import pytest
 
-from hsp.base.programs import Desk
+from hsp.base.programs import Programs
 from hsp.base.unfit import Unfit
 from hsp.doctor import examined
 from hsp.doctor.doubts import OLD_PLAN
@@ -156,7 +156,7 @@ def test_a_unit_that_adds_much_is_warned_of(hsp: Hsp, tmp_path: Path) -> None:
     counted = 200 * sum(int(it[2]) for it in rows(folder / "demand.csv"))
     share = 100 * (counted - 20_000) / 20_000
     assert share > 5
-    found = [it for it in examined(str(folder), Desk(), {}).warnings if it.kind == "unit"]
+    found = [it for it in examined(str(folder), Programs(), {}).warnings if it.kind == "unit"]
     shown = f"{share:.0f}%" if share >= 10 else f"{share:.1f}%"
     assert [(it.message, it.remedy) for it in found] == [
         (f"units of 200 add {shown} to the demand", "count again without --unit")
@@ -164,21 +164,21 @@ def test_a_unit_that_adds_much_is_warned_of(hsp: Hsp, tmp_path: Path) -> None:
     said = hsp("plan", str(folder))
     assert said.stderr.startswith(f"hsp: units of 200 add {shown} to the demand; count again without --unit\n")
     assert f"{counted:,} queries in units of 200, which add {shown}" in said.stdout.splitlines()[0]
-    assert [it for it in examined(str(folder), Desk(), {}).warnings if it.kind == OLD_PLAN] == []
+    assert [it for it in examined(str(folder), Programs(), {}).warnings if it.kind == OLD_PLAN] == []
 
 
 @pytest.mark.parametrize("unit, change", [(1, -1), (1, 1), (10, -1), (10, 10_000)])
 def test_a_mark_of_another_demand_is_warned_of(tmp_path: Path, unit: int, change: int) -> None:
     """A count more or less by hand: in units each row may add up to nine queries, and no more."""
     folder = service(tmp_path, "--unit", unit)
-    found = [it.message for it in examined(str(folder), Desk(), {}).warnings]
+    found = [it.message for it in examined(str(folder), Programs(), {}).warnings]
     message = "the table [demand] of hsp.toml is of another demand"
     assert message not in found
     head, first, *others = (folder / "demand.csv").read_text().splitlines()
     region, handle, count = first.split(",")
     whole = [f"{region},{handle},{int(count) + change}", *others] if change > 0 else others
     (folder / "demand.csv").write_text("\n".join([head, *whole]) + "\n")
-    assert message in [it.message for it in examined(str(folder), Desk(), {}).warnings]
+    assert message in [it.message for it in examined(str(folder), Programs(), {}).warnings]
 
 
 def test_a_demand_that_looks_joined_is_warned_of(tmp_path: Path) -> None:
@@ -186,7 +186,7 @@ def test_a_demand_that_looks_joined_is_warned_of(tmp_path: Path) -> None:
     folder = service(tmp_path, "--unit", 1)
 
     def kinds() -> list[str]:
-        return [it.kind for it in examined(str(folder), Desk(), {}).warnings if it.kind == "unmarked"]
+        return [it.kind for it in examined(str(folder), Programs(), {}).warnings if it.kind == "unmarked"]
 
     assert kinds() == []
     (folder / "hsp.toml").unlink()
@@ -196,7 +196,7 @@ def test_a_demand_that_looks_joined_is_warned_of(tmp_path: Path) -> None:
     demand.write_text("".join(whole[:4]))
     assert kinds() == []
     plain = service(tmp_path, seed=4)
-    assert [it for it in examined(str(plain), Desk(), {}).warnings if it.kind == "unmarked"] == []
+    assert [it for it in examined(str(plain), Programs(), {}).warnings if it.kind == "unmarked"] == []
 
 
 def test_a_joined_demand_is_shown_as_kinds(hsp: Hsp, tmp_path: Path) -> None:
@@ -247,27 +247,27 @@ def test_a_handle_that_names_a_kind_may_be_odd(tmp_path: Path, rows_are: str, nu
         capacity="north,1,400\n",
         titles=f'[demand]\nrows = "{rows_are}"\n',
     )
-    found = [it.kind for it in examined(str(folder), Desk(), {}).warnings]
+    found = [it.kind for it in examined(str(folder), Programs(), {}).warnings]
     assert sum(it in ("handle blank", "twin handles") for it in found) == number
 
 
 def test_kinds_are_compared_by_their_servers(tmp_path: Path) -> None:
     """The same queries in another order have kinds of other names, and nothing changed. Ten more of one kind did."""
     folder = service(tmp_path, "--unit", 1)
-    old = read_service(str(folder), Desk(), {})
+    old = read_service(str(folder), Programs(), {})
     log = tmp_path / "log-3.csv"
     head, *lines = log.read_text().splitlines()
     turned = tmp_path / "turned.csv"
     turned.write_text("\n".join([head, *reversed(lines)]) + "\n")
     words = ["--regions", tmp_path / "networks.csv", "--into", folder, "--unit", 1]
     invoke("demand", turned, *words)
-    new = read_service(str(folder), Desk(), {})
+    new = read_service(str(folder), Programs(), {})
     names = [Counter((it.region, it.handle) for it in own.rows) for own in (old, new)]
     assert names[0] != names[1]
     assert changes_between(old, new) == []
     turned.write_text(turned.read_text() + f"{lines[0]}\n" * 10)
     invoke("demand", turned, *words)
-    more = read_service(str(folder), Desk(), {})
+    more = read_service(str(folder), Programs(), {})
     assert changes_between(old, more) == ["demand: 1 kind, 20,000 → 20,010 queries"]
 
 

@@ -18,7 +18,7 @@ from hsp.base import files, signals, units
 
 from hsp.intake import forms, logs, outlook, regions
 
-from hsp.base.programs import Desk, Inputs, Missing
+from hsp.base.programs import Inputs, Missing, Programs
 from hsp.base.unfit import Unfit
 from hsp.doctor import examined, examined_words, faults, guard
 from hsp.doctor.question import Said, said_of
@@ -71,7 +71,7 @@ def test_reports_that_differ_from_the_plan(example: Example, odd: Callable[[str,
 def test_programs_that_print_nothing(example: Example, odd: Callable[[str, str], None]) -> None:
     odd("hsplan-stream", '[ "$1" = answer ] && exit 0')
     with pytest.raises(Missing, match="^hsplan-stream answered 0 of 2 rows: please report this with your log$"):
-        Desk().answers_without_sites(b"region,handle\nany,20.1/a\nany,20.1/b\n", 2)
+        Programs().answers_without_sites(b"region,handle\nany,20.1/a\nany,20.1/b\n", 2)
     odd("hsplan", '[ "$1" = plan ] && { echo what; exit 0; }')
     assert "printed no plan: is it hsplan?" in invoke("plan", example("two-sites"), status=5).stderr
 
@@ -79,7 +79,7 @@ def test_programs_that_print_nothing(example: Example, odd: Callable[[str, str],
 def test_files_that_only_hsplan_can_not_read(example: Example, odd: Callable[[str, str], None]) -> None:
     """Nothing is wrong with any of them by itself."""
     odd("hsplan", 'echo "hsplan: read failed" >&2; exit 5')
-    (only,) = examined(str(example("two-sites")), Desk(), {}).findings
+    (only,) = examined(str(example("two-sites")), Programs(), {}).findings
     assert (only.message, only.said) == ("a file can't be read", "read failed")
     assert only.remedy == "look at the files one by one: cat FILE > /dev/null"
     assert only.why == "a file that changes, or a disk that fails"
@@ -88,9 +88,9 @@ def test_files_that_only_hsplan_can_not_read(example: Example, odd: Callable[[st
 def test_words_that_can_not_be_explained_in_time(example: Example, monkeypatch: pytest.MonkeyPatch) -> None:
     monkeypatch.chdir(example("two-sites"))
     monkeypatch.setattr(guard, "SECONDS", 0.0)
-    (only,) = (found := examined_words(["plan", "--settings", "settings.toml"], Desk())).findings
+    (only,) = (found := examined_words(["plan", "--settings", "settings.toml"], Programs())).findings
     assert (found.is_cut_short, found.status, only.message, only.said) == (True, 2, "hsplan says Usage", "Usage")
-    whole = examined_words(["locate", "--settings", "settings.toml", "20.1/a"], Desk())
+    whole = examined_words(["locate", "--settings", "settings.toml", "20.1/a"], Programs())
     assert (whole.findings, whole.status, whole.is_cut_short) == ([], 0, True)
 
 
@@ -115,7 +115,7 @@ def test_a_file_that_may_not_be_read(example: Example, monkeypatch: pytest.Monke
     monkeypatch.setattr(
         "hsp.doctor.question.read_text", lambda path: (_ for _ in ()).throw(PermissionError(13, "no"))
     )
-    found = examined(str(folder), Desk(), {"demand": str(folder / "none.csv")})
+    found = examined(str(folder), Programs(), {"demand": str(folder / "none.csv")})
     closed = [it for it in found.findings if it.message == "you may not read this file"]
     assert closed and closed[0].remedy == f"chmod +r {closed[0].file}, or run as its owner"
 
@@ -168,9 +168,9 @@ def test_costs_and_settings_that_are_none(tmp_path: Path) -> None:
     paths[0].write_bytes(b"region,site,cost\n\xff,a,1\n")
     paths[1].write_bytes(b"[[site")
     inputs = Inputs(str(paths[1]), "", str(paths[0]), "")
-    assert outlook.costs_in(inputs.costs) == {} and outlook.sites_in(inputs, Desk()) == []
+    assert outlook.costs_in(inputs.costs) == {} and outlook.sites_in(inputs, Programs()) == []
     assert outlook.may_be_long(str(tmp_path / "none")) and not outlook.may_be_long(inputs.costs)
-    own = Tally(Desk())
+    own = Tally(Programs())
     with pytest.raises(Unfit, match="costs.csv: not a table: "):
         own.without_costs(inputs)
     paths[0].write_text("region,site,cost\neu,a,1\neu,b,2,3\neu,c,-1\nus,d,x\nus,e,\u0661\nus,f,7\n")
@@ -319,7 +319,7 @@ def test_more_servers_than_hsplan_takes_and_many_without_capacity(tmp_path: Path
         costs="eu,a,1\neu,b,2\n",
         capacity="",
     )
-    first = examined(str(folder), Desk(), {}).errors[0]
+    first = examined(str(folder), Programs(), {}).errors[0]
     assert first.message == "all sites together have more servers than hsplan takes"
     assert first.remedy == "plan in parts; 1,024 servers are the limit"
     written(folder, settings=Place("a", 2, [f"192.0.2.{it}" for it in range(1, 12)]).block(), costs="eu,a,1\n")

@@ -22,7 +22,7 @@ from selenium import webdriver
 from selenium.webdriver.chrome.options import Options
 from selenium.webdriver.chrome.service import Service as Driver
 
-from hsp.base.programs import Desk
+from hsp.base.programs import Programs
 from hsp.plans.page import ServerView, changes_between
 from hsp.plans.plans import planned
 from hsp.plans.service import read_service
@@ -138,9 +138,9 @@ def test_a_page_stands(browser: Any, pages: dict[str, Path], name: str, width: i
 @pytest.mark.parametrize("name", ["two-sites", "base", "twelve-sites"])
 def test_a_page_has_the_numbers_of_the_reports(browser: Any, pages: dict[str, Path], twelve: Path, name: str) -> None:
     folder = twelve if name == "twelve-sites" else pages[name].parent / name
-    desk = Desk()
-    service = read_service(str(folder), desk, {})
-    plan = planned(service, desk)
+    programs = Programs()
+    service = read_service(str(folder), programs, {})
+    plan = planned(service, programs)
     page = Page(browser, pages[name], 1200, "light")
     text = page.text()
     assert f"{plan.cost:,}" in text
@@ -191,8 +191,8 @@ def test_rows_are_a_download(browser: Any, pages: dict[str, Path]) -> None:
     )
     assert link[0] == "rows.csv" and link[1].startswith("data:text/csv;charset=utf-8,")
     rows = list(csv.DictReader(io.StringIO(unquote(link[1].partition(",")[2]), newline="")))
-    desk = Desk()
-    service = read_service(str(pages["two-sites"].parent / "two-sites"), desk, {})
+    programs = Programs()
+    service = read_service(str(pages["two-sites"].parent / "two-sites"), programs, {})
     own = [service.rows[use.row] for use in service.certificate.uses]
     wanted = Counter(
         (it.region, it.handle, str(it.count), service.sites[use.site].name, str(use.queries))
@@ -399,13 +399,13 @@ def test_the_largest_service(hsp_apart: Hsp, browser: Any, tmp_path: Path) -> No
 def test_only_what_changed_is_named(hsp: Hsp, example: Example, tmp_path: Path) -> None:
     old = example("two-sites")
     new = Path(shutil.copytree(old, tmp_path / "new"))
-    desk = Desk()
-    before = read_service(str(old), desk, {})
-    assert changes_between(before, read_service(str(new), desk, {})) == []
+    programs = Programs()
+    before = read_service(str(old), programs, {})
+    assert changes_between(before, read_service(str(new), programs, {})) == []
     (new / "capacity.csv").write_text((old / "capacity.csv").read_text().replace("paris,2,1510", "paris,2,1800"))
     (new / "costs.csv").write_text((old / "costs.csv").read_text().replace("eu,paris,12", "eu,paris,13"))
     (new / "demand.csv").write_text((old / "demand.csv").read_text().replace(",475", ",476"))
-    assert changes_between(before, read_service(str(new), desk, {})) == [
+    assert changes_between(before, read_service(str(new), programs, {})) == [
         "capacity of paris 2: 1,510 → 1,800",
         "cost eu to paris: 12 → 13",
         "demand: 1 row, 6,282 → 6,283 queries",

@@ -16,7 +16,7 @@ from typing import Any
 import pytest
 from click.testing import CliRunner
 
-from hsp.base.programs import BOUNDLESS, Desk, Refused
+from hsp.base.programs import BOUNDLESS, Programs, Refused
 from hsp.cli import main
 from hsp.plans.plans import capacity_file, cheapest, least_purchase, planned, shortage, with_gains, with_purchase
 from hsp.plans.service import Service, read_service
@@ -42,9 +42,9 @@ check yes: no plan within these capacities costs less; kept in {kept}
 """
 
 
-def read(folder: Path, **given: str) -> tuple[Service, Desk]:
-    desk = Desk()
-    return read_service(str(folder), desk, dict(given)), desk
+def read(folder: Path, **given: str) -> tuple[Service, Programs]:
+    programs = Programs()
+    return read_service(str(folder), programs, dict(given)), programs
 
 
 def report(folder: Path, kind: str) -> list[list[str]]:
@@ -109,55 +109,55 @@ def test_a_shortage_has_status_3_and_the_least_purchase(hsp: Hsp, example: Examp
     assert said["least_purchase"] == [{"site": "reston", "server_id": 2, "more": 270}]
 
 
-def with_capacities(service: Service, desk: Desk, changed: dict[tuple[str, int], int]) -> Any:
-    capacity = capacity_file(desk, {**service.capacities, **changed})
-    return desk.plan(service.inputs.but(capacity=capacity))[0]
+def with_capacities(service: Service, programs: Programs, changed: dict[tuple[str, int], int]) -> Any:
+    capacity = capacity_file(programs, {**service.capacities, **changed})
+    return programs.plan(service.inputs.but(capacity=capacity))[0]
 
 
 def test_the_least_purchase_suffices_and_one_less_does_not(example: Example) -> None:
     folder = example("two-sites")
-    service, desk = read(folder, demand=str(folder / "premiere.csv"))
-    bought = least_purchase(service, desk)
-    assert bought and shortage(service, desk).lack == sum(bought.values()) == 270
+    service, programs = read(folder, demand=str(folder / "premiere.csv"))
+    bought = least_purchase(service, programs)
+    assert bought and shortage(service, programs).lack == sum(bought.values()) == 270
     room = {(it.site, it.id): service.capacity(it) + more for it, more in bought.items()}
-    assert with_capacities(service, desk, room).is_plan
+    assert with_capacities(service, programs, room).is_plan
     for key in room:
-        assert not with_capacities(service, desk, {**room, key: room[key] - 1}).is_plan
-    after = with_purchase(service, desk, bought)
-    assert after and after.certificate.cost == with_capacities(service, desk, room).cost
+        assert not with_capacities(service, programs, {**room, key: room[key] - 1}).is_plan
+    after = with_purchase(service, programs, bought)
+    assert after and after.certificate.cost == with_capacities(service, programs, room).cost
 
 
 def test_costs_above_50000_have_no_least_purchase(example: Example) -> None:
     """A twin of the dearest way has to cost more than all others, and a cost is at most 1,000,000."""
     folder = example("two-sites")
-    service, desk = read(folder, demand=str(folder / "premiere.csv"))
+    service, programs = read(folder, demand=str(folder / "premiere.csv"))
     for dearest, is_planned in ((50_000, True), (50_001, False)):
         dear = replace(service, costs={**service.costs, ("asia", "paris"): dearest})
-        assert (least_purchase(dear, desk) is not None) == is_planned
+        assert (least_purchase(dear, programs) is not None) == is_planned
 
 
 @pytest.mark.parametrize("name", ["two-sites", "base"])
 def test_what_room_saves_is_what_a_plan_with_it_saves(example: Example, name: str) -> None:
-    service, desk = read(example(name))
-    found = with_gains(planned(service, desk), desk)
+    service, programs = read(example(name))
+    found = with_gains(planned(service, programs), programs)
     assert found.gains
     for gain in found.gains:
         key, own = (gain.server.site, gain.server.id), service.capacity(gain.server)
-        assert found.cost - with_capacities(service, desk, {key: own + 1}).cost == gain.one
-        assert found.cost - with_capacities(service, desk, {key: own + gain.room}).cost == gain.all
-        assert found.cost - with_capacities(service, desk, {key: BOUNDLESS}).cost == gain.all
+        assert found.cost - with_capacities(service, programs, {key: own + 1}).cost == gain.one
+        assert found.cost - with_capacities(service, programs, {key: own + gain.room}).cost == gain.all
+        assert found.cost - with_capacities(service, programs, {key: BOUNDLESS}).cost == gain.all
         assert gain.one <= found.prices[gain.server.number]
 
 
 def test_a_price_may_be_above_what_room_saves(example: Example) -> None:
-    service, desk = read(example("base"))
-    found = with_gains(planned(service, desk), desk)
+    service, programs = read(example("base"))
+    found = with_gains(planned(service, programs), programs)
     assert sorted((found.prices[it.server.number], it.one) for it in found.gains) == [(2, 0), (3, 1)]
 
 
 def test_cheapest_sites_are_the_sum_of_the_cheapest_costs(twelve: Path) -> None:
-    service, desk = read(twelve)
-    reference = cheapest(service, desk)
+    service, programs = read(twelve)
+    reference = cheapest(service, programs)
     least = {it: min(cost for (region, _), cost in service.costs.items() if region == it) for it in service.regions}
     assert reference and reference.cost == sum(row.count * least[row.region] for row in service.rows)
 

@@ -13,7 +13,7 @@ from collections.abc import Callable, Iterable
 from fractions import Fraction
 from pathlib import Path
 
-from hsp.base.programs import Desk
+from hsp.base.programs import Programs
 from hsp.plans.plans import by_shares, planned
 from hsp.plans.service import read_service
 
@@ -93,9 +93,9 @@ def test_a_machine_above_its_limit_is_counted(hsp: Hsp, example: Example) -> Non
 
 
 def test_twelve_of_the_servers_of_twelve_sites_are_too_full(twelve: Path) -> None:
-    desk = Desk()
-    service = read_service(str(twelve), desk, {})
-    found = by_shares(planned(service, desk))
+    programs = Programs()
+    service = read_service(str(twelve), programs, {})
+    found = by_shares(planned(service, programs))
     assert (found.servers, found.all_servers) == (12, 66)
 
 

@@ -19,7 +19,7 @@ from click.testing import CliRunner, Result
 
 from lib import examples
 from hsp.base import files
-from hsp.base.programs import Desk
+from hsp.base.programs import Programs
 from hsp.cli import main
 from hsp.plans.service import read_service
 
@@ -475,7 +475,7 @@ def test_the_example_plans_at_once(hsp: Hsp, tmp_path: Path) -> None:
     assert says.startswith("An example ") and "have to be filled in" not in says and "\n\nsettings.toml  " in says
     lines = hsp("plan", str(folder)).stdout.splitlines()
     assert lines[0] == "An example  2 sites, 3 servers, 3 regions, 4 handles, 1,900 queries in the busiest hour"
-    service = read_service(str(folder), Desk(), {})
+    service = read_service(str(folder), Programs(), {})
     assert [(it.site, it.id, it.address[-8:]) for it in service.servers] == [
         ("north", 1, "c0000201"),
         ("north", 2, "c0000202"),

@@ -14,7 +14,7 @@ from pathlib import Path
 
 import pytest
 
-from hsp.base.programs import Desk, program
+from hsp.base.programs import Programs, program
 from hsp.intake.records import Interface, ServerRecord, SiteRecord
 from hsp.intake.skeleton import BOTH
 from hsp.plans.service import read_service
@@ -65,8 +65,8 @@ def rows(path: Path) -> list[list[str]]:
 def loads_of(folder: Path) -> Counter[tuple[str, int]]:
     """The load of each server by the uses of plan.txt and the places of hsplan-stream, in the units of the plan."""
     demand = rows(folder / "demand.csv")
-    places = Desk().places(read_service(str(folder), Desk(), {}).inputs, [it[1] for it in demand])
-    sites = [it.name for it in read_service(str(folder), Desk(), {}).sites]
+    places = Programs().places(read_service(str(folder), Programs(), {}).inputs, [it[1] for it in demand])
+    sites = [it.name for it in read_service(str(folder), Programs(), {}).sites]
     loads: Counter[tuple[str, int]] = Counter()
     for line in (folder / "plan.txt").read_text().splitlines():
         if line.startswith("use "):

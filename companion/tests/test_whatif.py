@@ -10,7 +10,7 @@ from xml.etree import ElementTree
 
 import pytest
 
-from hsp.base.programs import Desk
+from hsp.base.programs import Programs
 from hsp.plans.plans import capacity_file
 from hsp.plans.service import read_service
 
@@ -24,19 +24,19 @@ def cases(hsp: Hsp, *words: str) -> list[dict[str, str]]:
 
 
 def test_each_case_is_a_plan_of_hsplan(hsp: Hsp, example: Example) -> None:
-    folder, desk = example("two-sites"), Desk()
-    service = read_service(str(folder), desk, {})
+    folder, programs = example("two-sites"), Programs()
+    service = read_service(str(folder), programs, {})
     found = cases(hsp, str(folder))
     assert [it["case"] for it in found] == ["more", "more", "lost", "lost", "demand"]
     for it in found[:2]:
         site, _, number = it["what"].partition(" ")
         room = {**service.capacities, (site, int(number)): int(it["room"])}
-        certificate, _ = desk.plan(service.inputs.but(capacity=capacity_file(desk, room)))
+        certificate, _ = programs.plan(service.inputs.but(capacity=capacity_file(programs, room)))
         assert int(it["cost"]) == certificate.cost == 307_216 + int(it["change"])
     for it in found[2:4]:
         costs = [(region, site, cost) for (region, site), cost in service.costs.items() if site != it["what"]]
-        changed = service.inputs.but(costs=desk.put_table("region,site,cost", costs))
-        certificate, _ = desk.plan(changed)
+        changed = service.inputs.but(costs=programs.put_table("region,site,cost", costs))
+        certificate, _ = programs.plan(changed)
         assert int(it["lack"]) == certificate.demand - certificate.capacity > 0
 
 
@@ -115,7 +115,7 @@ def test_one_query_is_singular(hsp: Hsp, example: Example) -> None:
 def test_more_room_is_more_by_the_step(hsp: Hsp, example: Example) -> None:
     """10% of 1,500, 25% of 1,510 rounded, and one where the step is less than a query."""
     folder = example("two-sites")
-    room = {it.label: service_room(folder, it.label) for it in read_service(str(folder), Desk(), {}).servers}
+    room = {it.label: service_room(folder, it.label) for it in read_service(str(folder), Programs(), {}).servers}
     for step, wanted in (("10", lambda it: it + round(it / 10)), ("25", lambda it: it + round(it / 4))):
         found = {
             it["what"]: int(it["room"]) for it in cases(hsp, str(folder), "--step", step) if it["case"] == "more"

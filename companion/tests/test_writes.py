@@ -16,7 +16,7 @@ from pathlib import Path
 import pytest
 
 from hsp.base import files
-from hsp.base.programs import Desk, Missing
+from hsp.base.programs import Missing, Programs
 from hsp.base.unfit import Unfit
 
 from conftest import WITH_SIGNALS, Hsp, variables
@@ -273,5 +273,5 @@ def test_a_desk_without_a_folder_says_so(monkeypatch: pytest.MonkeyPatch) -> Non
 
     monkeypatch.setattr("hsp.base.programs.tempfile.TemporaryDirectory", none)
     with pytest.raises(OSError, match="set TMPDIR to another folder") as fault:
-        Desk()
+        Programs()
     assert fault.value.filename == "TMPDIR"

@@ -36,9 +36,9 @@ def pieces(queries: Iterable[Query]) -> Iterator[list[Query]]:
     """Queries in pieces that take little memory."""
     piece: list[Query] = []
     octets = 0
-    for it in queries:
-        piece.append(it)
-        octets += len(it[1])
+    for query in queries:
+        piece.append(query)
+        octets += len(query[1])
         if len(piece) == MOST_AT_ONCE or octets > OCTETS_AT_ONCE:
             yield piece
             piece, octets = [], 0

@@ -70,7 +70,7 @@ def _identity(path: str) -> tuple[int, int, str] | None:
 
 def refuse_clashes(inputs: Iterable[str], outputs: Iterable[str]) -> None:
     """Refuses a file that would be read and written, or written twice, whatever paths it is given by."""
-    read, written = {_identity(it) for it in inputs}, set()
+    read, written = {_identity(file) for file in inputs}, set()
     for path in outputs:
         own = _identity(path)
         if own is not None and own in read:
@@ -122,7 +122,7 @@ def _one_locked(folder: str) -> Iterator[None]:
 def locked(folders: Iterable[str]) -> Iterator[None]:
     """Only one run at a time has these folders. The kernel unlocks them when the run ends, however it ends."""
     with contextlib.ExitStack() as stack:
-        for folder in sorted({os.path.realpath(it) for it in folders}):
+        for folder in sorted({os.path.realpath(name) for name in folders}):
             stack.enter_context(_one_locked(folder))
         yield
 
@@ -189,15 +189,15 @@ class Outputs:
         return self._all[-1]
 
     def publish(self) -> None:
-        for it in self._all:
-            it.finish()
-        with locked(os.path.dirname(it.target) for it in self._all if it.is_file), uncut():
-            for it in self._all:
-                it.publish()
+        for written in self._all:
+            written.finish()
+        with locked(os.path.dirname(written.target) for written in self._all if written.is_file), uncut():
+            for written in self._all:
+                written.publish()
 
     def discard(self) -> None:
-        for it in self._all:
-            it.discard()
+        for written in self._all:
+            written.discard()
 
 
 @contextlib.contextmanager
@@ -228,7 +228,7 @@ def replace_all(contents: Mapping[str, bytes]) -> None:
 def create(folder: str, texts: Mapping[str, str]) -> list[str]:
     """Writes new files into a folder, and returns their paths. It overwrites nothing."""
     paths = {path_in(folder, name): text for name, text in texts.items()}
-    there = [it for it in paths if os.path.lexists(it)]
+    there = [each for each in paths if os.path.lexists(each)]
     if there:
         raise Missing(f"{there[0]}: it is there already, and no file is overwritten")
     os.makedirs(folder, exist_ok=True)

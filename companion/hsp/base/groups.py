@@ -15,7 +15,7 @@ class Group(click.Group):
     def meant_by(self, word: str) -> str:
         """A near name, or a command of another program."""
         near = difflib.get_close_matches(word, self.commands, 1, 0.8 if word in COMMANDS else 0.5)
-        others = [f"'{it}'" for it in near]
+        others = [f"'{name}'" for name in near]
         if word in COMMANDS:
             others.append(f"'{COMMANDS[word].program} {word}'")
         if word in ("help", "version"):

@@ -121,9 +121,11 @@ class Certificate:
     def __init__(self, text: str, unit: int = 1) -> None:
         self.text, self._unit = text, unit
         head = text[:200].split("\n")
-        said = dict(it.split(" ") for it in head[2:4] if it.count(" ") == 1)
+        said = dict(line.split(" ") for line in head[2:4] if line.count(" ") == 1)
         self.is_plan = head[1] == "PLAN"
-        self.cost, self.demand, self.capacity = (unit * int(said.get(it, 0)) for it in ("cost", "demand", "capacity"))
+        self.cost, self.demand, self.capacity = (
+            unit * int(said.get(word, 0)) for word in ("cost", "demand", "capacity")
+        )
 
     @functools.cached_property
     def _lines(self) -> dict[str, list[tuple[int, ...]]]:
@@ -140,12 +142,12 @@ class Certificate:
 
     def prices(self, of: str) -> list[int]:
         """The prices of the rows, the servers or the hosts of a plan: `row`, `server` or `host`."""
-        return [it[1] for it in self._lines[of]]
+        return [line[1] for line in self._lines[of]]
 
     @property
     def rows(self) -> list[int]:
         """The numbers of the rows of a shortage."""
-        return [it[0] for it in self._lines["row"]]
+        return [line[0] for line in self._lines["row"]]
 
 
 class Load(NamedTuple):
@@ -181,8 +183,8 @@ def _temporary(folder: str) -> Iterator[None]:
         raise OSError(fault.errno, f"{fault.strerror}; {remedy}", folder) from None
 
 
-class Desk:
-    """A folder for the files that are made on the way, and the questions that are asked with them."""
+class Programs:
+    """hsplan and hsplan-stream with the questions that are asked, and a folder for the files that are made on the way."""
 
     def __init__(self) -> None:
         with _temporary("TMPDIR"), uncut():
@@ -197,7 +199,7 @@ class Desk:
         return path
 
     def add(self, path: str, pieces: Iterable[bytes]) -> None:
-        """Writes on at the end of a file of this desk."""
+        """Writes on at the end of a file of this folder."""
         with _temporary(self._folder.name), open(path, "ab") as file:
             file.writelines(pieces)
 
@@ -250,19 +252,19 @@ class Desk:
         unit, sums = inputs.unit, bound.split()[1::2]
         loads = [(int(load), int(room), int(price)) for _, _, load, room, price, _ in map(str.split, lines)]
         return [Load(unit * load, unit * room, price) for load, room, price in loads], Bound(
-            *(unit * int(it) for it in sums)
+            *(unit * int(number) for number in sums)
         )
 
     def regions(self, inputs: Inputs, plan: str) -> dict[str, tuple[int, int]]:
         """The demand and the cost of each region."""
-        lines = (it.split() for it in self._report(inputs, plan, "region")[1:-1])
+        lines = (line.split() for line in self._report(inputs, plan, "region")[1:-1])
         return {name: (inputs.unit * int(demand), inputs.unit * int(cost)) for demand, cost, name in lines}
 
     def reached(self, inputs: Inputs, plan: str) -> set[tuple[str, int]]:
         """The servers that the rows of a shortage may use, by site and identifier."""
-        lines = [it.split() for it in self._report(inputs, plan, "shortage")]
-        first = next(at for at, it in enumerate(lines) if it[:1] == ["place"])
-        return {(it[3], int(it[1])) for it in lines[first + 1 :]}
+        lines = [line.split() for line in self._report(inputs, plan, "shortage")]
+        first = next(at for at, line in enumerate(lines) if line[:1] == ["place"])
+        return {(line[3], int(line[1])) for line in lines[first + 1 :]}
 
     def site(self, octets: bytes) -> str:
         """The fields of a site's record."""
@@ -278,14 +280,14 @@ class Desk:
 
     def places(self, inputs: Inputs, handles: Iterable[str]) -> dict[tuple[str, str], int]:
         """The place of the responsible server of each handle at each site, by handle and site."""
-        log = self.put_table("handle", ([it] for it in handles))
+        log = self.put_table("handle", ([name] for name in handles))
         printed = asked("hsplan-stream", "places", *inputs.of_sites(), "--log", log)
         rows = list(csv.reader(io.StringIO(printed, newline="")))[1:]
         return {(handle, site): int(place) for handle, site, place, _ in rows}
 
     def without_sites(self, demand: bytes = b"") -> Inputs:
         """The inputs of a service that has no site and no cost, with the rows of a demand."""
-        costs, capacity = (self.put_table(HEADERS[it], []) for it in ("costs", "capacity"))
+        costs, capacity = (self.put_table(HEADERS[kind], []) for kind in ("costs", "capacity"))
         table = demand or f"{HEADERS['demand']}\n".encode()
         return Inputs(self.put(b"", ".toml"), self.put(table, ".csv"), costs, capacity)
 

@@ -37,8 +37,8 @@ def uncut() -> Iterator[None]:
 
 def deaf() -> None:
     """Lets a command that ends tidy up: no second signal cuts that."""
-    for it in ENDING:
-        signal.signal(it, signal.SIG_IGN)
+    for ending in ENDING:
+        signal.signal(ending, signal.SIG_IGN)
 
 
 def _ended(number: int) -> None:
@@ -57,8 +57,8 @@ def stopping(stop: Callable[[int], None] = _ended) -> Iterator[None]:
             stop(number)
 
     is_main = threading.current_thread() is threading.main_thread()
-    heard = [it for it in ENDING if is_main and signal.getsignal(it) != signal.SIG_IGN]
-    before = {it: signal.signal(it, arrived) for it in heard}
+    heard = [ending for ending in ENDING if is_main and signal.getsignal(ending) != signal.SIG_IGN]
+    before = {ending: signal.signal(ending, arrived) for ending in heard}
     try:
         yield
     finally:

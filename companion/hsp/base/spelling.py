@@ -11,7 +11,7 @@ def near(word: str, words: Iterable[str], least: float = 0.6) -> str:
     if len(word) > 200:
         return ""
     known = list(words)
-    folded = {it.casefold(): it for it in known}
+    folded = {name.casefold(): name for name in known}
     if word.strip().casefold() in folded:
         return folded[word.strip().casefold()]
     return next(iter(difflib.get_close_matches(word, known, 1, least)), "")

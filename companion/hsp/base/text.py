@@ -18,20 +18,22 @@ def escaped(text: str) -> str:
     """The text with an escape in place of each sign that isn't seen, as `\\x1b`."""
     if text.isprintable():
         return text
-    signs = (it.encode("unicode_escape").decode() if unicodedata.category(it) in UNSEEN else it for it in text)
+    signs = (
+        sign.encode("unicode_escape").decode() if unicodedata.category(sign) in UNSEEN else sign for sign in text
+    )
     return "".join(signs)
 
 
 def visible(text: str) -> str:
     """A text in which each sign has one place, so that carets stand below it: one that is not seen becomes a mark."""
     return "".join(
-        it if it.isprintable() else "\u2423" if it in "\u00a0\t\u200b\ufeff\r" else "\ufffd" for it in text
+        sign if sign.isprintable() else "\u2423" if sign in "\u00a0\t\u200b\ufeff\r" else "\ufffd" for sign in text
     )
 
 
 def is_utf8(text: str) -> bool:
     """Whether a word or a name of a file is text."""
-    return not any("\ud800" <= it <= "\udfff" for it in text)
+    return not any("\ud800" <= sign <= "\udfff" for sign in text)
 
 
 def is_plain() -> bool:
@@ -54,7 +56,7 @@ def colored(text: str, colour: str) -> str:
 def say(line: str, err: bool = False) -> None:
     """Prints a line for people. Its own colours stay."""
     parts = [line] if is_plain() else COLOUR.split(line)
-    click.echo("".join(it if at % 2 else escaped(it) for at, it in enumerate(parts)), err=err)
+    click.echo("".join(part if at % 2 else escaped(part) for at, part in enumerate(parts)), err=err)
 
 
 def give(text: str | bytes) -> None:

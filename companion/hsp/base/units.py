@@ -15,16 +15,17 @@ WHOLE = re.compile("0|[1-9][0-9]*")
 def settings_text(settings: dict[str, Any], prefix: str = "") -> str:
     """The blocks of the settings' sites, with a prefix before their names."""
     lines = []
-    for it in settings.get("site", []):
-        source = f"record = {json.dumps(it['record'])}" if "record" in it else f"index = {it['index']}"
-        lines.append(f"[[site]]\nname = {json.dumps(prefix + it['name'])}\n{source}\n")
+    for site in settings.get("site", []):
+        source = f"record = {json.dumps(site['record'])}" if "record" in site else f"index = {site['index']}"
+        lines.append(f"[[site]]\nname = {json.dumps(prefix + site['name'])}\n{source}\n")
     return "".join(lines)
 
 
 def hosts_text(settings: dict[str, Any], unit: int = 1) -> str:
     """The blocks of the settings' hosts, with their limits in units."""
     return "".join(
-        f'[[host]]\naddress = "{it["address"]}"\nlimit = {it["limit"] // unit}\n' for it in settings.get("host", [])
+        f'[[host]]\naddress = "{host["address"]}"\nlimit = {host["limit"] // unit}\n'
+        for host in settings.get("host", [])
     )
 
 

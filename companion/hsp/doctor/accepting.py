@@ -12,16 +12,16 @@ from hsp.plans.marks import TITLES
 from hsp.plans.service import Service
 
 
-def is_named(it: Finding, name: str) -> bool:
+def is_named(finding: Finding, name: str) -> bool:
     """Whether a name is that of a warning, or its first words: `idle region` names each idle region."""
-    return it.name == name or it.name.startswith(f"{name} ")
+    return finding.name == name or finding.name.startswith(f"{name} ")
 
 
 def needless(service: Service, findings: Iterable[Finding]) -> Iterator[Finding]:
     """Accepted names that no warning has."""
-    names = list(dict.fromkeys(it.name for it in findings))
+    names = list(dict.fromkeys(finding.name for finding in findings))
     for name in service.titles.accept:
-        if any(is_named(it, name) for it in findings):
+        if any(is_named(finding, name) for finding in findings):
             continue
         text = read_text(path_in(service.folder, TITLES))
         meant = near(name, names, 0.8)

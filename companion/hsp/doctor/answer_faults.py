@@ -54,7 +54,7 @@ def certificate(question: Question, said: Said) -> Explained:
     number = said.numbers.get("line", max(1, len(text.lines)))
     place = text.whole(number)
     if said.word == "Ended":
-        last = max(1, len([it for it in text.lines if it]))
+        last = max(1, len([line for line in text.lines if line]))
         place = text.whole(last)
         lacks_end = text.line(last) == "END"
         why = "the line end behind END is lost" if lacks_end else "the file was cut: END is its last line"
@@ -107,11 +107,11 @@ def newer_than(question: Question, path: str) -> list[str]:
         return []
     time = os.stat(path).st_mtime
     paths = [
-        question.files[it].original.path
-        for it in ("settings", "values", "demand", "costs", "capacity")
-        if it in question.files
+        question.files[kind].original.path
+        for kind in ("settings", "values", "demand", "costs", "capacity")
+        if kind in question.files
     ]
-    return [os.path.basename(it) for it in paths if os.path.isfile(it) and os.stat(it).st_mtime > time]
+    return [os.path.basename(own) for own in paths if os.path.isfile(own) and os.stat(own).st_mtime > time]
 
 
 def wrong_kind(question: Question, said: Said) -> Explained:
@@ -226,7 +226,7 @@ def streams(question: Question, said: Said) -> Explained:
 
 
 def memory(question: Question, said: Said) -> Iterator[Explained]:
-    size = sum(len(it.original.octets) for it in question.files.values())
+    size = sum(len(draft.original.octets) for draft in question.files.values())
     words = Words(
         "memory ran out",
         "give the process more memory (ulimit -v), or close other programs",

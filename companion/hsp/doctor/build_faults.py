@@ -24,7 +24,7 @@ class Known(NamedTuple):
 
 
 def _names(settings: Text) -> list[str]:
-    return [str(it.get("name", "")) for it in listed_in(settings, "site")]
+    return [str(site.get("name", "")) for site in listed_in(settings, "site")]
 
 
 def names_in(question: Question) -> list[str]:
@@ -36,14 +36,14 @@ def site_at(question: Question, number: int) -> Known:
     sites = listed_in(question.text("settings"), "site")
     site = sites[number] if number < len(sites) else {}
     if isinstance(site.get("record"), str):
-        path = question.desk.put(bytes.fromhex(site["record"]), ".site")
+        path = question.programs.put(bytes.fromhex(site["record"]), ".site")
         printed = run("hsplan", "site", path)
     elif "values" in question.files:
         printed = run("hsplan", "site", f"--index={site.get('index')}", question.path("values"))
     else:
         return Known(str(site.get("name", "")), [])
-    lines = (it.split() for it in printed.out.splitlines())
-    return Known(str(site.get("name", "")), [int(it[2]) for it in lines if it[:1] == ["server"]])
+    lines = (line.split() for line in printed.out.splitlines())
+    return Known(str(site.get("name", "")), [int(line[2]) for line in lines if line[:1] == ["server"]])
 
 
 def unknown_site(question: Question, said: Said) -> Explained | None:
@@ -65,8 +65,8 @@ def unknown_site(question: Question, said: Said) -> Explained | None:
 
 def _without_sites(question: Question, said: Said) -> Finding:
     """The one cause of many unknown names: settings without any block."""
-    tables = [it for it in ("costs", "capacity") if it in question.files]
-    names = dict.fromkeys(it for table in tables for it in table_of(question.text(table)).column("site"))
+    tables = [kind for kind in ("costs", "capacity") if kind in question.files]
+    names = dict.fromkeys(site for table in tables for site in table_of(question.text(table)).column("site"))
     words = Words(
         "the settings have no site",
         "add a block [[site]] for each: hsp sites makes it",
@@ -78,11 +78,11 @@ def _without_sites(question: Question, said: Said) -> Finding:
 
 def short_of(name: str, names: list[str]) -> str:
     """The only one of some names of which this is the beginning, or a word."""
-    words = {it: re.split(r"[-_.]", it.casefold()) for it in names}
+    words = {known: re.split(r"[-_.]", known.casefold()) for known in names}
     found = [
-        it
-        for it in names
-        if len(name) > 1 and (name.casefold() in words[it] or it.casefold().startswith(name.casefold()))
+        known
+        for known in names
+        if len(name) > 1 and (name.casefold() in words[known] or known.casefold().startswith(name.casefold()))
     ]
     return found[0] if len(found) == 1 else ""
 
@@ -90,9 +90,9 @@ def short_of(name: str, names: list[str]) -> str:
 def _site_words(question: Question, spot: Spot, name: str, names: list[str]) -> tuple[str, Words]:
     """The site that was likely meant, and what is said of a name that no site has."""
     meant = near(name, names) or short_of(name, names)
-    tables = [it for it in ("costs", "capacity") if it in question.files]
-    used = {it for table in tables for it in table_of(question.text(table)).column("site")}
-    lone = [it for it in names if it not in used]
+    tables = [kind for kind in ("costs", "capacity") if kind in question.files]
+    used = {used_name for table in tables for used_name in table_of(question.text(table)).column("site")}
+    lone = [other for other in names if other not in used]
     if len(lone) == 1 and (not meant or meant == lone[0]):
         meant = lone[0]
         remedy = f"write one spelling in all files: {meant} as in the settings, or {name} there too"
@@ -117,7 +117,7 @@ def _site_words(question: Question, spot: Spot, name: str, names: list[str]) -> 
 
 def _left_out_sites(question: Question) -> set[str]:
     """Names of sites whose blocks a copy no longer has."""
-    original = {str(it.get("name")) for it in listed_in(question.files["settings"].original, "site")}
+    original = {str(site.get("name")) for site in listed_in(question.files["settings"].original, "site")}
     return original - set(names_in(question))
 
 
@@ -130,8 +130,8 @@ def unknown_server(question: Question, said: Said) -> Explained | None:
     names = names_in(question)
     site = site_at(question, names.index(name)) if name in names else Known(name, [])
     rows = table_of(question.text("capacity")).rows
-    taken = {it.fields[1] for it in rows if it.fields[0] == name}
-    free = [it for it in map(str, site.servers) if it not in taken]
+    taken = {row.fields[1] for row in rows if row.fields[0] == name}
+    free = [identifier for identifier in map(str, site.servers) if identifier not in taken]
     ids = listed(map(str, site.servers), 12)
     why = f"{name} has the servers {ids}" if len(site.servers) > 1 else f"{name} has only the server {ids}"
     if text == "0":
@@ -162,10 +162,10 @@ def no_capacity(question: Question, said: Said) -> Explained:
     rows = table_of(draft.original).rows
     if not rows:
         return Explained(_without_rows(draft.original, said))
-    own = [it for it in rows if it.fields[0] == site]
+    own = [other for other in rows if other.fields[0] == site]
     place = draft.original.whole((own or rows)[-1].last)
     place = Place(place.line, place.column + place.width, 1, place.text)
-    like = [it for it in dict.fromkeys(row.fields[0] for row in rows) if it != site]
+    like = [other for other in dict.fromkeys(row.fields[0] for row in rows) if other != site]
     why = (
         f"no row of {site}: a new site, or rows that were cut off"
         if not own

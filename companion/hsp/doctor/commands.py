@@ -44,9 +44,9 @@ def line_of(words: list[str]) -> Line:
     form = COMMANDS.get(own[0]) if own else None
     program = program or (form.program if form else "hsplan")
     text, placed = program, []
-    for it in own:
-        placed.append(Word(it, len(text) + 1))
-        text += " " + it
+    for word in own:
+        placed.append(Word(word, len(text) + 1))
+        text += " " + word
     return Line(program, placed, text)
 
 

@@ -14,9 +14,9 @@ def rounded(number: float) -> int:
     return int(float(f"{number:.2g}"))
 
 
-def _part_of(it: Finding) -> tuple[str, str]:
+def _part_of(finding: Finding) -> tuple[str, str]:
     """Where hsplan met a fault: the file, and whether it read that by itself or with the others."""
-    return it.file, it.said.partition(":")[0]
+    return finding.file, finding.said.partition(":")[0]
 
 
 def likely(findings: list[Finding]) -> int:
@@ -30,7 +30,7 @@ def likely(findings: list[Finding]) -> int:
         return len(findings)
     with open(last.file, "rb") as file:
         octets = file.read(LARGEST)
-    own = [it.line for it in findings if _part_of(it) == _part_of(last)]
+    own = [finding.line for finding in findings if _part_of(finding) == _part_of(last)]
     header = int(min(own) > 1)
     lines, read = octets.removesuffix(b"\n").count(b"\n") + 1 - header, max(own) - header
     return rounded(len(findings) - len(own) + len(own) * max(lines, read) / read)

@@ -14,7 +14,7 @@ from urllib.parse import unquote
 from hsp.base.grammar import GREATEST_CAPACITY, HEADERS
 from hsp.base.numbers import listed, some
 from hsp.base.paths import path_in, shell_word
-from hsp.base.programs import Desk
+from hsp.base.programs import Programs
 from hsp.base.spelling import near
 from hsp.doctor.accepting import is_named, needless
 from hsp.doctor.findings import WARNING, Finding, Place, Text, Words, decoded, found, quoted, read_text
@@ -62,7 +62,9 @@ def bare(handle: str) -> str:
     """The handle that was likely meant."""
     text = unquote(ADDRESS.sub("", handle.strip()))
     return (
-        "".join(it for it in text if unicodedata.category(it) not in ("Cf", "Cc")).strip().removesuffix("?noredirect")
+        "".join(sign for sign in text if unicodedata.category(sign) not in ("Cf", "Cc"))
+        .strip()
+        .removesuffix("?noredirect")
     )
 
 
@@ -76,18 +78,18 @@ def handle_words(handle: str) -> tuple[str, str]:
     if handle != handle.strip():
         side = "before" if handle[:1].isspace() else "behind"
         return f"{quoted(handle)} has a blank {side} it", "blank"
-    if any(unicodedata.category(it) in ("Cf", "Cc") or it in "\u00a0\u202f" for it in handle):
+    if any(unicodedata.category(sign) in ("Cf", "Cc") or sign in "\u00a0\u202f" for sign in handle):
         return f"{quoted(handle)} has a sign that isn't seen", "unseen"
     if re.match(r"[\"'<].*[\"'>]$", handle):
         return f"{quoted(handle)} has quotes or brackets that belong to it", "quotes"
     return "", ""
 
 
-def handles(it: Read) -> None:
+def handles(read: Read) -> None:
     """Handles that aren't bare. One that names a kind is hashed as the log has it, and stands for others too."""
-    if it.service.mark.is_joined:
+    if read.service.mark.is_joined:
         return
-    for row in it.demand.rows:
+    for row in read.demand.rows:
         handle = row.fields[1]
         message, kind = handle_words(handle)
         if message:
@@ -96,16 +98,16 @@ def handles(it: Read) -> None:
                 f", {len(handle)} letters become {len(meant)}" if kind in ("blank", "unseen") else ""
             )
             remedy = shown if meant and meant != handle else "write the bare handle: prefix, '/', suffix"
-            it.of_row(it.demand, row, 1, Words(message, remedy, OTHER_OCTETS, "", f"handle {kind}"))
+            read.of_row(read.demand, row, 1, Words(message, remedy, OTHER_OCTETS, "", f"handle {kind}"))
 
 
-def twins(it: Read) -> None:
+def twins(read: Read) -> None:
     """Handles of one region that differ only in the case of letters, or in how a letter is composed. Kinds have other
     servers."""
-    if it.service.mark.is_joined:
+    if read.service.mark.is_joined:
         return
     groups: dict[tuple[str, str], list[Row]] = defaultdict(list)
-    for row in it.demand.rows:
+    for row in read.demand.rows:
         groups[row.fields[0], unicodedata.normalize("NFC", row.fields[1]).casefold()].append(row)
     for rows in groups.values():
         first, *others = rows
@@ -128,7 +130,7 @@ def twins(it: Read) -> None:
                 f"the other is in line {first.first}",
                 "twin handles",
             )
-            it.of_row(it.demand, row, 1, words)
+            read.of_row(read.demand, row, 1, words)
 
 
 def firsts(table: Table) -> dict[str, Row]:
@@ -139,15 +141,15 @@ def firsts(table: Table) -> dict[str, Row]:
     return found_rows
 
 
-def priceless(it: Read) -> None:
+def priceless(read: Read) -> None:
     """Regions that ask and have no cost."""
-    asking, paying = firsts(it.demand), firsts(it.costs)
-    costs = os.path.basename(it.costs.text.path)
+    asking, paying = firsts(read.demand), firsts(read.costs)
+    costs = os.path.basename(read.costs.text.path)
     for region, row in asking.items():
         if region in paying or not paying:
             continue
         meant = namesake(region, asking, paying)
-        number = sum(other.fields[0] == region for other in it.demand.rows)
+        number = sum(other.fields[0] == region for other in read.demand.rows)
         remedy = f"write {meant} here, or {region} in {costs}" if meant else f"add rows {region},SITE,COST to {costs}"
         if meant and meant not in asking:
             remedy = f"write {region} in {costs}, from line {paying[meant].first} on, or {meant} here"
@@ -158,7 +160,7 @@ def priceless(it: Read) -> None:
             f"{costs} has {meant}" if meant else "",
             f"no cost {region}",
         )
-        it.of_row(it.demand, row, 0, words)
+        read.of_row(read.demand, row, 0, words)
 
 
 def namesake(region: str, asking: Iterable[str], paying: Iterable[str]) -> str:
@@ -166,9 +168,9 @@ def namesake(region: str, asking: Iterable[str], paying: Iterable[str]) -> str:
     return near(region, set(paying) - set(asking)) or near(region, paying, 0.8)
 
 
-def idle(it: Read) -> None:
+def idle(read: Read) -> None:
     """Regions that have costs and ask for nothing, but for those that another spelling explains."""
-    asking, paying = firsts(it.demand), firsts(it.costs)
+    asking, paying = firsts(read.demand), firsts(read.costs)
     explained = {namesake(region, asking, paying) for region in asking if region not in paying}
     for region, row in paying.items():
         if region in asking or region in explained or not asking:
@@ -180,16 +182,16 @@ def idle(it: Read) -> None:
         message = f"region {quoted(region)} has costs and asks for nothing"
         mark = f"did you mean {meant}?" if meant else ""
         words = Words(message, remedy, "its costs are never used", mark, "idle region", f"idle region {region}")
-        it.of_row(it.costs, row, 0, words)
+        read.of_row(read.costs, row, 0, words)
 
 
-def pairs(it: Read) -> None:
+def pairs(read: Read) -> None:
     """Pairs of region and site without a cost, where a region has costs for half of the sites or more."""
-    asking, paying = firsts(it.demand), firsts(it.costs)
-    there = {(row.fields[0], row.fields[1]) for row in it.costs.rows}
+    asking, paying = firsts(read.demand), firsts(read.costs)
+    there = {(row.fields[0], row.fields[1]) for row in read.costs.rows}
     for region in (own for own in asking if own in paying):
-        lacking = [site.name for site in it.service.sites if (region, site.name) not in there]
-        if not lacking or len(lacking) * 2 > len(it.service.sites):
+        lacking = [site.name for site in read.service.sites if (region, site.name) not in there]
+        if not lacking or len(lacking) * 2 > len(read.service.sites):
             continue
         rows = listed([f"{region},{site},COST" for site in lacking], 3)
         words = Words(
@@ -199,16 +201,16 @@ def pairs(it: Read) -> None:
             kind="missing cost",
             name=f"missing cost {region}",
         )
-        it.of_row(it.costs, paying[region], 0, words)
+        read.of_row(read.costs, paying[region], 0, words)
 
 
-def hosts(it: Read) -> None:
+def hosts(read: Read) -> None:
     """Hosts whose address no server has."""
     addresses: dict[str, list[str]] = defaultdict(list)
-    for site in it.service.sites:
+    for site in read.service.sites:
         for server in site.servers:
             addresses[server.address.lower()].append(server.label)
-    for number, host in enumerate(it.service.settings.get("host", [])):
+    for number, host in enumerate(read.service.settings.get("host", [])):
         address = str(host["address"]).lower()
         if address not in addresses:
             meant = near(address, addresses, 0.9)
@@ -220,29 +222,29 @@ def hosts(it: Read) -> None:
                 else "copy the address of its servers from hsplan site"
             )
             why = f"the limit binds nothing; the servers have {listed(map(dotted, sorted(addresses)), 4)}"
-            place = value_of(it.settings, "host", number, "address")
+            place = value_of(read.settings, "host", number, "address")
             bare_one = dotted(address)
             words = Words(
                 f"no server has the address {bare_one}", remedy, why, "", "unused host", f"unused host {bare_one}"
             )
-            it.doubt(it.settings, place, words)
+            read.doubt(read.settings, place, words)
 
 
-def zeros(it: Read) -> None:
+def zeros(read: Read) -> None:
     """Counts and capacities of 0."""
-    for row in it.demand.rows:
+    for row in read.demand.rows:
         if row.fields[2] == "0":
             words = Words(
-                f"{row.fields[0]} asks 0 times for {it.service.like(quoted(row.fields[1]))}",
+                f"{row.fields[0]} asks 0 times for {read.service.like(quoted(row.fields[1]))}",
                 "take the row out, or write its count",
                 "the row asks for nothing",
                 "",
                 "count 0",
                 f"count 0 {row.fields[0]}",
             )
-            it.of_row(it.demand, row, 2, words)
-    for row in it.capacity.rows:
-        if row.fields[2] == "0" and any(it.service.capacities.values()):
+            read.of_row(read.demand, row, 2, words)
+    for row in read.capacity.rows:
+        if row.fields[2] == "0" and any(read.service.capacities.values()):
             words = Words(
                 f"server {row.fields[1]} of {row.fields[0]} has the capacity 0",
                 "write what it takes, unless it is out of service",
@@ -251,37 +253,37 @@ def zeros(it: Read) -> None:
                 "capacity 0",
                 f"capacity 0 {row.fields[0]} {row.fields[1]}",
             )
-            it.of_row(it.capacity, row, 2, words)
+            read.of_row(read.capacity, row, 2, words)
 
 
-def rows(it: Read) -> None:
+def rows(read: Read) -> None:
     """A demand without rows, or costs without rows where the demand and the settings have some."""
-    if not it.demand.rows:
+    if not read.demand.rows:
         words = Words(
             "the demand has no rows",
             f"add a row {HEADERS['demand']} for each region and handle",
             "the plan is empty and costs 0",
             kind="empty demand",
         )
-        it.doubt(it.demand.text, it.demand.text.whole(1), words)
-    elif not it.costs.rows and it.service.sites:
+        read.doubt(read.demand.text, read.demand.text.whole(1), words)
+    elif not read.costs.rows and read.service.sites:
         words = Words(
             "the costs have no rows",
             f"add a row {HEADERS['costs']} for each region and each site that it may use",
             "no site may serve any region, so the plan is a shortage",
             kind="empty costs",
         )
-        it.doubt(it.costs.text, it.costs.text.whole(1), words)
+        read.doubt(read.costs.text, read.costs.text.whole(1), words)
 
 
-def units(it: Read) -> None:
+def units(read: Read) -> None:
     """A demand that is far from all capacity."""
-    asked, room = it.service.asked, sum(it.service.capacities.values())
-    remedy, place = "give counts and capacities for the same time: an hour, say", it.capacity.text.whole(2)
-    bound = [own for own in it.service.capacities.values() if own < NO_LIMIT]
+    asked, room = read.service.asked, sum(read.service.capacities.values())
+    remedy, place = "give counts and capacities for the same time: an hour, say", read.capacity.text.whole(2)
+    bound = [own for own in read.service.capacities.values() if own < NO_LIMIT]
     if not asked:
         return
-    if it.service.capacities and not room:
+    if read.service.capacities and not room:
         why = "every query lacks a place, so the plan is a shortage"
         words = Words("all capacities are 0", "write what each server takes", why, kind="no capacity")
     elif room and asked > FAR_ABOVE * room:
@@ -292,13 +294,13 @@ def units(it: Read) -> None:
         words = Words("all capacity is far above the demand", remedy, why, kind="capacity far above demand")
     else:
         return
-    it.doubt(it.capacity.text, place, words)
+    read.doubt(read.capacity.text, place, words)
 
 
-def free(it: Read) -> None:
+def free(read: Read) -> None:
     """Costs that are all 0, where a region has a choice of sites."""
-    sites = Counter(region for region, _ in it.service.costs)
-    if any(it.service.costs.values()) or max(sites.values(), default=0) < 2:
+    sites = Counter(region for region, _ in read.service.costs)
+    if any(read.service.costs.values()) or max(sites.values(), default=0) < 2:
         return
     words = Words(
         "all costs are 0",
@@ -306,12 +308,12 @@ def free(it: Read) -> None:
         "each plan costs 0, so a query may go to the farthest site; were the costs rounded?",
         kind="costs of 0",
     )
-    it.of_row(it.costs, it.costs.rows[0], 2, words)
+    read.of_row(read.costs, read.costs.rows[0], 2, words)
 
 
-def unused(it: Read) -> None:
+def unused(read: Read) -> None:
     """Servers that no row of the demand may use."""
-    service = it.service
+    service = read.service
     if not service.rows or not service.costs:
         return
     used = {
@@ -322,7 +324,7 @@ def unused(it: Read) -> None:
     }
     reached = {site for site, _ in used}
     for at, site in enumerate(service.sites):
-        own = [row for row in it.capacity.rows if row.fields[0] == site.name]
+        own = [row for row in read.capacity.rows if row.fields[0] == site.name]
         if at not in reached and own:
             words = Words(
                 f"no row may use site {quoted(site.name)}",
@@ -332,7 +334,7 @@ def unused(it: Read) -> None:
                 "unused site",
                 f"unused site {site.name}",
             )
-            it.of_row(it.capacity, own[0], 0, words)
+            read.of_row(read.capacity, own[0], 0, words)
             continue
         for place, server in enumerate(site.servers):
             row = next((own_row for own_row in own if own_row.fields[1] == str(server.id)), None)
@@ -346,14 +348,14 @@ def unused(it: Read) -> None:
                     "unused server",
                     f"unused server {server.label}",
                 )
-                it.of_row(it.capacity, row, 1, words)
+                read.of_row(read.capacity, row, 1, words)
 
 
-def sites(it: Read) -> None:
+def sites(read: Read) -> None:
     """Settings without a site, and a record that two sites share."""
-    if not it.service.sites:
-        it.doubt(
-            it.settings,
+    if not read.service.sites:
+        read.doubt(
+            read.settings,
             Place(),
             Words(
                 "the settings have no site",
@@ -363,10 +365,10 @@ def sites(it: Read) -> None:
             ),
         )
     seen: dict[str, str] = {}
-    for number, site in enumerate(it.service.settings.get("site", [])):
+    for number, site in enumerate(read.service.settings.get("site", [])):
         key = str(site.get("record", f"index {site.get('index')}")).lower()
         if key in seen:
-            place = value_of(it.settings, "site", number, "record" if "record" in site else "index")
+            place = value_of(read.settings, "site", number, "record" if "record" in site else "index")
             place = Place(place.line, place.column, min(place.width, 24), place.text)
             words = Words(
                 f"site {quoted(site['name'])} has the record of {quoted(seen[key])}",
@@ -375,11 +377,11 @@ def sites(it: Read) -> None:
                 kind="shared record",
                 name=f"shared record {site['name']}",
             )
-            it.doubt(it.settings, place, words)
+            read.doubt(read.settings, place, words)
         seen.setdefault(key, site["name"])
 
 
-def stale_plan(service: Service, desk: Desk, path: str) -> list[str] | None:
+def stale_plan(service: Service, programs: Programs, path: str) -> list[str] | None:
     """The inputs that are newer than a plan which the checker refuses for them; None where the plan still holds.
 
     A plan of the folder isn't one of other files that were given.
@@ -388,26 +390,26 @@ def stale_plan(service: Service, desk: Desk, path: str) -> list[str] | None:
     own = {path_in(service.folder, name) for name in (*NAMES.values(), VALUES)}
     if not {inputs.settings, inputs.demand, inputs.costs, inputs.capacity} <= own:
         return None
-    return None if desk.verdict(inputs, path) == "yes" else newer_than(inputs, path)
+    return None if programs.verdict(inputs, path) == "yes" else newer_than(inputs, path)
 
 
-def old_plan(it: Read, desk: Desk) -> None:
+def old_plan(read: Read, programs: Programs) -> None:
     """A plan in the folder that isn't one of its inputs, or isn't one of them any more."""
-    path = path_in(it.service.folder, "plan.txt")
-    newer = stale_plan(it.service, desk, path) if os.path.isfile(path) else None
+    path = path_in(read.service.folder, "plan.txt")
+    newer = stale_plan(read.service, programs, path) if os.path.isfile(path) else None
     if newer is None:
         return
     message, why = "the plan isn't one of these files", "it was cut, edited, or made of other files"
     if newer:
         message = f"the plan is older than {listed(newer)}"
         why = f"{listed(newer)} {'is' if len(newer) == 1 else 'are'} newer, and hsplan check says no to the plan"
-    words = Words(message, f"hsp plan {shell_word(it.service.folder)}", why, kind=OLD_PLAN, name=OLD_PLAN)
-    it.findings.append(found(path, Place(), words, "", WARNING))
+    words = Words(message, f"hsp plan {shell_word(read.service.folder)}", why, kind=OLD_PLAN, name=OLD_PLAN)
+    read.findings.append(found(path, Place(), words, "", WARNING))
 
 
-def titles(it: Read) -> None:
+def titles(read: Read) -> None:
     """Words of hsp.toml that no page and no line shows."""
-    path = path_in(it.service.folder, TITLES)
+    path = path_in(read.service.folder, TITLES)
     if not os.path.isfile(path):
         return
     text = read_text(path)
@@ -421,7 +423,7 @@ def titles(it: Read) -> None:
             mark = f"did you mean {meant}?" if meant else ""
             place = text.match(rf"^\s*\[?\"?({re.escape(key)})\b") or Place()
             message, name = f"the key {quoted(key)} of {TITLES} is not read", f"unknown key {key}"
-            it.doubt(text, place, Words(message, remedy, f"hsp reads {listed(known, 9)}", mark, name=name))
+            read.doubt(text, place, Words(message, remedy, f"hsp reads {listed(known, 9)}", mark, name=name))
 
 
 # What makes the whole plan meaningless, what loses queries, and the rest.
@@ -429,23 +431,23 @@ WHOLE, LOST = (sites, rows, units, free), (priceless, handles, twins)
 REST = (hosts, idle, pairs, zeros, unused)
 
 
-def doubts(service: Service, desk: Desk, of_folder: bool = True) -> Iterator[Finding]:
+def doubts(service: Service, programs: Programs, of_folder: bool = True) -> Iterator[Finding]:
     """All that is accepted and seldom meant, by its weight; of a folder, its titles and its plan too.
 
     What hsp.toml accepts is left out.
     """
     inputs = service.inputs
     demand, costs, capacity = (table_of(read_text(own)) for own in (inputs.demand, inputs.costs, inputs.capacity))
-    it = Read(service, demand, costs, capacity, read_text(inputs.settings))
+    read = Read(service, demand, costs, capacity, read_text(inputs.settings))
     for look in WHOLE:
-        look(it)
-    it.findings += mark_doubts(service, demand.text)
+        look(read)
+    read.findings += mark_doubts(service, demand.text)
     for look in (*LOST, *REST):
-        look(it)
+        look(read)
     if of_folder:
-        titles(it)
-        old_plan(it, desk)
+        titles(read)
+        old_plan(read, programs)
     accept = service.titles.accept
-    yield from (own for own in it.findings if not any(is_named(own, name) for name in accept))
+    yield from (own for own in read.findings if not any(is_named(own, name) for name in accept))
     if of_folder:
-        yield from needless(service, it.findings)
+        yield from needless(service, read.findings)

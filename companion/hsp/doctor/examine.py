@@ -10,7 +10,7 @@ from dataclasses import dataclass
 
 from hsp.base.numbers import listed
 from hsp.base.paths import path_in, shell_word
-from hsp.base.programs import Desk, Missing, Refused
+from hsp.base.programs import Missing, Programs, Refused
 from hsp.base.unfit import Unfit
 from hsp.doctor.doubts import doubts
 from hsp.doctor.findings import ERROR, Finding, Place, Words, found, read_text
@@ -32,22 +32,22 @@ class Examined:
 
     @property
     def errors(self) -> list[Finding]:
-        return [it for it in self.findings if it.severity == ERROR]
+        return [finding for finding in self.findings if finding.severity == ERROR]
 
     @property
     def warnings(self) -> list[Finding]:
-        return [it for it in self.findings if it.severity != ERROR]
+        return [finding for finding in self.findings if finding.severity != ERROR]
 
 
 def status_of(result: Diagnosis) -> int:
     """hsplan's status for faults; 1 in place of a verdict on a certificate."""
-    if not [it for it in result.findings if it.severity == ERROR]:
+    if not [finding for finding in result.findings if finding.severity == ERROR]:
         return 0
     return result.status if result.status in (1, 2, 4, 5) else 1
 
 
 def examined(
-    folder: str, desk: Desk, given: dict[str, str | None], title: str | None = None, cost: str | None = None
+    folder: str, programs: Programs, given: dict[str, str | None], title: str | None = None, cost: str | None = None
 ) -> Examined:
     """What is wrong with a folder, or what is doubtful where nothing is wrong."""
     paths = {kind: given.get(kind) or path_in(folder, name) for kind, name in NAMES.items()}
@@ -57,21 +57,21 @@ def examined(
         paths["values"] = values
     if not any(os.path.exists(paths[kind]) for kind in NAMES):
         return Examined([_no_service(folder)], 5)
-    question = Question(desk, "plan", {kind: draft_of(desk, path) for kind, path in paths.items()})
-    copies = {kind: it.copy for kind, it in question.files.items() if it.copy}
+    question = Question(programs, "plan", {kind: draft_of(programs, path) for kind, path in paths.items()})
+    copies = {kind: draft.copy for kind, draft in question.files.items() if draft.copy}
     try:
         mark = mark_of(folder, given)
         inputs = inputs_in(folder, {**given, **copies}, mark.unit)
-        service = service_of(folder, desk, inputs, titles_in(folder, title, cost), mark)
+        service = service_of(folder, programs, inputs, titles_in(folder, title, cost), mark)
     except (Refused, Missing, Unfit, OSError) as fault:
         return _refused(question, folder, fault)
-    work = guarded(lambda show: _all(doubts(service, desk), show))
+    work = guarded(lambda show: _all(doubts(service, programs), show))
     return Examined(work.findings, 0, work.is_ended, service)
 
 
 def _all(findings: Iterable[Finding], show: Show) -> None:
-    for it in findings:
-        show(it)
+    for finding in findings:
+        show(finding)
 
 
 def _refused(question: Question, folder: str, fault: Exception) -> Examined:
@@ -105,8 +105,8 @@ def _unexplained(path: str, said: Said) -> Finding:
 
 def _no_service(folder: str) -> Finding:
     """A folder with none of the files, and a folder in it that has them."""
-    inside = sorted(it.name for it in os.scandir(folder) if it.is_dir() and not it.name.startswith("."))
-    there = [it for it in inside if os.path.exists(os.path.join(folder, it, NAMES["settings"]))]
+    inside = sorted(entry.name for entry in os.scandir(folder) if entry.is_dir() and not entry.name.startswith("."))
+    there = [inner for inner in inside if os.path.exists(os.path.join(folder, inner, NAMES["settings"]))]
     message = f"none of {listed(NAMES.values())} is here"
     if there:
         near = path_in(folder, there[0])
@@ -144,30 +144,30 @@ def titles_faults(folder: str) -> list[Finding]:
         number = (
             int(advised[1])
             if advised
-            else next((it for it, line in enumerate(text.lines, 1) if line.count('"') % 2), 1)
+            else next((at for at, line in enumerate(text.lines, 1) if line.count('"') % 2), 1)
         )
         why = re.sub(r" \(at .*\)", "", str(fault)).lower()
         words = Words(f"{TITLES} isn't TOML", 'write lines as title = "Films", cost = "ms", time = "an hour"', why)
         return [found(path, text.whole(number), words)]
     return [
-        found(path, value_of(text, TABLE, 0, it.key), Words(it.message, it.remedy))
-        for it in bad_keys(said.get(TABLE, {}))
+        found(path, value_of(text, TABLE, 0, key.key), Words(key.message, key.remedy))
+        for key in bad_keys(said.get(TABLE, {}))
     ]
 
 
-def examined_words(words: list[str], desk: Desk) -> Examined:
+def examined_words(words: list[str], programs: Programs) -> Examined:
     """What is wrong with the words of a command, and with its files, or what is doubtful where nothing is wrong."""
     from hsp.doctor.faults import of_words, said_of_words
 
     def explain(show: Show) -> Diagnosis:
         streamed: list[Finding] = []
 
-        def once(it: Finding) -> None:
-            streamed.append(it)
-            show(it)
+        def once(finding: Finding) -> None:
+            streamed.append(finding)
+            show(finding)
 
-        result = of_words(desk, words, once)
-        _all((it for it in result.findings if it not in streamed), show)
+        result = of_words(programs, words, once)
+        _all((finding for finding in result.findings if finding not in streamed), show)
         return Diagnosis([], status_of(result), result.is_cut_short)
 
     work = guarded(explain)

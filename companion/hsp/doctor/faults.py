@@ -7,8 +7,8 @@ import subprocess
 from collections.abc import Callable
 from dataclasses import replace
 
-from hsp.base.grammar import FILES, COMMANDS
-from hsp.base.programs import Desk, program, run
+from hsp.base.grammar import COMMANDS, FILES
+from hsp.base.programs import Programs, program, run
 from hsp.base.text import is_utf8
 from hsp.doctor import (
     answer_faults,
@@ -84,43 +84,43 @@ def _of_log(question: Question, said: Said) -> Explained | None:
 def explained(question: Question, said: Said, line: Line | None) -> Explained:
     """What a line of hsplan means."""
     ways = {"settings": OF_SETTINGS, "build": OF_BUILD}.get(said.where, {})
-    it: Explained | None = None
+    one: Explained | None = None
     if said.word in ways:
-        it = ways[said.word](question, said)
+        one = ways[said.word](question, said)
     elif said.where in ("demand", "costs", "capacity", "log"):
-        it = _of_table(question, said)
+        one = _of_table(question, said)
     elif said.where in ("site", "values"):
-        it = record_faults.bad_file(question, said, "file" if "file" in question.files else "values")
+        one = record_faults.bad_file(question, said, "file" if "file" in question.files else "values")
     elif said.where == "certificate":
-        it = answer_faults.certificate(question, said)
+        one = answer_faults.certificate(question, said)
     elif said.where == "check":
-        it = answer_faults.verdict(question, said)
+        one = answer_faults.verdict(question, said)
     elif said.word == "WrongKind":
-        it = answer_faults.wrong_kind(question, said)
+        one = answer_faults.wrong_kind(question, said)
     elif said.word in ("NoValue", "NotSiteValue") and "file" in question.files:
-        it = record_faults.value_of_list(question, said)
+        one = record_faults.value_of_list(question, said)
     elif said.word == "OutOfMemory" or said.detail == "OutOfMemory":
-        it = next(answer_faults.memory(question, said))
+        one = next(answer_faults.memory(question, said))
     elif line and said.where == "handle":
-        it = Explained(word_faults.bad_handle_word(line, said))
+        one = Explained(word_faults.bad_handle_word(line, said))
     elif line and said.word.startswith("Bad") and not said.where:
-        it = Explained(word_faults.value_fault(line, said.word))
-    if it:
-        return _numbered(question, said, it)
+        one = Explained(word_faults.value_fault(line, said.word))
+    if one:
+        return _numbered(question, said, one)
     words = Words(
         f"hsplan says {said.line or 'nothing'}", "look the word up in FAULTS, which is installed with hsplan"
     )
     return Explained(found("", Place(), words, said.line))
 
 
-def _numbered(question: Question, said: Said, it: Explained) -> Explained:
+def _numbered(question: Question, said: Said, one: Explained) -> Explained:
     """The same with hsplan's words as they are for the files as they were, where a copy lacks a block."""
     for kind in ("site", "host"):
-        if it.finding and "settings" in question.files and kind in said.numbers:
+        if one.finding and "settings" in question.files and kind in said.numbers:
             number = settings_faults.number_then(question, kind, said.numbers[kind])
-            line = re.sub(rf"\b{kind} \d+", f"{kind} {number}", it.finding.said, count=1)
-            it = it._replace(finding=replace(it.finding, said=line))
-    return it
+            line = re.sub(rf"\b{kind} \d+", f"{kind} {number}", one.finding.said, count=1)
+            one = one._replace(finding=replace(one.finding, said=line))
+    return one
 
 
 def _files_first(question: Question, line: str) -> tuple[Question, list[Finding]]:
@@ -129,31 +129,31 @@ def _files_first(question: Question, line: str) -> tuple[Question, list[Finding]
     for kind in ORDER:
         if kind in question.files:
             text = question.files[kind].original
-            it = file_finding(text.path, kind, line, len(text.octets))
-            if it:
-                findings.append(it)
+            finding = file_finding(text.path, kind, line, len(text.octets))
+            if finding:
+                findings.append(finding)
                 question = question.with_stand_in(kind)
     return question, findings
 
 
-def _is_another(it: Explained, then: Explained) -> bool:
+def _is_another(explained: Explained, then: Explained) -> bool:
     """Whether two explanations of one line of hsplan speak of different things."""
-    return it.finding and then.finding and it.finding.message != then.finding.message or False
+    return explained.finding and then.finding and explained.finding.message != then.finding.message or False
 
 
-def _next(question: Question, said: Said, it: Explained, line: Line | None) -> tuple[Question, Said] | None:
+def _next(question: Question, said: Said, one: Explained, line: Line | None) -> tuple[Question, Said] | None:
     """The first mended question whose answer is another one."""
-    for mended in it.mended:
+    for mended in one.mended:
         then = mended.ask()
         if then.line == said.line:
             # The next row or block may have the same number and fault, and a block may have two faults.
             if (
                 said.word == "NotToml"
                 or mended.size() < question.size()
-                or _is_another(it, explained(mended, then, line))
+                or _is_another(one, explained(mended, then, line))
             ):
                 return mended, then
-        elif not (it.is_whole_row and _is_same_row(said, then)):
+        elif not (one.is_whole_row and _is_same_row(said, then)):
             return mended, then
     return None
 
@@ -173,7 +173,7 @@ def _is_consequence(question: Question, said: Said) -> bool:
 
 def _is_known(findings: list[Finding], new: Finding) -> bool:
     """Whether a finding is there already, or is of a line of the settings that has to be written anew anyhow."""
-    lines = {(it.file, it.line) for it in findings if it.said == "settings: NotToml"}
+    lines = {(finding.file, finding.line) for finding in findings if finding.said == "settings: NotToml"}
     return new in findings or new.said.startswith("settings: ") and (new.file, new.line) in lines
 
 
@@ -185,8 +185,8 @@ def diagnosed(question: Question, line: Line | None = None, show: Show = unheard
         return result
     if said.word == "read failed":
         question, findings = _files_first(question, said.line)
-        for it in findings:
-            result.add(it)
+        for finding in findings:
+            result.add(finding)
         if not result.findings:
             words = Words(
                 "a file can't be read",
@@ -195,10 +195,10 @@ def diagnosed(question: Question, line: Line | None = None, show: Show = unheard
             )
             result.add(found("", Place(), words, said.line))
             return result
-        if any(it in question.absent for it in ("plan", "log", "file", "values")):
+        if any(kind in question.absent for kind in ("plan", "log", "file", "values")):
             question = without_answers(question)
         said = question.ask()
-    octets = sum(len(it.original.octets) for it in question.files.values())
+    octets = sum(len(draft.original.octets) for draft in question.files.values())
     for _ in range(max(3, min(TURNS, OCTETS // max(1, octets)))):
         if not said.line or _is_consequence(question, said):
             return result
@@ -217,37 +217,37 @@ def without_answers(question: Question) -> Question:
     """Only the planning of a question: of a command whose plan or log can't be read, the inputs still can."""
     if question.command not in ("check", "dispatch", "report", "answer", "plan"):
         return question
-    files = {kind: it for kind, it in question.files.items() if kind not in ("plan", "log", "file")}
+    files = {kind: draft for kind, draft in question.files.items() if kind not in ("plan", "log", "file")}
     if "values" in question.absent:
         files.pop("values", None)
     return replace(question, program="hsplan", command="plan", files=files, options=(), words=())
 
 
-def question_of(desk: Desk, line: Line) -> Question:
+def question_of(programs: Programs, line: Line) -> Question:
     """The question that the words of a line ask."""
     options, others = split(line)
     form = COMMANDS[line.command]
     values: dict[str, str] = {}
-    for it in options:
-        if it.name in FILES and it.value is not None:
-            values.setdefault(it.name, it.value)
-    files = {name: draft_of(desk, value) for name, value in values.items()}
-    rest = tuple(f"--{it.name}={it.value}" for it in options if it.name not in FILES)
+    for option in options:
+        if option.name in FILES and option.value is not None:
+            values.setdefault(option.name, option.value)
+    files = {name: draft_of(programs, value) for name, value in values.items()}
+    rest = tuple(f"--{option.name}={option.value}" for option in options if option.name not in FILES)
     if form.last == "file" and others:
-        files["file"] = draft_of(desk, others[0].text)
-    return Question(desk, line.command, files, rest, tuple(it.text for it in others), line.program)
+        files["file"] = draft_of(programs, others[0].text)
+    return Question(programs, line.command, files, rest, tuple(word.text for word in others), line.program)
 
 
-def of_words(desk: Desk, words: list[str], show: Show = unheard) -> Diagnosis:
+def of_words(programs: Programs, words: list[str], show: Show = unheard) -> Diagnosis:
     """All faults of the words of a command, and of its files; or what is doubtful where nothing is wrong."""
     line = line_of(words)
     if word_faults.command_fault(line):
-        status = run(line.program, *[it.text for it in line.words]).status
+        status = run(line.program, *[word.text for word in line.words]).status
         return Diagnosis(word_faults.usage(line) if status else [], status)  # --version of hsplan-stream is no fault
-    odd = [it for it in line.words if not is_utf8(it.text)]
+    odd = [word for word in line.words if not is_utf8(word.text)]
     if odd:
-        return Diagnosis([word_faults.not_utf8(line, it) for it in odd], USAGE_STATUS)
-    question = question_of(desk, line)
+        return Diagnosis([word_faults.not_utf8(line, word) for word in odd], USAGE_STATUS)
+    question = question_of(programs, line)
     status = _status(line, question)
     if status == USAGE_STATUS:
         return Diagnosis(word_faults.usage(line) + _of_files(question), status)
@@ -258,27 +258,29 @@ def of_words(desk: Desk, words: list[str], show: Show = unheard) -> Diagnosis:
 def said_of_words(words: list[str]) -> Said:
     """What the program says of words as they are."""
     line = line_of(words)
-    printed = run(line.program, *[it.text for it in line.words])
+    printed = run(line.program, *[word.text for word in line.words])
     return said_of(printed.status, printed.line.removeprefix(f"{line.program}: "))
 
 
 def _status(line: Line, question: Question) -> int:
     """The status of the words as they are given, with copies of pipes."""
-    copies = {it.original.path: it.copy for it in question.files.values() if it.copy}
+    copies = {draft.original.path: draft.copy for draft in question.files.values() if draft.copy}
     words = []
-    for it in line.words:
-        name, equals, value = it.text.partition("=")
-        words.append(copies.get(it.text) or (f"{name}={copies[value]}" if equals and value in copies else it.text))
+    for word in line.words:
+        name, equals, value = word.text.partition("=")
+        words.append(
+            copies.get(word.text) or (f"{name}={copies[value]}" if equals and value in copies else word.text)
+        )
     quiet = subprocess.DEVNULL
     return subprocess.run([program(line.program), *words], stdin=quiet, stdout=quiet, stderr=quiet).returncode
 
 
 def _of_files(question: Question) -> list[Finding]:
     """Beside words that are no command: files that aren't there, and the faults of inputs where all are given."""
-    findings = [file_finding(it.original.path, kind, "") for kind, it in question.files.items()]
-    found_ones = [replace(it, said="read failed") for it in findings if it]
+    findings = [file_finding(draft.original.path, kind, "") for kind, draft in question.files.items()]
+    found_ones = [replace(finding, said="read failed") for finding in findings if finding]
     kinds = {"settings", "demand", "costs", "capacity"}
     if found_ones or not kinds <= set(question.files):
         return found_ones
-    files = {kind: it for kind, it in question.files.items() if kind in kinds | {"values"}}
-    return diagnosed(Question(question.desk, "plan", files)).findings
+    files = {kind: draft for kind, draft in question.files.items() if kind in kinds | {"values"}}
+    return diagnosed(Question(question.programs, "plan", files)).findings

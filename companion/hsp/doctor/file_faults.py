@@ -78,12 +78,12 @@ def _absent(path: str, kind: str) -> Words:
         )
     if not os.path.isdir(folder):
         return Words("no such file", f"mend the path: there is no folder {folder}", f"{folder} isn't there")
-    names = sorted(it for it in os.listdir(folder) if not it.startswith("."))
+    names = sorted(name for name in os.listdir(folder) if not name.startswith("."))
     own = os.path.basename(path)
     near = difflib.get_close_matches(own, names, 1, 0.6)
     stem = os.path.splitext(own)[0]
     if near and not difflib.get_close_matches(stem, [os.path.splitext(near[0])[0]], 1, 0.6):
-        near = [it for it in (CONVENTIONS.get(kind, ""),) if it in names]
+        near = [name for name in (CONVENTIONS.get(kind, ""),) if name in names]
     if near:
         return Words(
             "no such file",

@@ -110,10 +110,10 @@ class Text:
     def match(self, pattern: str, first: int = 1, last: int = 0) -> Place | None:
         """The first match of a pattern from one line to another; of its first group, if it has one."""
         for number in range(first, (last or len(self.lines)) + 1):
-            it = re.search(pattern, self.line(number))
-            if it:
-                group = 1 if it.re.groups else 0
-                return self.part(number, it.start(group), it.end(group) - it.start(group))
+            match = re.search(pattern, self.line(number))
+            if match:
+                group = 1 if match.re.groups else 0
+                return self.part(number, match.start(group), match.end(group) - match.start(group))
         return None
 
 

@@ -34,8 +34,8 @@ def _work(work: Callable[[Show], Any], descriptor: int) -> None:
     """Does the work, and passes each finding on as soon as it is there, then what comes out or a fault."""
     with open(descriptor, "wb") as pipe:
 
-        def show(it: Finding) -> None:
-            pickle.dump(it, pipe)
+        def show(finding: Finding) -> None:
+            pickle.dump(finding, pipe)
             pipe.flush()
 
         try:
@@ -51,8 +51,8 @@ def _child(work: Callable[[Show], Any], descriptor: int) -> None:
     try:
         os.setpgid(0, 0)
         signal.alarm(int(2 * SECONDS))
-        for it in (signal.SIGINT, signal.SIGTERM, signal.SIGHUP):
-            signal.signal(it, signal.SIG_DFL)
+        for number in (signal.SIGINT, signal.SIGTERM, signal.SIGHUP):
+            signal.signal(number, signal.SIG_DFL)
         os.dup2(os.open(os.devnull, os.O_RDWR), 2)
         _work(work, descriptor)
         status = 0
@@ -103,11 +103,11 @@ def _unpacked(octets: bytes) -> Work:
     result, file = Work(), io.BytesIO(octets)
     with contextlib.suppress(EOFError, pickle.UnpicklingError):
         while result.is_ended:
-            it = pickle.load(file)
-            if isinstance(it, Finding):
-                result.findings.append(it)
+            item = pickle.load(file)
+            if isinstance(item, Finding):
+                result.findings.append(item)
             else:
-                result.is_ended, result.end = False, it[0]
+                result.is_ended, result.end = False, item[0]
     if isinstance(result.end, OSError):
         raise result.end
     return result

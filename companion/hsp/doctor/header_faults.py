@@ -30,7 +30,7 @@ def headers_of(question: Question, kind: str) -> list[str]:
     """The headers that a file may have."""
     if kind != "log":
         return [HEADERS[kind]]
-    if question.command == "dispatch" and any(it.startswith("--fronts") for it in question.options):
+    if question.command == "dispatch" and any(option.startswith("--fronts") for option in question.options):
         return list(LOG_HEADERS["fronts"])
     return list(LOG_HEADERS.get(question.command, LOG_HEADERS["dispatch"][:1]))
 
@@ -62,11 +62,11 @@ def _of_whole(text: Text, wanted: list[str]) -> Cause | None:
     first, want = text.line(1), wanted[0]
     for sign, name, way in ((";", "semicolons", "tr ';' ,"), ("\t", "tabs", r"tr '\t' ,"), ("|", "bars", "tr '|' ,")):
         if first.replace(sign, ",") == want:
-            plain = "\n".join(it.replace(sign, ",") for it in text.lines)
+            plain = "\n".join(line.replace(sign, ",") for line in text.lines)
             return Cause(f"{name} in place of commas", f"{way} < {shell_word(text.path)} > commas.csv", plain)
     bare = re.sub(r"\s*,\s*", ",", first.strip())
     if bare in wanted and first != bare:
-        plain = "\n".join(re.sub(r" *, *", ",", it.strip()) for it in text.lines)
+        plain = "\n".join(re.sub(r" *, *", ",", line.strip()) for line in text.lines)
         return Cause(
             "blanks beside the commas",
             f"sed 's/ *, */,/g; s/^ *//; s/ *$//' {shell_word(text.path)} > plain.csv",
@@ -78,7 +78,7 @@ def _of_whole(text: Text, wanted: list[str]) -> Cause | None:
 def _of_names(text: Text, wanted: list[str]) -> Cause | None:
     """The names of the columns in another case or order, or of another file."""
     first, want = text.line(1), wanted[0]
-    names = [it.strip().strip('"') for it in first.split(",")]
+    names = [name.strip().strip('"') for name in first.split(",")]
     mended = "\n".join([want, *text.lines[1:]])
     if first == LOG_HEADERS["kinds"][0] and want == HEADERS["demand"]:
         remedy = (
@@ -97,7 +97,7 @@ def _of_names(text: Text, wanted: list[str]) -> Cause | None:
         return Cause("these are settings", f"give the right file: its first line is {want}")
     if re.match(r"\s*(\[\[|name\s*=)", first):
         return Cause("this is a file of settings", f"give the right file: its first line is {want}")
-    if len(names) == len(want.split(",")) and all(it.replace("_", "").isalpha() for it in names):
+    if len(names) == len(want.split(",")) and all(name.replace("_", "").isalpha() for name in names):
         remedy = f"write {want} in place of it, if these are its columns"
         return Cause("other names of columns", remedy, mended)
     if set(want.split(",")) < set(names):
@@ -134,7 +134,7 @@ def cause_of(text: Text, wanted: list[str]) -> Cause:
     plain = "\n".join(text.lines)
     if not plain.strip():
         return Cause("the file is empty", f"write {want}, and a row for each entry below it", want + "\n")
-    at = next((it for it, line in enumerate(text.lines) if line.strip()), 0)
+    at = next((place for place, line in enumerate(text.lines) if line.strip()), 0)
     if first.lstrip().startswith(("#", "//", "sep=")):
         return Cause(
             "a note above the header; tables have none", "take the line out", "\n".join(["", *text.lines[1:]])
@@ -144,8 +144,8 @@ def cause_of(text: Text, wanted: list[str]) -> Cause:
     found_one = _of_fronts(first, wanted) or _of_access(first) or _of_whole(text, wanted) or _of_names(text, wanted)
     if found_one:
         return found_one
-    names = [it.strip() for it in first.split(",")]
-    lacking = [it for it in want.split(",") if it not in names]
+    names = [name.strip() for name in first.split(",")]
+    lacking = [name for name in want.split(",") if name not in names]
     if len(names) > 1 and lacking and set(names) < set(want.split(",")):
         return Cause("a column is missing", f"add the column {listed(lacking)} to the first line, and to each row")
     meant = near(first, wanted, 0.65)
@@ -163,8 +163,8 @@ def cause_of(text: Text, wanted: list[str]) -> Cause:
 def _of_pipes(question: Question, kind: str) -> Cause | None:
     """A pipe that stands for two files, and was read to its end for the first."""
     draft = question.files[kind]
-    others = [it for it in ORDER if it in question.files and it != kind]
-    same = next((it for it in others if question.files[it].original.path == draft.original.path), "")
+    others = [other for other in ORDER if other in question.files and other != kind]
+    same = next((other for other in others if question.files[other].original.path == draft.original.path), "")
     if not same or not draft.copy or draft.original.octets:
         return None
     return Cause(f"a pipe is read once, and --{same} has it too", f"give a file behind --{same} or --{kind}")

@@ -47,7 +47,7 @@ def _is_own(question: Question, kind: str) -> bool:
 
 def answering(question: Question, mark: Mark) -> str:
     """The command that answers the log of the words."""
-    paths = {kind: it.original.path for kind, it in question.files.items()}
+    paths = {kind: draft.original.path for kind, draft in question.files.items()}
     inputs = Inputs(paths["settings"], paths["demand"], paths["costs"], paths["capacity"], paths.get("values"))
     beside = kept_beside(paths["plan"], inputs)
     for kind in ("settings", "capacity") if mark.unit > 1 else ():
@@ -90,23 +90,23 @@ class Absent:
     rows: list[Row]
 
     def asked(self) -> list[Asked]:
-        return [Asked(it.fields[self.at - 1], it.fields[self.at], 1) for it in self.rows]
+        return [Asked(row.fields[self.at - 1], row.fields[self.at], 1) for row in self.rows]
 
 
 def absent_in(log: Table, at: int, pairs: set[tuple[str, str]]) -> Absent:
     """The rows whose region the demand has."""
     regions = {region for region, _ in pairs}
-    rows = [it for it in log.rows if len(it.fields) > at and it.fields[at - 1] in regions]
-    return Absent(log, at, [it for it in rows if (it.fields[at - 1], it.fields[at]) not in pairs])
+    rows = [row for row in log.rows if len(row.fields) > at and row.fields[at - 1] in regions]
+    return Absent(log, at, [row for row in rows if (row.fields[at - 1], row.fields[at]) not in pairs])
 
 
 def _by_kind(question: Question, service: Service, absent: Absent) -> int:
     """How many of the rows are of a kind that the demand has."""
     asked = absent.asked()
-    places = question.desk.places(service.inputs, dict.fromkeys(it.handle for it in asked))
+    places = question.programs.places(service.inputs, dict.fromkeys(row.handle for row in asked))
     of_log = replace(service, places=places)
-    known = {(it.region, service.kind(it)) for it in service.rows}
-    return sum((it.region, of_log.kind(it)) in known for it in asked)
+    known = {(row.region, service.kind(row)) for row in service.rows}
+    return sum((row.region, of_log.kind(row)) in known for row in asked)
 
 
 def of_absent(question: Question, service: Service | None, absent: Absent) -> Iterator[Finding]:

@@ -9,7 +9,7 @@ from collections.abc import Iterator
 
 from hsp.base.numbers import listed, some
 from hsp.base.paths import shell_word
-from hsp.base.programs import Desk
+from hsp.base.programs import Programs
 from hsp.base.text import bold
 from hsp.base.unfit import Unfit
 from hsp.doctor.doubts import stale_plan
@@ -23,22 +23,22 @@ def step(command: str, why: str) -> str:
     return f"next  {bold(command)}  {why}"
 
 
-def next_lines(folder: str, desk: Desk) -> Iterator[str]:
+def next_lines(folder: str, programs: Programs) -> Iterator[str]:
     """What stands in the folder, and the command that comes next there."""
     at = _behind(folder)
-    there = [it for it in NAMES.values() if os.path.exists(os.path.join(folder, it))]
+    there = [name for name in NAMES.values() if os.path.exists(os.path.join(folder, name))]
     if not there:
         yield f"no service here: a folder of one has {listed(NAMES.values())}"
         yield step("hsp new DIR", "makes such a folder")
         return
-    found = examined(folder, desk, {})
+    found = examined(folder, programs, {})
     if found.errors:
         yield f"{some(len(found.errors), 'fault')} in the files here"
         yield step(f"hsp doctor{at}", "shows each with its place and its remedy")
         return
     if found.service:
         yield head(found.service)
-        yield next_step(found.service, desk)
+        yield next_step(found.service, programs)
     if found.warnings:
         yield f"also  {bold(f'hsp doctor{at}')}  shows {some(len(found.warnings), 'warning')}"
 
@@ -61,7 +61,7 @@ def networks_in(folder: str) -> list[str]:
 def costs_first(service: Service) -> str:
     """What the costs lack before a demand is counted: many handles are joined by them. Nothing where all is there."""
     paying = {region for region, _ in service.costs}
-    lacking = [it for it in networks_in(service.folder) if it not in paying]
+    lacking = [asked for asked in networks_in(service.folder) if asked not in paying]
     if paying and not lacking:
         return ""
     which = f" of {listed(lacking, 6)}" if lacking else ""
@@ -69,7 +69,7 @@ def costs_first(service: Service) -> str:
     return f"has no cost{which} yet: write rows as {example}; hsp demand joins many handles by them"
 
 
-def next_step(service: Service, desk: Desk) -> str:
+def next_step(service: Service, programs: Programs) -> str:
     """The step for a folder without a fault: whether there is a plan, and whether it is one of these inputs."""
     at = _behind(service.folder)
     if not service.sites:
@@ -90,7 +90,7 @@ def next_step(service: Service, desk: Desk) -> str:
     path = os.path.join(service.folder, "plan.txt")
     if not os.path.isfile(path):
         return step(f"hsp plan{at}", "plans, and keeps the plan in plan.txt")
-    newer = stale_plan(service, desk, path)
+    newer = stale_plan(service, programs, path)
     if newer is not None:
         why = (
             f"{listed(newer)} changed since plan.txt was written" if newer else "plan.txt isn't a plan of these files"

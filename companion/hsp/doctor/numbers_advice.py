@@ -72,7 +72,7 @@ def _of_signs(bare: str) -> Advice | None:
 
 def advice(text: str, name: str) -> Advice:
     """What to do about the number of a column."""
-    bare = "".join(it for it in text if it.isprintable() and it not in "\u200b\ufeff").strip(" \t\u00a0")
+    bare = "".join(sign for sign in text if sign.isprintable() and sign not in "\u200b\ufeff").strip(" \t\u00a0")
     if re.fullmatch(r"0|[1-9][0-9]*", bare) and bare != text:
         return Advice("a blank, or a sign that isn't seen, beside the digits", f"write {bare}, without it", bare)
     if re.fullmatch(r"0|[1-9][0-9]*", bare):

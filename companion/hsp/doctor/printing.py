@@ -22,38 +22,38 @@ def _window(text: str, column: int) -> tuple[str, int]:
     return before + text[start : start + WIDE - 6] + after, column - start + len(before)
 
 
-def _place(it: Finding, colour: str) -> Iterator[str]:
-    gutter = " " * len(str(it.line or ""))
-    if it.file:
-        yield f"{gutter}{dim('-->')} {visible(it.file)}" + (f":{it.line}" if it.line else "") + (
-            f":{it.column}" if it.line and it.column else ""
+def _place(finding: Finding, colour: str) -> Iterator[str]:
+    gutter = " " * len(str(finding.line or ""))
+    if finding.file:
+        yield f"{gutter}{dim('-->')} {visible(finding.file)}" + (f":{finding.line}" if finding.line else "") + (
+            f":{finding.column}" if finding.line and finding.column else ""
         )
-    if not it.line or not it.text.strip() and not it.column:
+    if not finding.line or not finding.text.strip() and not finding.column:
         return
-    text, column = _window(it.text, it.column)
+    text, column = _window(finding.text, finding.column)
     text = visible(text)
-    number = str(it.line) if it.file else " " * len(gutter)
+    number = str(finding.line) if finding.file else " " * len(gutter)
     yield f"{number} {dim('|')} {text}".rstrip()
-    if it.column:
-        carets = "^" * max(1, min(it.end - it.column, 60, len(text) - column + 1))
-        yield f"{gutter} {dim('|')} {' ' * (column - 1)}{colored(carets, colour)} {visible(it.mark)}".rstrip()
+    if finding.column:
+        carets = "^" * max(1, min(finding.end - finding.column, 60, len(text) - column + 1))
+        yield f"{gutter} {dim('|')} {' ' * (column - 1)}{colored(carets, colour)} {visible(finding.mark)}".rstrip()
 
 
-def _lines_of(it: Finding, others: list[Finding]) -> Iterator[str]:
-    colour = "red" if it.severity == ERROR else "yellow"
-    yield colored(it.severity, colour) + bold(f": {visible(it.message)}")
-    yield from _place(it, colour)
-    if it.why:
-        yield f"  {dim('why')}  {visible(it.why)}"
-    yield f"  {dim('do')}   {visible(it.remedy)}"
-    yield from _others(it, others)
-    if it.said:
-        yield dim(f"  hsplan says {it.said}")
+def _lines_of(finding: Finding, others: list[Finding]) -> Iterator[str]:
+    colour = "red" if finding.severity == ERROR else "yellow"
+    yield colored(finding.severity, colour) + bold(f": {visible(finding.message)}")
+    yield from _place(finding, colour)
+    if finding.why:
+        yield f"  {dim('why')}  {visible(finding.why)}"
+    yield f"  {dim('do')}   {visible(finding.remedy)}"
+    yield from _others(finding, others)
+    if finding.said:
+        yield dim(f"  hsplan says {finding.said}")
 
 
-def _others(it: Finding, others: list[Finding]) -> Iterator[str]:
+def _others(finding: Finding, others: list[Finding]) -> Iterator[str]:
     """How many more there are of a kind, and in which lines; or what each is, where they have no line of their own."""
-    numbers = list(dict.fromkeys(str(other.line) for other in others if other.line not in (0, it.line)))
+    numbers = list(dict.fromkeys(str(other.line) for other in others if other.line not in (0, finding.line)))
     if others and not numbers:
         for other in others[:8]:
             yield f"  {dim('and')}  {visible(other.message)}"
@@ -67,8 +67,8 @@ def _others(it: Finding, others: list[Finding]) -> Iterator[str]:
 def grouped(findings: Iterable[Finding]) -> list[list[Finding]]:
     """The findings of one kind in one file together, in the order of the first of each."""
     groups: dict[tuple[str, str, str], list[Finding]] = {}
-    for it in findings:
-        groups.setdefault((it.severity, it.file, it.kind), []).append(it)
+    for finding in findings:
+        groups.setdefault((finding.severity, finding.file, finding.kind), []).append(finding)
     return list(groups.values())
 
 
@@ -83,17 +83,17 @@ def json_of(findings: Iterable[Finding]) -> str:
     """All findings, one object each."""
     objects = [
         {
-            "severity": it.severity,
-            "file": visible(it.file),
-            "line": it.line,
-            "column": it.column,
-            "end": it.end,
-            "message": visible(it.message),
-            "why": visible(it.why),
-            "remedy": visible(it.remedy),
-            "hsplan": visible(it.said),
-            "accept": visible(it.name) if it.severity == WARNING else "",
+            "severity": finding.severity,
+            "file": visible(finding.file),
+            "line": finding.line,
+            "column": finding.column,
+            "end": finding.end,
+            "message": visible(finding.message),
+            "why": visible(finding.why),
+            "remedy": visible(finding.remedy),
+            "hsplan": visible(finding.said),
+            "accept": visible(finding.name) if finding.severity == WARNING else "",
         }
-        for it in findings
+        for finding in findings
     ]
     return json.dumps(objects, indent=2, ensure_ascii=False) + "\n"

@@ -11,7 +11,7 @@ from collections.abc import Callable
 from dataclasses import dataclass, field, replace
 
 from hsp.base.grammar import HEADERS
-from hsp.base.programs import Desk, program
+from hsp.base.programs import Programs, program
 from hsp.base.text import is_utf8
 from hsp.doctor.findings import Finding, Text, encoded, read_text
 
@@ -80,28 +80,30 @@ class Diagnosis:
     is_cut_short: bool = False
     show: Show = unheard
 
-    def add(self, it: Finding) -> None:
-        self.findings.append(it)
-        self.show(it)
+    def add(self, finding: Finding) -> None:
+        self.findings.append(finding)
+        self.show(finding)
 
 
 def said_of(status: int, line: str) -> Said:
     """The parts of a line as `demand: BadHandle row 36 NoSlash`."""
-    it = re.fullmatch(r"(?:(\w+): )?(read failed|write failed|\w+)(.*)", line)
-    if not it:
+    match = re.fullmatch(r"(?:(\w+): )?(read failed|write failed|\w+)(.*)", line)
+    if not match:
         return Said(status, line)
-    rest = it[3]
+    rest = match[3]
     numbers = {name: int(value) for name, value in re.findall(r"([a-z_]+) (\d+)", rest)}
     table = re.search(r"table (\w+)", rest)
     detail = re.search(r"\b([A-Z]\w+)", rest)
-    return Said(status, line, it[1] or "", it[2], detail[1] if detail else "", table[1] if table else "", numbers)
+    return Said(
+        status, line, match[1] or "", match[2], detail[1] if detail else "", table[1] if table else "", numbers
+    )
 
 
 @dataclass(frozen=True)
 class Question:
     """A program, its command, its files, and its other words. `left_out` are rows that copies no longer have."""
 
-    desk: Desk
+    programs: Programs
     command: str
     files: dict[str, Draft]
     options: tuple[str, ...] = ()
@@ -127,7 +129,7 @@ class Question:
         draft = self.files[kind]
         if draft.lines is None:
             return draft.copy or draft.original.path
-        return self.desk.put(draft.text.octets)
+        return self.programs.put(draft.text.octets)
 
     def text(self, kind: str) -> Text:
         return self.files[kind].text
@@ -145,12 +147,14 @@ class Question:
 
     def without_row(self, kind: str, line: int, last: int, fields: list[str]) -> Question:
         """The same without a row. Later lines keep their numbers, since hsplan passes over an empty line."""
-        it = self.with_line(kind, line, "", last)
-        return replace(it, left_out=(*self.left_out, (kind, tuple(fields))))
+        question = self.with_line(kind, line, "", last)
+        return replace(question, left_out=(*self.left_out, (kind, tuple(fields))))
 
     def size(self) -> int:
         """How many lines with a text the files have."""
-        return sum(bool(line.strip()) for it in self.files.values() for line in it.lines or it.original.lines)
+        return sum(
+            bool(line.strip()) for draft in self.files.values() for line in draft.lines or draft.original.lines
+        )
 
     def ask(self) -> Said:
         """What hsplan says. Its answer is the status only, since answers to a log may be long."""
@@ -170,12 +174,12 @@ class Question:
         return said_of(done.returncode, line.removeprefix(f"{self.program}: "))
 
 
-def draft_of(desk: Desk, path: str) -> Draft:
+def draft_of(programs: Programs, path: str) -> Draft:
     """A file as it is read. A pipe can be read once, and hsplan takes no name that isn't UTF-8: these are copied."""
     try:
         if path != "/dev/null" and (is_pipe(path) or not is_utf8(path) and os.path.isfile(path)):
             text = read_text(path)
-            return Draft(text, copy=desk.put(text.octets))
+            return Draft(text, copy=programs.put(text.octets))
         return Draft(read_text(path))
     except (OSError, ValueError):
         return Draft(Text(path, b""))

@@ -9,7 +9,7 @@ from collections.abc import Iterator
 from hsp.base.grammar import MOST_SERVERS
 from hsp.base.numbers import some
 from hsp.base.paths import shell_word
-from hsp.base.programs import Desk, run
+from hsp.base.programs import Programs, run
 from hsp.doctor.findings import Place, Words, found, quoted
 from hsp.doctor.question import Question, Said
 from hsp.doctor.settings_faults import mends, place_in, with_value, without_block
@@ -21,30 +21,30 @@ from hsp.doctor.toml_places import listed_in
 LEAST_SERVER = 28
 
 
-def is_record(desk: Desk, octets: bytes) -> bool:
-    return run("hsplan", "site", desk.put(octets, ".site")).status == 0
+def is_record(programs: Programs, octets: bytes) -> bool:
+    return run("hsplan", "site", programs.put(octets, ".site")).status == 0
 
 
-def servers_in(desk: Desk, octets: bytes) -> int:
+def servers_in(programs: Programs, octets: bytes) -> int:
     """How many servers hsplan finds in a record; 0 where it is none."""
-    printed = run("hsplan", "site", desk.put(octets, ".site"))
+    printed = run("hsplan", "site", programs.put(octets, ".site"))
     advised = re.search(r"^servers (\d+)", printed.out, re.M)
     return int(advised[1]) if advised and not printed.status else 0
 
 
-def with_number(desk: Desk, octets: bytes, at: int) -> tuple[int, int, bytes] | None:
+def with_number(programs: Programs, octets: bytes, at: int) -> tuple[int, int, bytes] | None:
     """The record with another number of servers, if hsplan reads it then: the number, the right one, and the octets.
 
     Octets after a record may be servers that its number leaves out. A record that ends where a server would begin may
     count too many.
     """
-    before = servers_in(desk, octets[:at]) if at < len(octets) else 0
+    before = servers_in(programs, octets[:at]) if at < len(octets) else 0
     if 0 < len(octets) - at < LEAST_SERVER or at < len(octets) and not before:
         return None
     for old, position in _numbers_in(octets, before):
         for new in range(old + 1, old + 9) if before else range(old - 1, max(0, old - 9), -1):
             changed = octets[:position] + new.to_bytes(4, "big") + octets[position + 4 :]
-            if servers_in(desk, changed) == new:
+            if servers_in(programs, changed) == new:
                 return old, new, changed
     return None
 
@@ -61,7 +61,7 @@ def _numbers_in(octets: bytes, wanted: int) -> Iterator[tuple[int, int]]:
             return
 
 
-def octets_words(octets: bytes, path: str, desk: Desk) -> Words | None:
+def octets_words(octets: bytes, path: str, programs: Programs) -> Words | None:
     """What octets are that aren't a record."""
     stripped = octets.strip()
     if not stripped:
@@ -84,7 +84,7 @@ def octets_words(octets: bytes, path: str, desk: Desk) -> Words | None:
         return Words("", f"base64 -d {shell_word(path or 'FILE')} > octets.site", "base64 in place of octets")
     if stripped.isascii() and re.fullmatch(rb"[\x20-\x7e\r\n\t]+", stripped):
         return Words("", "give the octets of the record, as siteinfo.bin has them", "a text in place of octets")
-    values = run("hsplan", "site", "--index=1", desk.put(octets, ".values"))
+    values = run("hsplan", "site", "--index=1", programs.put(octets, ".values"))
     if not values.status or "Value" in values.line:
         return Words(
             "",
@@ -94,10 +94,10 @@ def octets_words(octets: bytes, path: str, desk: Desk) -> Words | None:
     return None
 
 
-def record_words(octets: bytes, said: Said, path: str, desk: Desk) -> tuple[Words, bytes]:
+def record_words(octets: bytes, said: Said, path: str, programs: Programs) -> tuple[Words, bytes]:
     """Why octets are no record, what to do, and octets that are one."""
     at = said.numbers.get("at", len(octets))
-    advised = octets_words(octets, path, desk)
+    advised = octets_words(octets, path, programs)
     if advised:
         return advised, b""
     if said.detail == "TooManyServers" or said.word == "TooManyServers":
@@ -109,7 +109,7 @@ def record_words(octets: bytes, said: Said, path: str, desk: Desk) -> tuple[Word
             ),
             b"",
         )
-    counted = with_number(desk, octets, at)
+    counted = with_number(programs, octets, at)
     if counted:
         old, new, changed = counted
         verb = "raise" if new > old else "lower"
@@ -139,7 +139,7 @@ def bad_record(question: Question, said: Said) -> Explained:
     if not isinstance(record, str):
         return _bad_value(question, said, number, str(name))
     octets = bytes.fromhex(record)
-    advised, octets_then = record_words(octets, said, "", question.desk)
+    advised, octets_then = record_words(octets, said, "", question.programs)
     start = place.text.find(record)
     if start >= 0 and "at" in said.numbers:
         column = min(start + 2 * said.numbers["at"], max(start, start + len(record) - 2))
@@ -211,7 +211,7 @@ def _indices(question: Question) -> str:
         return ""
     path = question.path("values")
     usual = [*range(1, 33), 100, 101, 200, 300, 301]
-    good = [str(it) for it in usual if not run("hsplan", "site", f"--index={it}", path).status]
+    good = [str(index) for index in usual if not run("hsplan", "site", f"--index={index}", path).status]
     return " or ".join(good[:4])
 
 
@@ -254,9 +254,9 @@ def bad_file(question: Question, said: Said, kind: str) -> Explained:
     """A file that is no record, or no value list."""
     draft = question.files[kind]
     octets = draft.original.octets
-    if kind == "values" or any(it.startswith("--index") for it in question.options):
+    if kind == "values" or any(option.startswith("--index") for option in question.options):
         return _bad_list(question, said, kind)
-    advised, _ = record_words(octets, said, draft.original.path, question.desk)
+    advised, _ = record_words(octets, said, draft.original.path, question.programs)
     place = Place()
     words = Words(
         f"{quoted(os.path.basename(draft.original.path))} isn't the record of a site", advised.remedy, advised.why
@@ -271,7 +271,7 @@ def _bad_list(question: Question, said: Said, kind: str) -> Explained:
         "give the value list, octet for octet",
         f"it can't be read from octet {said.numbers.get('at', 0):,} on",
     )
-    if is_record(question.desk, octets):
+    if is_record(question.programs, octets):
         remedy, why = (
             "write its digits as record in the settings; or give the value list",
             "this is one site's record",
@@ -298,8 +298,8 @@ def value_of_list(question: Question, said: Said) -> Explained:
     """`hsplan site --index`: the list has no value there, or another one."""
     draft = question.files["file"]
     path = draft.original.path
-    index = next((it.partition("=")[2] for it in question.options if it.startswith("--index")), "")
-    good = [str(it) for it in range(1, 33) if not run("hsplan", "site", f"--index={it}", path).status]
+    index = next((option.partition("=")[2] for option in question.options if option.startswith("--index")), "")
+    good = [str(number) for number in range(1, 33) if not run("hsplan", "site", f"--index={number}", path).status]
     why = "no value has this index" if said.word == "NoValue" else "the value with this index is no HS_SITE"
     remedy = f"write --index {good[0]}" if good else "look up the index of the site's value"
     return Explained(found(path, Place(), Words(f"no site at index {index}", remedy, why), said.line), [])

@@ -50,16 +50,16 @@ class Table:
 
     def at_line(self, line: int) -> Row | None:
         """The row that begins in a line."""
-        return next((it for it in self.rows if it.first == line), None)
+        return next((row for row in self.rows if row.first == line), None)
 
     def number(self, line: int) -> int:
         """How many rows stand before a line."""
-        return sum(it.first < line for it in self.rows)
+        return sum(row.first < line for row in self.rows)
 
     def column(self, name: str) -> list[str]:
         """The fields of one column, of rows that have it."""
         at = self.header.index(name) if name in self.header else -1
-        return [it.fields[at] for it in self.rows if 0 <= at < len(it.fields)]
+        return [row.fields[at] for row in self.rows if 0 <= at < len(row.fields)]
 
 
 @functools.lru_cache(maxsize=12)

@@ -33,7 +33,7 @@ def number_then(question: Question, kind: str, number: int) -> int:
     """The number that a block of the mended copy has in the settings as they were."""
     draft = question.files["settings"]
     own = blocks(draft.text, kind)
-    firsts = [it.first for it in blocks(draft.original, kind)]
+    firsts = [block.first for block in blocks(draft.original, kind)]
     line = draft.number(own[number].first) if number < len(own) else 0
     return firsts.index(line) if line in firsts else number
 
@@ -45,7 +45,10 @@ def with_value(question: Question, kind: str, number: int, key: str, value: str)
     line = place.text[: place.column - 1] + value + place.text[place.end - 1 :]
     fence = place.text[place.column - 1 :][:3]
     if fence in ('"' * 3, "'" * 3) and fence not in place.text[place.column + 2 :]:
-        last = next((it for it in range(place.line + 1, len(text.lines) + 1) if fence in text.line(it)), place.line)
+        last = next(
+            (last_line for last_line in range(place.line + 1, len(text.lines) + 1) if fence in text.line(last_line)),
+            place.line,
+        )
         return question.with_line("settings", place.line, place.text[: place.column - 1] + value, last)
     return question.with_line("settings", place.line, line)
 
@@ -76,12 +79,12 @@ def without_rows(question: Question, kind: str, column: str, name: str) -> Quest
         if at < len(row.fields) and row.fields[at] == name:
             lines[row.first - 1 : row.last] = [""] * (row.last - row.first + 1)
             left_out += ((kind, tuple(row.fields)),)
-    it = question.with_file(kind, question.files[kind].with_text("\n".join(lines)))
-    return replace(it, left_out=left_out)
+    mended = question.with_file(kind, question.files[kind].with_text("\n".join(lines)))
+    return replace(mended, left_out=left_out)
 
 
 def mends(*questions: Question | None) -> Iterator[Question]:
-    return (it for it in questions if it)
+    return (question for question in questions if question)
 
 
 def unknown_key(question: Question, said: Said) -> Explained:
@@ -89,11 +92,11 @@ def unknown_key(question: Question, said: Said) -> Explained:
     text = question.text("settings")
     data = data_of(text) or {}
     parts: list[tuple[str, int, dict[str, Any]]] = [("", 0, data)]
-    parts += [(kind, at, it) for kind in KEYS for at, it in enumerate(listed_in(text, kind))]
-    for kind, at, it in parts:
+    parts += [(kind, at, table) for kind in KEYS for at, table in enumerate(listed_in(text, kind))]
+    for kind, at, table in parts:
         allowed = KEYS.get(kind, list(KEYS))
-        key = next((key for key in it if key not in allowed), "")
-        if key or "" in it:
+        key = next((key for key in table if key not in allowed), "")
+        if key or "" in table:
             return _unknown(question, said, (kind, at), key)
     words = Words("a key means nothing where it stands", "keep only name, record, index, address and limit")
     place = question.files["settings"].original.whole(1)
@@ -228,14 +231,14 @@ def _one_table(question: Question, said: Said, kind: str) -> Explained:
 
 def _bad_site_name(question: Question, said: Said, number: int, name: object) -> Explained:
     text = question.text("settings")
-    taken = {it.get("name") for it in listed_in(text, "site")}
+    taken = {site.get("name") for site in listed_in(text, "site")}
     used = [
-        it
+        site
         for kind in ("costs", "capacity")
         if kind in question.files
-        for it in table_of(question.text(kind)).column("site")
+        for site in table_of(question.text(kind)).column("site")
     ]
-    free = [it for it in dict.fromkeys(used) if it not in taken and slug(it) == it and it]
+    free = [other for other in dict.fromkeys(used) if other not in taken and slug(other) == other and other]
     plain = slug(name) if isinstance(name, str) else ""
     meant = near(plain, free) if plain else (free[0] if len(free) == 1 else "")
     as_used = f'write name = "{meant}", as the tables have it' if meant else ""
@@ -254,7 +257,7 @@ def _bad_site_name(question: Question, said: Said, number: int, name: object) ->
     own = blocks(text, "site")
     ways: list[Question | None] = []
     if name is not None:
-        ways = [with_value(question, "site", number, "name", f'"{it}"') for it in (meant, plain) if it]
+        ways = [with_value(question, "site", number, "name", f'"{value}"') for value in (meant, plain) if value]
     elif meant and number < len(own):
         ways = [question.with_line("settings", own[number].first, f'[[site]]\nname = "{meant}"')]
     ways += [without_block(question, "site", number), question.with_stand_in("settings")]
@@ -267,14 +270,14 @@ def site_twice(question: Question, said: Said) -> Explained:
     text = question.text("settings")
     sites = listed_in(text, "site")
     name = str(sites[number].get("name")) if number < len(sites) else ""
-    first = next((at for at, it in enumerate(sites[:number]) if it.get("name") == name), 0)
+    first = next((at for at, other in enumerate(sites[:number]) if other.get("name") == name), 0)
     used = [
-        it
+        other
         for kind in ("costs", "capacity")
         if kind in question.files
-        for it in table_of(question.text(kind)).column("site")
+        for other in table_of(question.text(kind)).column("site")
     ]
-    free = [it for it in dict.fromkeys(used) if it not in {site.get("name") for site in sites} and it]
+    free = [other for other in dict.fromkeys(used) if other not in {site.get("name") for site in sites} and other]
     remedy = (
         f'write name = "{free[0]}", which the tables have and the settings lack'
         if free
@@ -282,7 +285,7 @@ def site_twice(question: Question, said: Said) -> Explained:
     )
     mark = f"first in line {place_in(question, 'site', first, 'name').line}"
     words = Words(f"a second site '{name}'", remedy, "a copied block", mark)
-    ways: list[Question | None] = [with_value(question, "site", number, "name", f'"{it}"') for it in free[:1]]
+    ways: list[Question | None] = [with_value(question, "site", number, "name", f'"{other}"') for other in free[:1]]
     own = blocks(text, "site")
     if number < len(own):
         ways.append(question.with_line("settings", own[number].first, "", own[number].last))
@@ -359,7 +362,7 @@ def host_twice(question: Question, said: Said) -> Explained:
     hosts = listed_in(text, "host")
     address = str(hosts[number].get("address", "")) if number < len(hosts) else ""
     first = next(
-        (at for at, it in enumerate(hosts[:number]) if str(it.get("address", "")).lower() == address.lower()), 0
+        (at for at, host in enumerate(hosts[:number]) if str(host.get("address", "")).lower() == address.lower()), 0
     )
     mark = f"first in line {place_in(question, 'host', first, 'address').line}"
     words = Words(

@@ -58,7 +58,7 @@ class Spot(NamedTuple):
         return self.question.with_line(self.kind, self.row.first, joined(fields), self.row.last)
 
     def with_field(self, at: int, text: str) -> Question:
-        return self.with_fields([text if it == at else old for it, old in enumerate(self.row.fields)])
+        return self.with_fields([text if number == at else old for number, old in enumerate(self.row.fields)])
 
     def without(self) -> Question:
         return self.question.without_row(self.kind, self.row.first, self.row.last, self.row.fields)
@@ -89,11 +89,13 @@ def renumbered(question: Question, kind: str, said: Said) -> str:
 
 def bad_number(spot: Spot, said: str) -> Explained:
     fields = spot.row.fields
-    numeric = [at for at, it in enumerate(spot.header) if it in ("count", "cost", "capacity", "server_id", "front")]
+    numeric = [
+        at for at, column in enumerate(spot.header) if column in ("count", "cost", "capacity", "server_id", "front")
+    ]
     at = numeric[-1]
-    for it in numeric[:-1]:
-        if spot.with_field(it, "1").ask().line != said:
-            at = it
+    for place in numeric[:-1]:
+        if spot.with_field(place, "1").ask().line != said:
+            at = place
     name = spot.header[at] if at < len(spot.header) else "number"
     advised = advice(fields[at], name)
     words = Words(
@@ -110,7 +112,7 @@ def bad_number(spot: Spot, said: str) -> Explained:
             "digits stand in another column, so the columns may be in another order",
             kind=words.kind,
         )
-    if advised.why.startswith("a blank") and all(it.startswith(" ") for it in fields[1:]):
+    if advised.why.startswith("a blank") and all(other.startswith(" ") for other in fields[1:]):
         path = spot.question.files[spot.kind].original.path
         remedy = f"{advised.remedy}; in the whole table: sed 's/, */,/g' {shell_word(path)} > plain.csv"
         words = replace(words, remedy=remedy)
@@ -118,7 +120,7 @@ def bad_number(spot: Spot, said: str) -> Explained:
         remedy = "write the identifier of the server, as hsplan site prints it"
         remedy += "" if fields[at].strip() else "; or take the row out, if it is a sum"
         words = replace(words, remedy=remedy)
-    mended = [spot.with_field(at, it) for it in dict.fromkeys((advised.mended, "1"))]
+    mended = [spot.with_field(at, value) for value in dict.fromkeys((advised.mended, "1"))]
     mended = ([] if name == "server_id" else mended) + [spot.without()]
     return Explained(found(spot.path, spot.place(at), words, said), mended)
 
@@ -131,15 +133,18 @@ def slug(name: str) -> str:
 
 def bad_name(spot: Spot, said: str) -> Explained:
     fields = spot.row.fields
-    named = [at for at, it in enumerate(spot.header) if it in ("region", "site") and at < len(fields)]
-    at = next((it for it in named if not fields[it] or slug(fields[it]) != fields[it]), named[0] if named else 0)
+    named = [at for at, column in enumerate(spot.header) if column in ("region", "site") and at < len(fields)]
+    at = next(
+        (place for place in named if not fields[place] or slug(fields[place]) != fields[place]),
+        named[0] if named else 0,
+    )
     name, field = spot.header[at], fields[at]
     if not "".join(fields).strip():
         words = Words(
             "a row of commas only", "take the line out", "an empty row of a spreadsheet", kind="BadName empty"
         )
         return Explained(found(spot.path, spot.line(), words, said), [spot.without()])
-    known = [it for it in table_of(spot.question.text(spot.kind)).column(name) if it and slug(it) == it]
+    known = [site for site in table_of(spot.question.text(spot.kind)).column(name) if site and slug(site) == site]
     meant = near(field, set(known), 0.8) or slug(field) or ("eu" if name == "region" else "paris")
     why, remedy = NAME_RULE, f"write {meant}"
     if not field:
@@ -211,7 +216,7 @@ def bad_handle(spot: Spot, said: str, detail: str) -> Explained:
     words = handle_words(handle, detail or reason_of(spot, at), spot.question.files[spot.kind].original.path)
     if not handle and spot.row.fields[0].lower() in ("total", "sum", "all", ""):
         words = replace(words, why="a row of sums, as spreadsheets have them", remedy="take the line out")
-    slashed = [it for it, field in enumerate(spot.row.fields) if "/" in field and it != at]
+    slashed = [place for place, field in enumerate(spot.row.fields) if "/" in field and place != at]
     if "/" not in handle and slashed:
         order = ",".join(spot.header)
         why = f"{quoted(spot.row.fields[slashed[0]], 30)} looks like the handle"
@@ -225,10 +230,12 @@ def _number_with_commas(spot: Spot) -> tuple[Words, str] | None:
     fields, want = spot.row.fields, len(spot.header)
     more = fields[want - 1 :]
     kept = fields[: want - 1]
-    if spot.header[-1] not in ("count", "cost", "capacity") or not all(re.fullmatch(r" ?[0-9]+", it) for it in more):
+    if spot.header[-1] not in ("count", "cost", "capacity") or not all(
+        re.fullmatch(r" ?[0-9]+", part) for part in more
+    ):
         return None
-    bare = [it.strip() for it in more]
-    if all(len(it) == 3 for it in bare[1:]) and len(bare[0]) <= 3:
+    bare = [part.strip() for part in more]
+    if all(len(part) == 3 for part in bare[1:]) and len(bare[0]) <= 3:
         number = "".join(bare)
         why = "a separator of thousands in the number"
         return Words("", f"write {number}", why), joined([*kept, number])
@@ -247,7 +254,7 @@ def _too_many(spot: Spot) -> tuple[Words, str]:
     if not "".join(fields[want:]).strip():
         text = joined(fields[:want])
         return Words("", f"write {text}", "a comma at the end"), text
-    without = [it for it in fields if it.strip()]
+    without = [field for field in fields if field.strip()]
     if len(without) == want:
         text = joined(without)
         return Words("", f"write {text}", "a comma twice"), text
@@ -284,7 +291,7 @@ def _too_few(spot: Spot) -> tuple[Words, str]:
         text = whole.replace('"', "")
         return Words("", f"close the quote, or write {text[:60]}", "a quote that isn't closed"), text
     if len(whole.split()) == len(spot.header):
-        text = ",".join(it.strip(",;") for it in whole.split())
+        text = ",".join(word.strip(",;") for word in whole.split())
         return Words("", f"write {text[:60]}", "blanks in place of commas"), text
     if re.match(r"(<{7}|={7}|>{7})", whole):
         return Words("", "keep the lines of one side, and take the marks out", "a mark of a merge"), ""
@@ -310,22 +317,25 @@ def bad_fields(spot: Spot, said: str) -> Explained:
     first, _, second = text.partition("\n")
     mended = [spot.question.with_line(spot.kind, spot.row.first, first, spot.row.last)] if text else []
     if second:  # the copy has only the first of the two rows, so that later lines keep their numbers
-        mended = [replace(it, left_out=(*it.left_out, (spot.kind, tuple(second.split(","))))) for it in mended]
+        mended = [
+            replace(question, left_out=(*question.left_out, (spot.kind, tuple(second.split(",")))))
+            for question in mended
+        ]
     return Explained(found(spot.path, place, words, said), [*mended, spot.without()], True)
 
 
 def row_twice(spot: Spot, said: str) -> Explained:
     rows = table_of(spot.question.text(spot.kind)).rows
     fields = spot.row.fields
-    first = next((it for it in rows if it.fields[:2] == fields[:2] and it.first < spot.row.first), None)
-    key = " and ".join(quoted(it, 40) for it in fields[:2])
+    first = next((row for row in rows if row.fields[:2] == fields[:2] and row.first < spot.row.first), None)
+    key = " and ".join(quoted(field, 40) for field in fields[:2])
     line = spot.question.files[spot.kind].number(first.first) if first else 0
     mark = f"first in line {line}: {','.join(first.fields)[:60]}" if first else ""
     why, remedy = "two tables joined, or a copied line", "keep one of the two lines"
     if first and spot.kind == "demand":
         why = "a log that isn't added up, or two tables joined"
         total = sum(
-            int(it[2]) for it in (first.fields, fields) if len(it) > 2 and re.fullmatch(r"[0-9]{1,18}", it[2])
+            int(own[2]) for own in (first.fields, fields) if len(own) > 2 and re.fullmatch(r"[0-9]{1,18}", own[2])
         )
         remedy = f"write one row for both, with the sum {total}"
         if first.fields == fields:
@@ -368,13 +378,13 @@ def row_fault(question: Question, kind: str, said: Said) -> Explained | None:
     if quote:
         return quote
     if said.word == "BadNumber":
-        it = bad_number(spot, said.line)
-        return Explained(it.finding and _saying(it.finding, line), it.mended)
+        explained = bad_number(spot, said.line)
+        return Explained(explained.finding and _saying(explained.finding, line), explained.mended)
     if said.word == "BadHandle":
         return bad_handle(spot, line, said.detail)
     ways = {"BadName": bad_name, "Fields": bad_fields, "RowTwice": row_twice}
     return ways[said.word](spot, line) if said.word in ways else None
 
 
-def _saying(it: Finding, line: str) -> Finding:
-    return replace(it, said=line)
+def _saying(finding: Finding, line: str) -> Finding:
+    return replace(finding, said=line)

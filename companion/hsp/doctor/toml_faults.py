@@ -53,9 +53,9 @@ def _sign_slip(text: Text, number: int) -> Slip | None:
 def _head_slip(text: Text, number: int) -> Slip | None:
     """A head of a block that isn't one."""
     line = text.line(number)
-    it = re.match(r"\s*[\[({]+\s*(\w+)\s*[\])}]*\s*$", line)
-    if it:
-        kind = near(it[1], KEYS, 0.7) or "site"
+    match = re.match(r"\s*[\[({]+\s*(\w+)\s*[\])}]*\s*$", line)
+    if match:
+        kind = near(match[1], KEYS, 0.7) or "site"
         if line.strip() == f"[{kind}]":
             return Slip(
                 "one bracket makes one table; sites and hosts are lists",
@@ -86,28 +86,28 @@ def _open_quote(text: Text, number: int, place: Place, mended: str) -> Slip:
 def _value_slip(text: Text, number: int) -> Slip | None:
     """A key whose value isn't written as TOML has it."""
     line = text.line(number)
-    it = re.match(r"(\s*)([\w-]+)(\s*)([=:]|)(\s*)(.*)$", line)
-    if not it or it[2] not in KEYS["site"] + KEYS["host"] + ["Name", "Record", "title"]:
+    match = re.match(r"(\s*)([\w-]+)(\s*)([=:]|)(\s*)(.*)$", line)
+    if not match or match[2] not in KEYS["site"] + KEYS["host"] + ["Name", "Record", "title"]:
         return None
-    value = it[6].strip()
+    value = match[6].strip()
     inner = value.strip("\"'").strip()
-    number_like = re.fullmatch(r"[0-9_]+", value) and it[2] in ("limit", "index")
-    mended = f"{it[2]} = {value}" if number_like else f'{it[2]} = "{inner}"'
-    place = text.part(number, it.start(6), len(it[6])) if value else text.whole(number)
-    if it[2] == "record" and re.fullmatch(r"[\w./-]+\.[a-z]\w{1,5}", inner):
+    number_like = re.fullmatch(r"[0-9_]+", value) and match[2] in ("limit", "index")
+    mended = f"{match[2]} = {value}" if number_like else f'{match[2]} = "{inner}"'
+    place = text.part(number, match.start(6), len(match[6])) if value else text.whole(number)
+    if match[2] == "record" and re.fullmatch(r"[\w./-]+\.[a-z]\w{1,5}", inner):
         why = "a record is octets in hexadecimal digits, not the name of a file"
         return Slip(why, f"hsp sites {inner} prints the block", mended, place)
     if not value:
-        return Slip("a key without a value", f"write the value behind {it[2]} =", f'{it[2]} = ""', place)
+        return Slip("a key without a value", f"write the value behind {match[2]} =", f'{match[2]} = ""', place)
     if value.count('"') % 2 or value.count("'") % 2:
         return _open_quote(text, number, place, mended)
-    if it[4] != "=":
-        why = "a colon in place of '='" if it[4] else "no '=' between key and value"
-        return Slip(why, f"write {shorter(mended)}", mended, text.part(number, it.start(4), 1))
-    if it[2] in ("limit", "index") and re.search(r"[0-9]", value):
+    if match[4] != "=":
+        why = "a colon in place of '='" if match[4] else "no '=' between key and value"
+        return Slip(why, f"write {shorter(mended)}", mended, text.part(number, match.start(4), 1))
+    if match[2] in ("limit", "index") and re.search(r"[0-9]", value):
         digits = re.sub(r"[^0-9]", "", value.split(".")[0]).lstrip("0") or "0"
         why = "a whole number has only digits, and none is 0 in front"
-        return Slip(why, f"write {it[2]} = {digits}", f"{it[2]} = {digits}", place)
+        return Slip(why, f"write {match[2]} = {digits}", f"{match[2]} = {digits}", place)
     if not value.startswith(('"', "'")):
         return Slip("a text without quotes", f"write {shorter(mended)}", mended, place)
     if re.search(r"[\"'][,;]$", value):
@@ -172,7 +172,7 @@ def _candidates(text: Text) -> Iterator[tuple[int, str]]:
         for number, line in enumerate(text.lines, 1):
             if line.count('"') % 2:
                 yield number, str(fault)
-        yield int(place[1]) if place else len([it for it in text.lines if it.strip()]) or 1, str(fault)
+        yield int(place[1]) if place else len([own for own in text.lines if own.strip()]) or 1, str(fault)
     except RecursionError:
         yield 1, "too deep"
     else:
@@ -222,7 +222,7 @@ def _other_form(question: Question, said: Said) -> Explained | None:
 def _latin(text: Text, number: int) -> tuple[Slip, Words]:
     """A line with octets that aren't UTF-8."""
     line = text.line(number)
-    at = next((it for it, sign in enumerate(line) if "\udc80" <= sign <= "\udcff"), 0)
+    at = next((column for column, sign in enumerate(line) if "\udc80" <= sign <= "\udcff"), 0)
     mended = encoded(line).decode("cp1252", "replace")
     remedy = f"iconv -f windows-1252 -t utf-8 {text.path} > utf8.toml"
     slip = Slip("a letter of Latin-1 or Windows-1252", remedy, mended, text.part(number, at, 1))
@@ -240,16 +240,16 @@ def not_toml(question: Question, said: Said) -> Explained:
     if reason == "utf-8":
         slip, words = _latin(text, number)
     else:
-        number = _best(text, list(dict.fromkeys(it for it, _ in _candidates(text))))
+        number = _best(text, list(dict.fromkeys(line for line, _ in _candidates(text))))
         slip = slip_of(text, number, reason)
         words = Words(f"the settings aren't TOML: {slip.why}", slip.remedy, "", kind=f"NotToml {slip.why}")
     if draft.original.line(draft.number(number)) != text.line(number):
         blank = [question.with_line("settings", number, "")] if text.line(number).strip() else []
         return Explained(None, [*blank, question.with_stand_in("settings")])
-    ways = [it for it in dict.fromkeys((slip.line, "")) if it != text.line(number)]
+    ways = [text_then for text_then in dict.fromkeys((slip.line, "")) if text_then != text.line(number)]
     if slip.why == TWICE:
         question = replace(question, lacks_site=True)
-    mended = [question.with_line("settings", number, it, slip.last) for it in ways]
+    mended = [question.with_line("settings", number, way, slip.last) for way in ways]
     return Explained(found(text.path, slip.place, words, said.line), [*mended, question.with_stand_in("settings")])
 
 

@@ -30,7 +30,7 @@ def listed_in(text: Text, kind: str) -> list[dict[str, Any]]:
     """The sites or hosts of settings, as far as they are tables."""
     values = (data_of(text) or {}).get(kind, [])
     values = values if isinstance(values, list) else [values]
-    return [it if isinstance(it, dict) else {} for it in values]
+    return [value if isinstance(value, dict) else {} for value in values]
 
 
 def blocks(text: Text, kind: str) -> list[Block]:
@@ -63,7 +63,7 @@ def inline(text: Text, key: str) -> list[Place]:
     """The values of a key of tables that stand within lines."""
     pattern = re.compile(rf"\b{key}\b\s*=\s*(\"[^\"]*\"|'[^']*'|[^,}}\s]+)")
     return [
-        text.part(number, it.start(1), it.end(1) - it.start(1))
+        text.part(number, match.start(1), match.end(1) - match.start(1))
         for number, line in enumerate(text.lines, 1)
-        for it in pattern.finditer(line)
+        for match in pattern.finditer(line)
     ]

@@ -36,7 +36,7 @@ def of_handle(line: Line) -> Iterator[Finding]:
 
 def service_in(question: Question, mark: Mark) -> Service | None:
     """The service of the four files of a plan, with their numbers as they are. Pipes can't be read once more."""
-    files = {kind: it.original.path for kind, it in question.files.items() if not it.copy}
+    files = {kind: draft.original.path for kind, draft in question.files.items() if not draft.copy}
     if not set(NAMES) <= set(files):
         return None
     folder = os.path.dirname(files["settings"]) or "."
@@ -45,7 +45,7 @@ def service_in(question: Question, mark: Mark) -> Service | None:
         titles = titles_in(folder, None, None)
     except Unfit:  # of a broken hsp.toml, which no command of hsplan reads
         titles = Titles(folder)
-    return service_of(folder, question.desk, inputs, titles, mark)
+    return service_of(folder, question.programs, inputs, titles, mark)
 
 
 def of_log(question: Question, service: Service | None, mark: Mark) -> Iterator[Finding]:
@@ -58,7 +58,7 @@ def of_log(question: Question, service: Service | None, mark: Mark) -> Iterator[
         yield from _of_regions(log, log.header.index("region"), set(demand.column("region")))
     if "handle" in log.header and question.command == "dispatch" and not mark.is_joined:
         yield from _of_handles(log, log.header.index("handle"), demand.column("handle"))
-        pairs = {(it.fields[0], it.fields[1]) for it in demand.rows}
+        pairs = {(row.fields[0], row.fields[1]) for row in demand.rows}
         yield from of_absent(question, service, absent_in(log, log.header.index("handle"), pairs))
 
 
@@ -81,7 +81,7 @@ def _of_regions(log: Table, at: int, regions: set[str]) -> Iterator[Finding]:
 
 def _of_handles(log: Table, at: int, handles: list[str]) -> Iterator[Finding]:
     """Handles that the demand has in another case of letters, or bare."""
-    known, folded = set(handles), {it.casefold(): it for it in handles}
+    known, folded = set(handles), {own.casefold(): own for own in handles}
     looked: set[str] = set()
     for row in log.rows:
         handle = row.fields[at] if len(row.fields) > at else ""
@@ -97,5 +97,5 @@ def word_doubts(question: Question, line: Line) -> list[Finding]:
     """All that is accepted and seldom meant, where a command has no fault."""
     mark = mark_of_words(question)
     service = service_in(question, mark)
-    of_files = doubts(service, question.desk, of_folder=False) if service else []
+    of_files = doubts(service, question.programs, of_folder=False) if service else []
     return [*of_handle(line), *of_mark(question, mark), *of_files, *of_log(question, service, mark)]

@@ -40,13 +40,13 @@ def at_word(line: Line, word: Word | None, words: Words) -> Finding:
 def command_fault(line: Line) -> Finding | None:
     """A command that isn't there, or is another program's."""
     if not line.words:
-        which = [it for it, form in COMMANDS.items() if form.program == line.program]
+        which = [name for name, form in COMMANDS.items() if form.program == line.program]
         return at_word(line, None, Words("no command", f"write one of {', '.join(which)} behind {line.program}", ""))
     command, first = line.command, line.words[0]
     if command in HELP and line.program == "hsplan":
         remedy = "hsplan-stream --version prints it" if command in VERSION else "man hsplan is its help"
         return at_word(line, first, Words(f"hsplan has no {command}", remedy, "it takes commands only"))
-    own = [it for it, form in COMMANDS.items() if form.program == line.program]
+    own = [name for name, form in COMMANDS.items() if form.program == line.program]
     if command in own:
         return None
     if command in COMMANDS:
@@ -60,7 +60,7 @@ def command_fault(line: Line) -> Finding | None:
         )
     if command.startswith("-"):
         _, others = split(replace(line, words=[first, *line.words]))
-        later = next((it.text for it in others if it.text in own), "")
+        later = next((word.text for word in others if word.text in own), "")
         words = Words(
             "an option stands where the command belongs",
             f"write {later} first, as {line.program} {later} {command} .."
@@ -81,7 +81,7 @@ def command_fault(line: Line) -> Finding | None:
 
 def _of_companion(line: Line) -> Words:
     """What is said where the words of hsp stand behind --."""
-    second, third = ([it.text for it in line.words] + ["", ""])[1:3]
+    second, third = ([word.text for word in line.words] + ["", ""])[1:3]
     if second in OF_FOLDERS:
         folder = third if third and not third.startswith("-") else "DIR"
         return Words(
@@ -96,15 +96,15 @@ def _of_companion(line: Line) -> Words:
 
 def meant_by(name: str, form: Command, taken: set[str]) -> str:
     """The option that a misspelt one likely is: a near one, or the only one that begins so."""
-    free = [it for it in form.options if it not in taken] or form.options
-    start = [it for it in free if name and it.startswith(name)]
+    free = [option for option in form.options if option not in taken] or form.options
+    start = [option for option in free if name and option.startswith(name)]
     return near(name, free, 0.6) or (start[0] if len(start) == 1 else "")
 
 
 def _unknown_option(line: Line, form: Command, option: Option, taken: set[str]) -> Finding:
     command = line.command
     meant = meant_by(option.name, form, taken)
-    elsewhere = [it for it, other in COMMANDS.items() if option.name in other.options]
+    elsewhere = [name for name, other in COMMANDS.items() if option.name in other.options]
     if option.name in ("h", "help"):
         words = Words(
             f"{command} has no {option.word.text}", f"man {form.program} is its help", "it takes files only"
@@ -126,50 +126,61 @@ def _unknown_option(line: Line, form: Command, option: Option, taken: set[str]) 
 
 def _option_faults(line: Line, form: Command, options: list[Option]) -> Iterator[Finding]:
     seen: dict[str, Option] = {}
-    right = {it.name for it in options if it.name in form.options}
-    for it in options:
-        is_short = not it.word.text.startswith("--")
-        if it.name not in form.options:
-            yield _unknown_option(line, form, it, right)
+    right = {option.name for option in options if option.name in form.options}
+    for option in options:
+        is_short = not option.word.text.startswith("--")
+        if option.name not in form.options:
+            yield _unknown_option(line, form, option, right)
         elif is_short:
-            words = Words(f"{it.word.text} has one hyphen", f"write --{it.name}", "options have two hyphens")
-            yield at_word(line, it.word, words)
-        elif it.name in seen:
-            words = Words(f"--{it.name} stands twice", "take one of them out with its value", "", "the second")
-            yield at_word(line, it.word, words)
-        elif it.value_word and it.value_word.text == "=":
-            words = Words("a blank stands beside '='", f"write --{it.name} {it.value}", "", "an option and its value")
-            yield at_word(line, it.value_word, words)
-        elif it.value is None:
-            what = "a file" if it.name in FILES else "a value"
+            words = Words(f"{option.word.text} has one hyphen", f"write --{option.name}", "options have two hyphens")
+            yield at_word(line, option.word, words)
+        elif option.name in seen:
+            words = Words(f"--{option.name} stands twice", "take one of them out with its value", "", "the second")
+            yield at_word(line, option.word, words)
+        elif option.value_word and option.value_word.text == "=":
             words = Words(
-                f"--{it.name} has no value",
-                f"write {what} behind --{it.name}",
+                "a blank stands beside '='", f"write --{option.name} {option.value}", "", "an option and its value"
+            )
+            yield at_word(line, option.value_word, words)
+        elif option.value is None:
+            what = "a file" if option.name in FILES else "a value"
+            words = Words(
+                f"--{option.name} has no value",
+                f"write {what} behind --{option.name}",
                 "the next word is an option, or there is none",
             )
-            yield at_word(line, it.word, words)
-        elif it.value_word and it.value_word is not it.word and it.value.startswith("-") and len(it.value) > 1:
-            remedy = f"write --{it.name}={it.value}"
+            yield at_word(line, option.word, words)
+        elif (
+            option.value_word
+            and option.value_word is not option.word
+            and option.value.startswith("-")
+            and len(option.value) > 1
+        ):
+            remedy = f"write --{option.name}={option.value}"
             yield at_word(
-                line, it.value_word, Words(f"{it.value} is read as an option", remedy, "it begins with a hyphen")
+                line,
+                option.value_word,
+                Words(f"{option.value} is read as an option", remedy, "it begins with a hyphen"),
             )
-        elif it.name == "kind" and it.value not in KINDS:
-            meant = near(it.value, KINDS, 0.6)
+        elif option.name == "kind" and option.value not in KINDS:
+            meant = near(option.value, KINDS, 0.6)
             remedy = f"write {meant}" if meant else f"write one of {', '.join(KINDS)}"
             yield at_word(
-                line, it.value_word, Words(f"no kind {quoted(it.value)}", remedy, f"the kinds are {', '.join(KINDS)}")
+                line,
+                option.value_word,
+                Words(f"no kind {quoted(option.value)}", remedy, f"the kinds are {', '.join(KINDS)}"),
             )
-        seen.setdefault(it.name, it)
+        seen.setdefault(option.name, option)
 
 
 def _missing(line: Line, form: Command, options: list[Option]) -> Iterator[Finding]:
     """Options that a command needs and the line lacks, but for those that are misspelt in it."""
-    names = {it.name for it in options}
-    misspelt = [meant_by(it.name, form, names) for it in options if it.name not in form.options]
-    lacking = [it for it in form.needed if it not in names and it not in misspelt]
+    names = {option.name for option in options}
+    misspelt = [meant_by(option.name, form, names) for option in options if option.name not in form.options]
+    lacking = [option for option in form.needed if option not in names and option not in misspelt]
     if lacking:
-        listed = " and ".join(f"--{it}" for it in lacking)
-        values = " ".join(f"--{it} {'FILE' if it in FILES else 'load'}" for it in lacking)
+        listed = " and ".join(f"--{name}" for name in lacking)
+        values = " ".join(f"--{name} {'FILE' if name in FILES else 'load'}" for name in lacking)
         yield at_word(
             line,
             None,
@@ -207,15 +218,17 @@ def _locate(line: Line, names: set[str]) -> Iterator[Finding]:
             ),
         )
     elif "settings" not in names:
-        lacking = [it for it in ("option", "servers") if it not in names]
+        lacking = [name for name in ("option", "servers") if name not in names]
         if lacking:
-            remedy = "write " + " and ".join(f"--{it} {'handle' if it == 'option' else 'N'}" for it in lacking)
+            remedy = "write " + " and ".join(f"--{name} {'handle' if name == 'option' else 'N'}" for name in lacking)
             if len(lacking) == 2:
                 remedy = "write --settings FILE, or --option handle --servers N"
             yield at_word(
                 line,
                 None,
-                Words(f"locate needs {' and '.join('--' + it for it in lacking)}", remedy, f"the forms are {forms}"),
+                Words(
+                    f"locate needs {' and '.join('--' + name for name in lacking)}", remedy, f"the forms are {forms}"
+                ),
             )
 
 
@@ -233,11 +246,11 @@ def _other_words(line: Line, form: Command, options: list[Option], others: list[
                 f"the form is {shown(line.command)}",
             ),
         )
-    given = {it.name for it in options}
-    for it in others[wanted:]:
-        meant = near(it.text.split(".")[0], form.options, 0.6)
+    given = {option.name for option in options}
+    for other in others[wanted:]:
+        meant = near(other.text.split(".")[0], form.options, 0.6)
         why, remedy = "each file stands behind its option", "take it out, or put its option in front"
-        if form.last == "handle" and "/" in it.text:
+        if form.last == "handle" and "/" in other.text:
             why = "locate takes one handle"
             remedy = "ask for one at a time; hsplan-stream places takes a log of them"
         elif wanted:
@@ -246,8 +259,8 @@ def _other_words(line: Line, form: Command, options: list[Option], others: list[
         elif meant in given:
             why, remedy = f"--{meant} takes one file, and has it", "take it out, or make one file of both"
         elif meant:
-            remedy = f"write --{meant} {it.text}"
-        yield at_word(line, it, Words(f"the word {quoted(it.text)} belongs to no option", remedy, why))
+            remedy = f"write --{meant} {other.text}"
+        yield at_word(line, other, Words(f"the word {quoted(other.text)} belongs to no option", remedy, why))
 
 
 def usage(line: Line) -> list[Finding]:
@@ -259,7 +272,7 @@ def usage(line: Line) -> list[Finding]:
     options, others = split(line)
     faults = list(_option_faults(line, form, options))
     faults += _other_words(line, form, options, others)
-    if not {"h", "help"} & {it.name for it in options if it.name not in form.options}:
+    if not {"h", "help"} & {option.name for option in options if option.name not in form.options}:
         faults += _missing(line, form, options)
     if not faults:
         words = Words(
@@ -291,8 +304,8 @@ def value_fault(line: Line, word: str) -> Finding:
     }
     name, remedy = advised[word]
     options, _ = split(line)
-    it = next((it for it in options if it.name == name), None)
-    value = it.value if it and it.value is not None else ""
+    option = next((option for option in options if option.name == name), None)
+    value = option.value if option and option.value is not None else ""
     why = "a whole number of digits only"
     if word == "BadOption":
         why = "the hash option is one of three words"
@@ -307,7 +320,7 @@ def value_fault(line: Line, word: str) -> Finding:
             else "it is too large"
         )
     finding = at_word(
-        line, it.value_word if it else None, Words(f"--{name} doesn't take {quoted(value)}", remedy, why)
+        line, option.value_word if option else None, Words(f"--{name} doesn't take {quoted(value)}", remedy, why)
     )
     return found(
         "",

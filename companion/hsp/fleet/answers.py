@@ -68,7 +68,7 @@ def rows_of_front(path: str, front: bytes) -> Iterator[tuple[bytes, int]]:
             if head.rstrip(b"\r") != HEADER:
                 raise Unfit(f"{path}: line 1: the header isn't {HEADER.decode()}")
         if b"\r" in block or b"\n\n" in block or block[:1] == b"\n":
-            block = b"".join(it for it in io.BytesIO(block) if _is_row(it))
+            block = b"".join(row for row in io.BytesIO(block) if _is_row(row))
         if block:
             rows = front + block[:-1].replace(b"\n", b"\n" + front) + b"\n" if front else block
             yield rows, block.count(b"\n")
@@ -85,7 +85,7 @@ def line_of_row(path: str, row: int) -> int:
 
 def words_of(request: dict[str, Any]) -> list[str]:
     """The command that answers, with the files of the run."""
-    files = [word for it in FILES if it in request["files"] for word in (f"--{it}", request["files"][it])]
+    files = [word for kind in FILES if kind in request["files"] for word in (f"--{kind}", request["files"][kind])]
     fronts = ["--fronts", str(request["fronts"])]
     if request["any_handle"]:
         unit = ["--unit", str(request["unit"])] if request["unit"] else []

@@ -11,7 +11,7 @@ import click
 
 from hsp.base.bounds import whole
 from hsp.base.files import locked, replace_all
-from hsp.base.programs import Desk, Inputs
+from hsp.base.programs import Inputs, Programs
 from hsp.base.text import give, say
 from hsp.base.unfit import Unfit
 from hsp.fleet import kit
@@ -66,15 +66,15 @@ def log_of(text: str, suffix: str | None) -> Log:
 def counted(engine: Engine, logs: list[Log], asked: Reply) -> tuple[list[Reply], Reply]:
     """The heads of all logs' tables, and their sum."""
     level = []
-    for it in logs:
-        host = engine.host(it.host) if it.host else None
-        request = {**asked, "what": "count", "log": it.path, "targets": it.kept}
+    for log in logs:
+        host = engine.host(log.host) if log.host else None
+        request = {**asked, "what": "count", "log": log.path, "targets": log.kept}
         level.append(engine.submit(request, host=host))
-    heads = [engine.head(it) for it in level]
+    heads = [engine.head(part) for part in level]
     while len(level) > 1:
         merge = {"what": "merge", "targets": []}
         level = [engine.submit(merge, *level[at : at + WIDTH]) for at in range(0, len(level), WIDTH)]
-    show = shown(engine, "log", len(heads), lambda it: int(it.get("asked", 0)))
+    show = shown(engine, "log", len(heads), lambda reply: int(reply.get("asked", 0)))
     found = engine.outcomes(heads, show)
     return found, engine.outcomes(level)[0]
 
@@ -86,18 +86,18 @@ def _files(regions: str, inputs: Inputs | None) -> dict[str, bytes]:
 
 def _checked(logs: list[Log], regions: str, into: str | None, output: str | None, given: Any) -> None:
     """Refuses a run that would read what it writes, or write a file twice."""
-    if any(it.path == "-" for it in logs):
+    if any(log.path == "-" for log in logs):
         raise Unfit("standard input isn't a log that workers can read")
-    kept = [(it.host, path) for it in logs for path in it.kept]
+    kept = [(log.host, path) for log in logs for path in log.kept]
     if len(set(kept)) < len(kept):
         raise Unfit("a log is given twice, and its queries have one file")
-    away = {(it.host, os.path.abspath(it.path)) for it in logs if it.host}
+    away = {(log.host, os.path.abspath(log.path)) for log in logs if log.host}
     for host, path in kept:
         if (host, path) in away:
             raise Unfit(f"{path}: it would be read and written")
-    own = [it for it in logs if not it.host]
-    outputs = [*([output] if output else []), *(path for it in own for path in it.kept)]
-    refuse_own([it.path for it in own], regions, into, outputs, given)
+    own = [log for log in logs if not log.host]
+    outputs = [*([output] if output else []), *(path for log in own for path in log.kept)]
+    refuse_own([log.path for log in own], regions, into, outputs, given)
 
 
 def _span(given: dict[str, Any]) -> Span:
@@ -122,17 +122,17 @@ def demand(logs: tuple[str, ...], regions: str, into: str | None, keep: str | No
     It runs on many processors or machines. A LOG is the path of a file that every worker can read, or @HOST=PATH where
     only the workers of one host can. The table is that of hsp demand over all logs in their order.
     """
-    desk = Desk()
+    programs = Programs()
     place, output = place_of(given), output_of(given, into)
-    named = [log_of(it, keep) for it in logs]
+    named = [log_of(log, keep) for log in logs]
     _checked(named, regions, into, output, given)
     span, form = _span(given), form_of(given)
-    seek = regions_in(regions, given["by"], given["elsewhere"], desk)
-    reading, tally = Reading(form, seek, Judge(desk)), Tally(desk)
-    expect(twice([it.path for it in named if not it.host]))
-    inputs = foreseen(regions, into, given, True, desk)
+    seek = regions_in(regions, given["by"], given["elsewhere"], programs)
+    reading, tally = Reading(form, seek, Judge(programs)), Tally(programs)
+    expect(twice([log.path for log in named if not log.host]))
+    inputs = foreseen(regions, into, given, True, programs)
     asked = {"form": fields_of_form(form), "by": given["by"], "elsewhere": given["elsewhere"], "span": astuple(span)}
-    targets: Targets = [(it.kept, it.host) for it in named]
+    targets: Targets = [(log.kept, log.host) for log in named]
     with session(place, targets) as engine:
         engine.ship(_files(regions, inputs), given["installed"])
         heads, whole = counted(engine, named, asked)
@@ -141,13 +141,13 @@ def demand(logs: tuple[str, ...], regions: str, into: str | None, keep: str | No
         some_in(logs, reading, tally.asked > 0)
         tally.take(dict(counts_in(whole["table"])), whole["is_joined"])
         text, is_joined = tally.demand(inputs, given["unit"])
-        hosts = [engine.host(it.host) if it.host else None for it in named]
+        hosts = [engine.host(log.host) if log.host else None for log in named]
         engine.is_publishing = True
-        with locked(os.path.dirname(os.path.realpath(it)) for it in [output] if it):
+        with locked(os.path.dirname(os.path.realpath(path)) for path in [output] if path):
             if output:
                 mark = mark_of(tally, tuple(logs), given["unit"]) if is_joined else Mark()
                 replace_all({output: text, **of_folder(into, output, mark)})
-            engine.publish([(it.kept, head, host) for it, head, host in zip(named, heads, hosts) if it.kept])
+            engine.publish([(log.kept, head, host) for log, head, host in zip(named, heads, hosts) if log.kept])
     if not output:
         give(text)
     closing = rows_lines(output, text, is_joined, (inputs.costs, tally.without_costs(inputs)) if inputs else None)

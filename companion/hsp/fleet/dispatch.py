@@ -17,7 +17,7 @@ from hsp.base.files import refuse_clashes
 from hsp.base.grammar import GREATEST_UNIT, MOST_FRONTS
 from hsp.base.numbers import listed, some
 from hsp.base.paths import path_in, shell_word
-from hsp.base.programs import Desk, Inputs, Missing
+from hsp.base.programs import Inputs, Missing, Programs
 from hsp.base.text import say
 from hsp.base.unfit import Unfit
 from hsp.fleet import kit
@@ -44,7 +44,7 @@ class Front:
 
     @property
     def targets(self) -> list[str]:
-        return [os.path.abspath(it + SUFFIX) for it in self.logs]
+        return [os.path.abspath(log + SUFFIX) for log in self.logs]
 
 
 def fronts_of(words: tuple[str, ...], most: int) -> list[Front]:
@@ -63,13 +63,13 @@ def fronts_of(words: tuple[str, ...], most: int) -> list[Front]:
         if own.host != host:
             raise click.UsageError(f"front {number} has logs at two hosts: a front begins with its whole share again")
         own.logs.append(match[3])
-    names = [(it.host, path) for it in found.values() for path in it.targets]
+    names = [(front.host, path) for front in found.values() for path in front.targets]
     if len(set(names)) < len(names):
         raise click.UsageError("a log is given twice")
-    logs = {(it.host, os.path.abspath(path)) for it in found.values() for path in it.logs}
+    logs = {(front.host, os.path.abspath(path)) for front in found.values() for path in front.logs}
     for _, path in logs.intersection(names):
         raise Unfit(f"{path}: it would be read and written")
-    return [found[it] for it in sorted(found)]
+    return [found[front] for front in sorted(found)]
 
 
 def request_of(front: Front, options: dict[str, Any], targets: list[str]) -> Reply:
@@ -83,12 +83,13 @@ def _rows(reply: Reply) -> int:
 
 def apart(engine: Engine, fronts: list[Front], options: dict[str, Any]) -> list[Reply]:
     """Answers the logs of each front, and publishes all answers."""
-    hosts = [engine.host(it.host) if it.host else None for it in fronts]
+    hosts = [engine.host(front.host) if front.host else None for front in fronts]
     parts = [
-        engine.submit(request_of(it, options, it.targets), host=host) for it, host in zip(fronts, hosts, strict=True)
+        engine.submit(request_of(front, options, front.targets), host=host)
+        for front, host in zip(fronts, hosts, strict=True)
     ]
     replies = engine.outcomes(parts, shown(engine, "front", len(parts), _rows))
-    engine.publish([(it.targets, reply, host) for it, reply, host in zip(fronts, replies, hosts)])
+    engine.publish([(front.targets, reply, host) for front, reply, host in zip(fronts, replies, hosts)])
     return replies
 
 
@@ -103,24 +104,24 @@ def together(engine: Engine, own: Front, folder: str, options: dict[str, Any]) -
     parted = Parted(log, folder, options["fronts"])
     if not parted.is_plain:
         return _in_one(engine, own, options)
-    fronts = [Front(at, None, [it]) for at, it in enumerate(parted.logs)]
-    parts = [engine.submit(request_of(it, options, it.targets)) for it in fronts]
+    fronts = [Front(at, None, [path]) for at, path in enumerate(parted.logs)]
+    parts = [engine.submit(request_of(front, options, front.targets)) for front in fronts]
     replies = engine.outcomes(parts, shown(engine, "front", len(parts), _rows), every=True)
     _fine(parted, replies)
-    engine.publish([(it.targets, reply, None) for it, reply in zip(fronts, replies)])
-    parted.merge([it.targets[0] for it in fronts], output)
+    engine.publish([(front.targets, reply, None) for front, reply in zip(fronts, replies)])
+    parted.merge([front.targets[0] for front in fronts], output)
     return replies
 
 
 def _fine(parted: Parted, replies: list[Reply]) -> None:
     """Reports the first fault of the log, as one run would."""
-    rows = [(parted.row(at, it["row"]), it) for at, it in enumerate(replies) if "row" in it]
+    rows = [(parted.row(at, reply["row"]), reply) for at, reply in enumerate(replies) if "row" in reply]
     if rows:
-        row, fault = min(rows, key=lambda it: it[0])
+        row, fault = min(rows, key=lambda pair: pair[0])
         raise Unfit(f"{parted.path}: line {line_of_row(parted.path, row)}: {fault['word']}")
-    for it in replies:
-        if "fault" in it:
-            raise Unfit(it["fault"])
+    for reply in replies:
+        if "fault" in reply:
+            raise Unfit(reply["fault"])
 
 
 def _in_one(engine: Engine, own: Front, options: dict[str, Any]) -> list[Reply]:
@@ -154,9 +155,9 @@ def any_handle_line(folder: str, logs: tuple[str, ...], plan: str | None, fronts
     )
 
 
-def of_these_files(folder: str, desk: Desk, inputs: Inputs, plan: str) -> None:
+def of_these_files(folder: str, programs: Programs, inputs: Inputs, plan: str) -> None:
     """Refuses a plan of other files, or of files that have changed, before any worker is asked."""
-    verdict = desk.verdict(inputs, plan)
+    verdict = programs.verdict(inputs, plan)
     if not verdict.startswith("no "):
         return
     newer = newer_than(inputs, plan)
@@ -187,19 +188,19 @@ def dispatch(folder: str, logs: tuple[str, ...], plan: str | None, **given: Any)
     front,region,handle.
     """
     place, fronts = place_of(given), fronts_of(logs, given["fronts"])
-    mark, desk = mark_in(folder), Desk()
+    mark, programs = mark_in(folder), Programs()
     given["unit"] = unit_of(given, mark)
     certificate = plan or path_in(folder, "plan.txt")
     if not os.path.isfile(certificate):
         raise Missing(f"{certificate}: no such file: hsp plan {shell_word(folder)} makes it")
-    inputs, own = inputs_in(folder, {}, mark.unit), [it for it in fronts if not it.host]
-    read = [certificate, *inputs.files(), *(path for it in own for path in it.logs)]
-    refuse_clashes(read, [path for it in own for path in it.targets])
+    inputs, own = inputs_in(folder, {}, mark.unit), [front for front in fronts if not front.host]
+    read = [certificate, *inputs.files(), *(path for front in own for path in front.logs)]
+    refuse_clashes(read, [path for front in own for path in front.targets])
     if not mark.is_plain and not given["any_handle"]:
         say(f"hsp: {any_handle_line(folder, logs, plan, given['fronts'])}", err=True)
-    of_these_files(folder, desk, inputs, certificate)
-    files = {**kit.files_of(desk.in_units(inputs), certificate), **kit.programs(), "hsp.zip": kit.companion()}
-    targets: Targets = [(it.targets, it.host) for it in fronts]
+    of_these_files(folder, programs, inputs, certificate)
+    files = {**kit.files_of(programs.in_units(inputs), certificate), **kit.programs(), "hsp.zip": kit.companion()}
+    targets: Targets = [(front.targets, front.host) for front in fronts]
     with contextlib.ExitStack() as stack:
         folder = stack.enter_context(beside(fronts[0])) if fronts[0].number is None else ""
         engine = stack.enter_context(session(place, targets))
@@ -209,8 +210,8 @@ def dispatch(folder: str, logs: tuple[str, ...], plan: str | None, **given: Any)
         else:
             replies = apart(engine, fronts, given)
     sums: Counter[str] = Counter()
-    for it in replies:
-        sums.update(it["sums"])
-    answers = [path + SUFFIX for it in fronts for path in it.logs]
-    counts = ", ".join(f"{sums[it]:,} {it}" for it in SUMS if sums[it])
+    for reply in replies:
+        sums.update(reply["sums"])
+    answers = [path + SUFFIX for front in fronts for path in front.logs]
+    counts = ", ".join(f"{sums[word]:,} {word}" for word in SUMS if sums[word])
     say(f"{some(sum(sums.values()), 'row')}: {counts}; answers in {listed(answers)}")

@@ -160,7 +160,7 @@ class Engine:
         sent."""
         sums = {name: self.remote.sum_of(octets) for name, octets in files.items()}
         self.seal = self.remote.Seal(sums, installed)
-        sent = {name: it for name, it in files.items() if not (installed and name in self.remote.PROGRAMS)}
+        sent = {name: file for name, file in files.items() if not (installed and name in self.remote.PROGRAMS)}
         wanted, until = self.local.number if self.local else 1, time.monotonic() + self._place.patience
         while len(self.workers()) < wanted and time.monotonic() < until:
             time.sleep(0.05)
@@ -179,7 +179,7 @@ class Engine:
             try:
                 with self._asked():
                     self._client.register_worker_plugin(ByValue(mark), name=mark.name)
-                    rest = [it for it in self.workers() if it not in others]
+                    rest = [worker for worker in self.workers() if worker not in others]
                     return {**others, **(self._client.run(seek, workers=rest) if rest else {})}
             except Gone:
                 if last:
@@ -192,9 +192,13 @@ class Engine:
         with self._asked():
             versions = self._client.get_versions()["workers"]
         own = ".".join(map(str, sys.version_info[:2]))
-        pythons = {name: str(it["host"]["python"]) if it else "unknown" for name, it in versions.items()}
+        pythons = {
+            name: str(version["host"]["python"]) if version else "unknown" for name, version in versions.items()
+        }
         return {
-            name: f"its Python is {it}, not {own}" for name, it in pythons.items() if not it.startswith(f"{own}.")
+            name: f"its Python is {version}, not {own}"
+            for name, version in pythons.items()
+            if not version.startswith(f"{own}.")
         }
 
     @contextlib.contextmanager
@@ -211,11 +215,11 @@ class Engine:
         """The address of a host as Dask knows it."""
         names = {name}
         with contextlib.suppress(OSError):
-            names |= {str(it[4][0]) for it in socket.getaddrinfo(name, None)}
-        for it in self.workers().values():
-            if self._is_fit(it) and (it["host"] in names or it.get("name") == name):
-                self._hosts.add(str(it["host"]))
-                return str(it["host"])
+            names |= {str(address[4][0]) for address in socket.getaddrinfo(name, None)}
+        for worker in self.workers().values():
+            if self._is_fit(worker) and (worker["host"] in names or worker.get("name") == name):
+                self._hosts.add(str(worker["host"]))
+                return str(worker["host"])
         raise Unfinished(NO_WORKER, f"no fit worker is at {name}")
 
     def _is_fit(self, worker: Reply) -> bool:
@@ -252,7 +256,7 @@ class Engine:
         """Gives all files their names, at their hosts: paths, reply and host of each part. It isn't interrupted."""
         self.is_publishing = True
         futures = []
-        with locked(os.path.dirname(it) for paths, _, host in files if host is None for it in paths):
+        with locked(os.path.dirname(path) for paths, _, host in files if host is None for path in paths):
             for paths, reply, host in files:
                 words = self.run, paths, reply["attempt"], reply["inodes"]
                 if host is None:
@@ -279,7 +283,7 @@ class Engine:
             with contextlib.suppress(Unfinished):
                 away += [self._submit("sweep", paths, self.run, host=self.host(name))] if name else []
         until = time.monotonic() + 10
-        while any(it.status == "pending" for it in away) and time.monotonic() < until:
+        while any(worker.status == "pending" for worker in away) and time.monotonic() < until:
             time.sleep(0.02)
 
     def outcomes(
@@ -294,18 +298,20 @@ class Engine:
         last, fit = len(futures), time.monotonic()
         while len(replies) < last:
             self._alive()
-            for at in [it for it in range(last) if it not in replies and futures[it].status != "pending"]:
+            for at in [
+                number for number in range(last) if number not in replies and futures[number].status != "pending"
+            ]:
                 reply = self._reply(futures[at]) if at < last else NOT_YET
                 if reply is not NOT_YET:
                     replies[at] = reply
                     if not every and reply and "fault" in reply:
                         self._client.cancel(futures[at + 1 :], force=True)
                         last = at + 1
-                        replies = {key: it for key, it in replies.items() if key < last}
+                        replies = {key: own for key, own in replies.items() if key < last}
             show(list(replies.values()))
             fit = self._fit(fit)
             time.sleep(0.02)
-        found = [replies[it] for it in range(last)]
+        found = [replies[number] for number in range(last)]
         if not every and found and found[-1] and "fault" in found[-1]:
             raise Unfinished(found[-1]["status"], found[-1]["fault"])
         return found
@@ -315,7 +321,7 @@ class Engine:
         now = time.monotonic()
         if now - last < 2:
             return last
-        hosts = {str(it["host"]) for it in self.workers().values() if self._is_fit(it)}
+        hosts = {str(worker["host"]) for worker in self.workers().values() if self._is_fit(worker)}
         lacking = sorted(self._hosts - hosts)
         if hosts and not lacking:
             return now

@@ -19,11 +19,11 @@ UNCHECKED = (1).to_bytes(4, "little")
 
 
 def _modules(folder: Any, name: str) -> Iterator[tuple[str, bytes]]:
-    for it in folder.iterdir():
-        if it.is_dir() and not it.name.startswith("__"):
-            yield from _modules(it, f"{name}/{it.name}")
-        elif it.name.endswith(".py"):
-            yield f"{name}/{it.name}", it.read_bytes()
+    for entry in folder.iterdir():
+        if entry.is_dir() and not entry.name.startswith("__"):
+            yield from _modules(entry, f"{name}/{entry.name}")
+        elif entry.name.endswith(".py"):
+            yield f"{name}/{entry.name}", entry.read_bytes()
 
 
 def _compiled(name: str, source: bytes) -> bytes:
@@ -48,5 +48,5 @@ def programs() -> dict[str, bytes]:
 
 def files_of(inputs: Inputs, plan: str = "") -> dict[str, bytes]:
     """The files of a service by their kinds, those that there are."""
-    paths = {it: getattr(inputs, it) for it in FILES if it != "plan"} | {"plan": plan}
+    paths = {file: getattr(inputs, file) for file in FILES if file != "plan"} | {"plan": plan}
     return {kind: whole(path) for kind, path in paths.items() if path}

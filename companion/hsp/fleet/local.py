@@ -39,9 +39,11 @@ class Local:
     """The processes, and the folder with all that they keep."""
 
     def __init__(self, number: int) -> None:
-        for it in ("setpriv", "openssl"):
-            if not shutil.which(it):
-                raise Missing(f"{it} isn't in PATH: workers of this machine need it (Debian: util-linux and openssl)")
+        for program in ("setpriv", "openssl"):
+            if not shutil.which(program):
+                raise Missing(
+                    f"{program} isn't in PATH: workers of this machine need it (Debian: util-linux and openssl)"
+                )
         self.number, self.restarts, self._started = number, 0, 0
         self.folder = ""
         self._scheduler: subprocess.Popen[bytes] | None = None
@@ -49,7 +51,7 @@ class Local:
         try:
             with uncut():
                 self.folder = tempfile.mkdtemp(prefix="hsp-fleet-")
-            self.certificate, self.key = (os.path.join(self.folder, it) for it in ("certificate.pem", "key.pem"))
+            self.certificate, self.key = (os.path.join(self.folder, name) for name in ("certificate.pem", "key.pem"))
             self._file = os.path.join(self.folder, "scheduler.json")
             self._begin()
         except BaseException:
@@ -106,8 +108,8 @@ class Local:
         """Starts workers again that have ended."""
         if self._scheduler and self._scheduler.poll() is not None:
             raise Gone("the scheduler of this machine has ended" + self._last("dask_scheduler"))
-        for at, it in enumerate(self._workers):
-            if it.poll() is not None:
+        for at, worker in enumerate(self._workers):
+            if worker.poll() is not None:
                 self.restarts += 1
                 if self.restarts > MOST_RESTARTS * self.number:
                     raise Gone("the workers of this machine end again and again" + self._last("dask_worker"))
@@ -117,7 +119,7 @@ class Local:
         """The last line that such a process wrote."""
         try:
             with open(self._log(module), encoding="utf-8", errors="replace") as file:
-                lines = [it.strip() for it in file if it.strip()]
+                lines = [line.strip() for line in file if line.strip()]
         except OSError:
             return ""
         return f": {lines[-1][:200]}" if lines else ""
@@ -125,9 +127,9 @@ class Local:
     def close(self) -> None:
         """Ends the processes, and takes their folder away. What they run ends with them."""
         running = [*self._workers, *([self._scheduler] if self._scheduler else [])]
-        for it in running:
-            it.kill()
-        for it in running:
-            it.wait()
+        for child in running:
+            child.kill()
+        for child in running:
+            child.wait()
         time.sleep(0.05)  # the kernel ends their children after them
         shutil.rmtree(self.folder, ignore_errors=True)

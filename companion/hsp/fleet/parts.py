@@ -13,7 +13,7 @@ from typing import Any
 from hsp.base.bounds import Query, pieces
 from hsp.base.files import created
 from hsp.base.grammar import LOG_HEAD
-from hsp.base.programs import Desk, Inputs, Missing, Refused
+from hsp.base.programs import Inputs, Missing, Programs, Refused
 from hsp.base.unfit import Unfit
 from hsp.fleet import answers
 from hsp.fleet.tables import Table, merged
@@ -35,7 +35,7 @@ def inputs_of(files: dict[str, str]) -> Inputs | None:
 
 def form_of(said: Request) -> Form:
     pattern = re.compile(os.fsencode(said["pattern"])) if said["pattern"] else None
-    prefixes = frozenset(os.fsencode(it) for it in said["prefixes"])
+    prefixes = frozenset(os.fsencode(prefix) for prefix in said["prefixes"])
     return Form(said["name"], said["client"], said["handle"], said["path"], pattern, prefixes, said["time"])
 
 
@@ -49,11 +49,11 @@ def fields_of_form(form: Form) -> Request:
 
 def count(request: Request) -> Reply:
     """Counts a log. Its queries are kept beside it where a file for them is named."""
-    desk = Desk()
+    programs = Programs()
     seek = regions_in(request["files"]["networks"], request["by"], request["elsewhere"])
     span = Span(*request["span"])
-    reading = Reading(form_of(request["form"]), seek, Judge(desk), wrap=None if span.is_all else within(span))
-    table, asked = Table(desk, inputs_of(request["files"])), 0
+    reading = Reading(form_of(request["form"]), seek, Judge(programs), wrap=None if span.is_all else within(span))
+    table, asked = Table(programs, inputs_of(request["files"])), 0
     kept = created(request["staged"][0]) if request["staged"] else None
     try:
         if kept:
@@ -77,9 +77,9 @@ def count(request: Request) -> Reply:
 def merge(request: Request) -> Reply:
     """Adds up the tables of parts."""
     before = request["before"]
-    table = merged(before, Table(Desk(), inputs_of(request["files"])))
-    skipped = [it for said in before for it in said["skipped"]]
-    return {**table.said(), "asked": sum(it["asked"] for it in before), "skipped": skipped}
+    table = merged(before, Table(Programs(), inputs_of(request["files"])))
+    skipped = [reason for said in before for reason in said["skipped"]]
+    return {**table.said(), "asked": sum(reason["asked"] for reason in before), "skipped": skipped}
 
 
 WORK: dict[str, Callable[[Request], Reply]] = {"count": count, "merge": merge, "answer": answers.answer}

@@ -38,7 +38,7 @@ class Seal:
 
     def __init__(self, sums: Mapping[str, str], installed: bool) -> None:
         self.sums, self.installed = dict(sums), installed
-        whole = "".join(f"{name} {it}\n" for name, it in sorted(sums.items()))
+        whole = "".join(f"{name} {expected}\n" for name, expected in sorted(sums.items()))
         self.mark = f"hsp-fleet-{sum_of(whole.encode())[:16]}"
 
     def path(self, local: str, name: str) -> str:
@@ -61,7 +61,7 @@ class Seal:
 
     def tried(self, local: str) -> str | None:
         """Why a program can't run at a worker, or none."""
-        for name in (it for it in PROGRAMS if it in self.sums):
+        for name in (program for program in PROGRAMS if program in self.sums):
             reason = _tried([self.path(local, name), *PROGRAMS[name].split()])
             if reason:
                 return f"{self.path(local, name)} {reason}"
@@ -133,10 +133,10 @@ def sweep(paths: list[str], run: str) -> None:
     for path in paths:
         folder, name = os.path.split(os.path.abspath(path))
         with contextlib.suppress(OSError):
-            for it in os.listdir(folder):
-                if it.startswith(f".{name}.fleet-{run}"):
+            for entry in os.listdir(folder):
+                if entry.startswith(f".{name}.fleet-{run}"):
                     with contextlib.suppress(OSError):
-                        os.unlink(os.path.join(folder, it))
+                        os.unlink(os.path.join(folder, entry))
 
 
 def publish(run: str, targets: list[str], attempt: str, inodes: list[int]) -> None:
@@ -153,7 +153,7 @@ def publish(run: str, targets: list[str], attempt: str, inodes: list[int]) -> No
 
 def head(reply: dict[str, Any]) -> dict[str, Any]:
     """What the client asks of a table before all tables are added up."""
-    return {name: it for name, it in reply.items() if name != "table"}
+    return {name: value for name, value in reply.items() if name != "table"}
 
 
 def _is_wanted(worker: Any, key: str) -> bool:
@@ -211,18 +211,18 @@ def part(seal: Seal, request: dict[str, Any], *before: dict[str, Any]) -> dict[s
     reason = seal.differs(worker.local_directory)
     if reason:
         raise OSError(f"worker {worker.address}: {reason}")
-    fault = next((it for it in before if "fault" in it), None)
+    fault = next((path for path in before if "fault" in path), None)
     if fault:
         return fault
     run, targets, attempt = request["run"], request["targets"], uuid.uuid4().hex[:12]
-    names = [staged(it, run, attempt) for it in targets]
+    names = [staged(target, run, attempt) for target in targets]
     files = {name: seal.path(worker.local_directory, name) for name in seal.sums}
     whole = {**request, "files": files, "before": before, "staged": names}
     try:
         with tempfile.TemporaryDirectory(dir=worker.local_directory) as folder:
             reply = _ran(whole, folder, worker)
         if "fault" not in reply:
-            return {**reply, "attempt": attempt, "inodes": [os.stat(it).st_ino for it in names]}
+            return {**reply, "attempt": attempt, "inodes": [os.stat(target).st_ino for target in names]}
     except BaseException:
         sweep(targets, f"{run}-{attempt}")
         raise

@@ -20,13 +20,13 @@ class Parted:
 
     def __init__(self, path: str, folder: str, fronts: int) -> None:
         self.path, self.is_plain, self.order = path, True, bytearray()
-        self.logs = [os.path.join(folder, f"{it}.csv") for it in range(fronts)]
-        self._numbers = {b"%d" % it: it for it in range(fronts)}
+        self.logs = [os.path.join(folder, f"{number}.csv") for number in range(fronts)]
+        self._numbers = {b"%d" % number: number for number in range(fronts)}
         is_first = True
-        files = [open(it, "wb") for it in self.logs]
+        files = [open(log, "wb") for log in self.logs]
         try:
-            for it in files:
-                it.write(HEADER + b"\n")
+            for log in files:
+                log.write(HEADER + b"\n")
             for block in blocks(path):
                 if is_first:
                     head, _, block = block.partition(b"\n")
@@ -40,8 +40,8 @@ class Parted:
                 for file, own in zip(files, rows):
                     file.write(b"".join(own))
         finally:
-            for it in files:
-                it.close()
+            for log in files:
+                log.close()
         if is_first:
             raise Unfit(f"{path}: line 1: the header isn't {OF_ALL.decode()}")
 
@@ -75,12 +75,12 @@ class Parted:
 
     def merge(self, answers: list[str], output: str) -> None:
         """Writes the answers in the order of the log."""
-        files = [open(it, "rb") for it in answers]
+        files = [open(answer, "rb") for answer in answers]
         try:
             with growing(output) as out:
                 for at in range(0, len(self.order), 1 << 16):
                     own = self.order[at : at + (1 << 16)]
                     out.write(b"".join(map(next, map(files.__getitem__, own))))
         finally:
-            for it in files:
-                it.close()
+            for file in files:
+                file.close()

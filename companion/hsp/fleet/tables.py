@@ -12,7 +12,7 @@ from dataclasses import dataclass, field
 
 from hsp.base.bounds import MOST_HELD, Query, weight
 from hsp.base.grammar import MOST_DEMAND_ROWS
-from hsp.base.programs import Desk, Inputs, Refused
+from hsp.base.programs import Inputs, Programs, Refused
 from hsp.base.unfit import Unfit
 from hsp.intake.logs import Skipped
 from hsp.intake.tally import HEADER, advice, rows_of
@@ -28,16 +28,16 @@ def counts_in(text: str) -> Counts:
     return [((region.encode(), handle.encode()), int(count)) for region, handle, count in rows]
 
 
-def joined(desk: Desk, inputs: Inputs, counts: Counts) -> Counts:
+def joined(programs: Programs, inputs: Inputs, counts: Counts) -> Counts:
     """The sums of each kind, in the order in which the kinds first come.
 
     A demand has a greatest count, and sums may be above it. Then the counts are parted into a high and a low digit,
     whose sums are joined apart: sums of kinds add up.
     """
-    log = desk.put(HEADER, ".csv")
-    desk.add(log, rows_of(counts))
+    log = programs.put(HEADER, ".csv")
+    programs.add(log, rows_of(counts))
     try:
-        return counts_in(desk.kinds(inputs, log, None))
+        return counts_in(programs.kinds(inputs, log, None))
     except Refused as fault:
         most = max(count for _, count in counts)
         if "CountTooLarge" not in fault.line or most < 2:
@@ -45,16 +45,16 @@ def joined(desk: Desk, inputs: Inputs, counts: Counts) -> Counts:
     finally:
         os.unlink(log)
     base = math.isqrt(most) + 1
-    high = joined(desk, inputs, [(it, count // base) for it, count in counts])
-    low = joined(desk, inputs, [(it, count % base) for it, count in counts])
-    return [(it, base * more + less) for (it, more), (_, less) in zip(high, low, strict=True)]
+    high = joined(programs, inputs, [(pair, count // base) for pair, count in counts])
+    low = joined(programs, inputs, [(pair, count % base) for pair, count in counts])
+    return [(pair, base * more + less) for (pair, more), (_, less) in zip(high, low, strict=True)]
 
 
 @dataclass
 class Table:
     """Counts in the order in which their pairs, or their kinds, first come."""
 
-    desk: Desk
+    programs: Programs
     inputs: Inputs | None
     most: int = MOST_PAIRS
     counts: dict[Query, int] = field(default_factory=dict)
@@ -77,9 +77,9 @@ class Table:
                 "Give --into DIR with settings.toml and costs.csv, so that rows of one kind are joined"
             )
         try:
-            self.counts = dict(joined(self.desk, self.inputs, list(self.counts.items())))
+            self.counts = dict(joined(self.programs, self.inputs, list(self.counts.items())))
         except Refused as fault:
-            raise Unfit(advice(fault, self.inputs, self.desk)) from None
+            raise Unfit(advice(fault, self.inputs, self.programs)) from None
         self.is_joined, self.octets = True, weight(self.counts)
 
     def said(self) -> dict[str, object]:
@@ -92,9 +92,9 @@ class Table:
 
 def merged(tables: Iterable[dict[str, object]], into: Table) -> Table:
     """The tables of parts as one, in their order."""
-    for it in tables:
-        into.is_joined |= bool(it["is_joined"])
-        into.add(counts_in(str(it["table"])))
+    for table in tables:
+        into.is_joined |= bool(table["is_joined"])
+        into.add(counts_in(str(table["table"])))
     if into.is_joined:
         into.join()
     return into
@@ -103,8 +103,8 @@ def merged(tables: Iterable[dict[str, object]], into: Table) -> Table:
 def skipped_of(parts: Iterable[dict[str, object]]) -> Skipped:
     """What was passed over in all parts, and where the first line of each reason stands."""
     whole = Skipped()
-    for it in parts:
-        counts, first = it["counts"], it["first"]
+    for part in parts:
+        counts, first = part["counts"], part["first"]
         assert isinstance(counts, dict) and isinstance(first, dict)
         for reason, count in counts.items():
             whole.first.setdefault(reason, first[reason])

@@ -16,7 +16,7 @@ from hsp.base.files import create, locked, refuse_clashes, replace_all, together
 from hsp.base.grammar import GREATEST_CAPACITY, GREATEST_UNIT, LOG_HEAD
 from hsp.base.numbers import listed, some
 from hsp.base.paths import path_in, shell_word
-from hsp.base.programs import Desk, Inputs
+from hsp.base.programs import Inputs, Programs
 from hsp.base.text import give, is_utf8, say, show_progress
 from hsp.base.unfit import Unfit
 from hsp.intake import skeleton
@@ -48,7 +48,7 @@ def new(folder: str, example: bool) -> None:
     No file is overwritten.
     """
     paths = create(folder, skeleton.example() if example else skeleton.empty())
-    say(f"{folder} has {listed([os.path.basename(it) for it in paths], 9)}")
+    say(f"{folder} has {listed([os.path.basename(path) for path in paths], 9)}")
     next_one = "hsp plan" if example else "hsp sites FILE.. --into"
     say(f"next: {next_one} {shell_word(folder)}")
 
@@ -71,18 +71,18 @@ def gathered(paths: tuple[str, ...], names: tuple[str, ...], files: Files) -> li
     """The sites of all files under the given names. A record that came before is left out."""
     found: list[Found] = []
     for path in paths:
-        for it in files.read(path, octets_of(path)):
-            twin = next((other for other in found if other.octets == it.octets), None)
+        for site in files.read(path, octets_of(path)):
+            twin = next((other for other in found if other.octets == site.octets), None)
             if twin:
                 files.left.append(f"{path}: the record of {twin.name} once more")
             else:
-                found.append(it)
-    if any(not is_utf8(it) for it in names):
+                found.append(site)
+    if any(not is_utf8(given) for given in names):
         raise Unfit("a name isn't text")
     if len(names) > len(found):
         raise Unfit(f"{some(len(names), 'name')} for {some(len(found), 'site')}")
-    named = [replace(it, name=name) for it, name in zip(found, names)] + found[len(names) :]
-    if len({it.name for it in named}) < len(named):
+    named = [replace(site, name=name) for site, name in zip(found, names)] + found[len(names) :]
+    if len({site.name for site in named}) < len(named):
         raise Unfit("two sites have the same name; give each its own --name")
     return named
 
@@ -102,30 +102,30 @@ def sites(paths: tuple[str, ...], into: str | None, names: tuple[str, ...], capa
     written.
     """
     if into:
-        refuse_clashes(paths, [path_in(into, NAMES[it]) for it in ("settings", "capacity")])
-    desk = Desk()
-    files = Files(desk)
+        refuse_clashes(paths, [path_in(into, NAMES[kind]) for kind in ("settings", "capacity")])
+    programs = Programs()
+    files = Files(programs)
     found = gathered(paths, names, files)
-    notes = files.taken + [f"left out: {it}" for it in files.left]
+    notes = files.taken + [f"left out: {left}" for left in files.left]
     if into is None:
-        read_back("".join(map(block, found)).encode(), 0, found, desk)
-        for it in found:
-            rows = "".join(f"# {site},{server},{room}\n" for site, server, room in capacity_rows(it, capacity))
-            give(f"{block(it)}# its rows of capacity.csv:\n{rows}")
+        read_back("".join(map(block, found)).encode(), 0, found, programs)
+        for other in found:
+            rows = "".join(f"# {site},{server},{room}\n" for site, server, room in capacity_rows(other, capacity))
+            give(f"{block(other)}# its rows of capacity.csv:\n{rows}")
         for line in notes:
             say(line, err=True)
         return
     with locked([into]):
-        result = joined(into, found, capacity, desk)
+        result = joined(into, found, capacity, programs)
         if result.added:
             replace_all(result.contents)
-    notes += [f"left out: {it.file}: its record is in the settings already" for it in result.known]
-    for line in [line for it in result.added for line in lines_of(it)] + notes:
+    notes += [f"left out: {known.file}: its record is in the settings already" for known in result.known]
+    for line in [line for added in result.added for line in lines_of(added)] + notes:
         say(line)
     if not result.added:
         say("nothing is added")
         return
-    servers = sum(len(it.site().servers) for it in result.added)
+    servers = sum(len(added.site().servers) for added in result.added)
     room = f"with the capacity {capacity:,}" + ("" if capacity else ": put in what each takes")
     where = " and ".join(result.contents)
     say(f"{some(len(result.added), 'site')} added to {where}; {some(servers, 'server')} {room}")
@@ -143,7 +143,7 @@ def form_of(given: dict[str, Any]) -> Form:
         if "client" not in groups or ("handle" in groups) == ("path" in groups):
             wanted = "it needs the groups (?P<client>..), and either (?P<handle>..) or (?P<path>..)"
             raise click.BadParameter(wanted, param_hint="--regex")
-    prefixes = frozenset(os.fsencode(it.rstrip("/").upper()) for it in given["prefix"])
+    prefixes = frozenset(os.fsencode(prefix.rstrip("/").upper()) for prefix in given["prefix"])
     names = given["client"], given["handle"], given["path"] or ""
     return Form(given["format"], *names, pattern, prefixes, given["time"])
 
@@ -173,7 +173,7 @@ def skipped_lines(reading: Reading) -> list[str]:
     """How many lines were passed over, why, and where the first one of each reason stands."""
     if not reading.skipped.counts:
         return []
-    counts = sorted(reading.skipped.counts.items(), key=lambda it: (-it[1], it[0]))
+    counts = sorted(reading.skipped.counts.items(), key=lambda pair: (-pair[1], pair[0]))
     lines = [f"  {count:,}  {reason}; first {reading.skipped.first[reason]}" for reason, count in counts]
     return [f"skipped {some(reading.skipped.sum, 'line')}", *lines]
 
@@ -197,7 +197,9 @@ def expect(lines: list[str]) -> None:
         say(f"hsp: {line}", err=True)
 
 
-def foreseen(regions: str, into: str | None, given: dict[str, Any], is_long: bool, desk: Desk) -> Inputs | None:
+def foreseen(
+    regions: str, into: str | None, given: dict[str, Any], is_long: bool, programs: Programs
+) -> Inputs | None:
     """The sites and the costs of a service. Before logs are read it refuses what can't be joined or noted at their
     end, and says what long logs will likely need."""
     inputs, output = service_of(into, given), output_of(given, into)
@@ -207,7 +209,7 @@ def foreseen(regions: str, into: str | None, given: dict[str, Any], is_long: boo
     if given["unit"]:
         refuse_unit(inputs, named)
     if is_long or given["unit"]:
-        expect(outlook(inputs, named, into, desk))
+        expect(outlook(inputs, named, into, programs))
     return inputs
 
 
@@ -327,9 +329,9 @@ def with_forms(command: Command) -> Command:
 
 def refuse_own(logs: Sequence[str], regions: str, into: str | None, outputs: Sequence[str], given: Any) -> None:
     """Refuses outputs that are inputs, or one another, or in the place of another file of DIR."""
-    others = [it for kind, it in NAMES.items() if kind != "demand"] + [VALUES, TITLES]
-    beside = [path_in(into, it) for it in others] if into else []
-    own = [given[it] for it in ("settings", "values", "costs") if given[it]]
+    others = [name for kind, name in NAMES.items() if kind != "demand"] + [VALUES, TITLES]
+    beside = [path_in(into, name) for name in others] if into else []
+    own = [given[kind] for kind in ("settings", "values", "costs") if given[kind]]
     refuse_clashes([*logs, regions, *beside, *own], outputs)
 
 
@@ -358,17 +360,17 @@ def demand(logs: tuple[str, ...], regions: str, into: str | None, kept: str | No
     A LOG may be packed by gzip, bzip2 or xz; - is standard input. Its form is that of a handle server (server), of an
     HTTP proxy (proxy), JSON lines (json) or a table (csv). Without --into and -o the table is printed.
     """
-    desk = Desk()
+    programs = Programs()
     output = output_of(given, into)
-    refuse_own(logs, regions, into, [it for it in (output, kept) if it], given)
+    refuse_own(logs, regions, into, [own for own in (output, kept) if own], given)
     refuse_clashes([path_in(into, NAMES["demand"])] if into else [], [kept] if kept else [])
-    reading = Reading(form_of(given), regions_in(regions, given["by"], given["elsewhere"], desk), Judge(desk))
+    reading = Reading(form_of(given), regions_in(regions, given["by"], given["elsewhere"], programs), Judge(programs))
     if sys.stderr.isatty():
         gauge = Gauge(logs, 2 if given["busiest_hour"] else 1)
         reading.watch, reading.progress = gauge.watch, Progress(gauge).show
-    tally, is_long = Tally(desk), any(map(may_be_long, logs))
+    tally, is_long = Tally(programs), any(map(may_be_long, logs))
     expect(twice(logs))
-    inputs = foreseen(regions, into, given, is_long, desk)
+    inputs = foreseen(regions, into, given, is_long, programs)
     tally.joins_by(inputs)
     busiest = by_time(logs, reading, given)
     with together() as files:

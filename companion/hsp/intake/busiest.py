@@ -61,7 +61,7 @@ def busiest_hour(logs: Sequence[str], reading: Reading, span: Span) -> tuple[Spa
         counts.update(int(hour) for hour, _ in queries(path, first))
     if not counts:
         return span, first, ""
-    hour = min(counts, key=lambda it: (-counts[it], it))
+    hour = min(counts, key=lambda start: (-counts[start], start))
     found = Span(hour * HOUR, (hour + 1) * HOUR)
     share = f"{counts[hour]:,} of {some(counts.total(), 'query', 'queries')}"
     return found, first, f"busiest hour {shown_time(found.first)} to {shown_time(found.last)} UTC: {share}"

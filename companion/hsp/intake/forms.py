@@ -120,7 +120,7 @@ class Form:
         at = header.index(self.time)
 
         def clock(line: bytes) -> int | None:
-            row = [it.encode() for it in _row(line)] if b'"' in line else line.split(b",")
+            row = [field.encode() for field in _row(line)] if b'"' in line else line.split(b",")
             return seconds_of(row[at]) if at < len(row) else None
 
         return clock
@@ -196,7 +196,7 @@ class Form:
         client, handle, width = header.index(self.client), header.index(name), len(header)
 
         def take(line: bytes) -> Taken:
-            row = [it.encode() for it in _row(line)] if b'"' in line else line.split(b",")
+            row = [field.encode() for field in _row(line)] if b'"' in line else line.split(b",")
             if len(row) != width:
                 raise Odd
             return row[client], handles[row[handle]]
@@ -277,6 +277,6 @@ def fits(form: Form, lines: list[bytes]) -> int:
 
 def likeliest(forms: Iterable[Form], lines: list[bytes]) -> Form | None:
     """The form that most of these lines are of, the first one of several."""
-    found = [(fits(it, lines), it) for it in forms]
+    found = [(fits(form, lines), form) for form in forms]
     most = max((count for count, _ in found), default=0)
-    return next((it for count, it in found if count == most), None) if most else None
+    return next((form for count, form in found if count == most), None) if most else None

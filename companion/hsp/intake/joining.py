@@ -14,7 +14,7 @@ from hsp.base.bounds import whole
 from hsp.base.grammar import HEADERS
 from hsp.base.numbers import listed, some
 from hsp.base.paths import path_in
-from hsp.base.programs import Desk, Inputs, Refused, table_of
+from hsp.base.programs import Inputs, Programs, Refused, table_of
 from hsp.base.unfit import Unfit
 from hsp.intake.records import OPTIONS
 from hsp.intake.sitefiles import Found, tidy
@@ -26,23 +26,26 @@ CAPACITY_HEAD = HEADERS["capacity"]
 def block(found: Found) -> str:
     """The block of a site. Its comment says what its record holds."""
     site = found.site()
-    servers = ", ".join(f"{it.id} at {dotted(it.address)}" for it in site.servers)
+    servers = ", ".join(f"{server.id} at {dotted(server.address)}" for server in site.servers)
     option = OPTIONS[site.option] if site.option < len(OPTIONS) else f"option {site.option}"
     name = json.dumps(found.name)
     return f'[[site]]\n# by {option}; servers: {servers}\nname = {name}\nrecord = "{found.octets.hex()}"\n'
 
 
 def capacity_rows(found: Found, capacity: int) -> list[tuple[str, int, int]]:
-    return [(found.name, it.id, capacity) for it in found.site().servers]
+    return [(found.name, server.id, capacity) for server in found.site().servers]
 
 
 def lines_of(found: Found) -> list[str]:
     """What a site is called, what it hashes, and its servers with their addresses."""
     site = found.site()
     option = f"by {OPTIONS[site.option]}" if site.option < len(OPTIONS) else f"by the unknown option {site.option}"
-    wide = max((len(str(it.id)) for it in site.servers), default=0)
-    lines = [f"{it.id:>{wide}} at {dotted(it.address)}" for it in site.servers]
-    return [f"{found.name}  {some(len(lines), 'server')} {option}, from {found.file}", *(f"    {it}" for it in lines)]
+    wide = max((len(str(server.id)) for server in site.servers), default=0)
+    lines = [f"{server.id:>{wide}} at {dotted(server.address)}" for server in site.servers]
+    return [
+        f"{found.name}  {some(len(lines), 'server')} {option}, from {found.file}",
+        *(f"    {line}" for line in lines),
+    ]
 
 
 def _octets(path: str) -> bytes:
@@ -68,9 +71,9 @@ def _settings_in(path: str, octets: bytes) -> list[tuple[str, str | None]]:
     except (tomllib.TOMLDecodeError, UnicodeDecodeError, RecursionError) as error:
         raise Unfit(f"{path}: not TOML: {error}") from None
     sites = said.get("site", [])
-    if not isinstance(sites, list) or not all(isinstance(it, dict) for it in sites):
+    if not isinstance(sites, list) or not all(isinstance(site, dict) for site in sites):
         raise Unfit(f"{path}: site isn't a list of tables; each site begins with [[site]]")
-    return [(str(it.get("name")), str(it["record"]).lower() if "record" in it else None) for it in sites]
+    return [(str(site.get("name")), str(site["record"]).lower() if "record" in site else None) for site in sites]
 
 
 def _servers_in(path: str, octets: bytes) -> set[tuple[str, str]]:
@@ -81,44 +84,44 @@ def _servers_in(path: str, octets: bytes) -> set[tuple[str, str]]:
         raise Unfit(f"{path}: not a table: {error}") from None
     if rows and rows[0] != CAPACITY_HEAD.split(","):
         raise Unfit(f"{path}: line 1: the header isn't {CAPACITY_HEAD}")
-    return {(it[0], it[1]) for it in rows[1:] if len(it) == 3}
+    return {(row[0], row[1]) for row in rows[1:] if len(row) == 3}
 
 
-def joined(folder: str, sites: list[Found], capacity: int, desk: Desk) -> Joined:
+def joined(folder: str, sites: list[Found], capacity: int, programs: Programs) -> Joined:
     """Adds sites to the texts of a folder's settings and capacities. hsplan reads back what comes out."""
-    settings, capacities = (path_in(folder, NAMES[it]) for it in ("settings", "capacity"))
+    settings, capacities = (path_in(folder, NAMES[kind]) for kind in ("settings", "capacity"))
     texts = {path: _octets(path) for path in (settings, capacities)}
     before = _settings_in(settings, texts[settings])
     there = dict(before)
     result = Joined(texts)
-    for it in sites:
-        if it.octets.hex() in there.values():
-            result.known.append(it)
-        elif it.name in there:
+    for site in sites:
+        if site.octets.hex() in there.values():
+            result.known.append(site)
+        elif site.name in there:
             raise Unfit(
-                f"{settings}: {it.name} is there with another record; take it out, or name this one by --name"
+                f"{settings}: {site.name} is there with another record; take it out, or name this one by --name"
             )
         else:
-            there[it.name] = it.octets.hex()
-            result.added.append(it)
+            there[site.name] = site.octets.hex()
+            result.added.append(site)
     taken = _servers_in(capacities, texts[capacities])
-    rows = [row for it in result.added for row in capacity_rows(it, capacity)]
-    fresh = table_of(CAPACITY_HEAD, (it for it in rows if (it[0], str(it[1])) not in taken)).encode()
+    rows = [row for site in result.added for row in capacity_rows(site, capacity)]
+    fresh = table_of(CAPACITY_HEAD, (fields for fields in rows if (fields[0], str(fields[1])) not in taken)).encode()
     texts[capacities] += fresh.partition(b"\n")[2] if texts[capacities] else fresh
     gap = b"\n" if texts[settings] else b""
-    texts[settings] += gap + "\n".join(block(it) for it in result.added).encode() if result.added else b""
+    texts[settings] += gap + "\n".join(block(site) for site in result.added).encode() if result.added else b""
     values = os.path.join(folder, VALUES)
-    read_back(texts[settings], len(before), result.added, desk, values if os.path.isfile(values) else None)
+    read_back(texts[settings], len(before), result.added, programs, values if os.path.isfile(values) else None)
     return result
 
 
 def refusal(own: Found, fault: Refused) -> str:
     """Why hsplan refuses a site that is added, and what to do."""
     says = f"hsplan refuses {ascii(own.name)}: {fault.line}"
-    ids = [it.id for it in own.site().servers]
-    twins = [it for it in ids if ids.count(it) > 1]
+    ids = [server.id for server in own.site().servers]
+    twins = [identifier for identifier in ids if ids.count(identifier) > 1]
     if "ServerIdTwice" in fault.line and twins:
-        places = [at for at, it in enumerate(ids) if it == twins[0]]
+        places = [at for at, identifier in enumerate(ids) if identifier == twins[0]]
         entries, remedy = [f"server {at + 1} of its record" for at in places], "ask for the site's record anew"
         if own.servers:
             entries = [f"{own.servers}[{at}].serverId" for at in places]
@@ -129,22 +132,24 @@ def refusal(own: Found, fault: Refused) -> str:
     return f"{own.file}: {says}{remedy}"
 
 
-def read_back(settings: bytes, before: int, added: list[Found], desk: Desk, values: str | None = None) -> None:
+def read_back(
+    settings: bytes, before: int, added: list[Found], programs: Programs, values: str | None = None
+) -> None:
     """Compares the sites that were added behind others with what hsplan reads from the settings."""
-    inputs = Inputs(desk.put(settings, ".toml"), "", "", "", values)
+    inputs = Inputs(programs.put(settings, ".toml"), "", "", "", values)
     try:
-        desk.places(inputs, ["0.NA/0"])
+        programs.places(inputs, ["0.NA/0"])
     except Refused as fault:
         match = re.search(r" site ([0-9]+)", fault.line)
         number = int(match[1]) - before if match else -1
         if not 0 <= number < len(added):
             raise
         raise Unfit(refusal(added[number], fault)) from None
-    read = {it.name: it for it in sites_of(desk, inputs, tomllib.loads(settings.decode("utf-8-sig")))}
-    for it in added:
-        wanted, found = it.site(), read[it.name]
+    read = {site.name: site for site in sites_of(programs, inputs, tomllib.loads(settings.decode("utf-8-sig")))}
+    for own in added:
+        wanted, found = own.site(), read[own.name]
         same = [(a.id, a.address) for a in wanted.servers] == [(a.id, a.address) for a in found.servers]
         if not same or wanted.option != found.option:
             raise Unfit(
-                f"{it.file}: hsplan reads {it.name} otherwise from the settings: please report this with the file"
+                f"{own.file}: hsplan reads {own.name} otherwise from the settings: please report this with the file"
             )

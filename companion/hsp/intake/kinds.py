@@ -23,15 +23,15 @@ def most_of_region(sites: Iterable[Site]) -> int:
     hash parts of a handle that vary by themselves.
     """
     periods: dict[int, int] = defaultdict(lambda: 1)
-    for it in sites:
-        periods[it.option] = math.lcm(periods[it.option], len(it.servers))
+    for site in sites:
+        periods[site.option] = math.lcm(periods[site.option], len(site.servers))
     return math.prod(periods.values())
 
 
 def most_kinds(sites: list[Site], costs: Costs) -> dict[str, int]:
     """The most kinds of each region that may use a site."""
     return {
-        region: most_of_region(it for it in sites if it.name in own)
+        region: most_of_region(site for site in sites if site.name in own)
         for region, own in costs.items()
-        if any(it.name in own for it in sites)
+        if any(site.name in own for site in sites)
     }

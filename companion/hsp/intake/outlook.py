@@ -10,7 +10,7 @@ from collections import defaultdict
 from collections.abc import Iterator, Sequence
 
 from hsp.base.numbers import listed
-from hsp.base.programs import Desk, Inputs, Refused
+from hsp.base.programs import Inputs, Programs, Refused
 from hsp.base.unfit import Unfit
 from hsp.intake.kinds import MOST_KINDS, Costs, most_kinds
 from hsp.plans.service import NAMES, Site, sites_of, table
@@ -32,12 +32,12 @@ def costs_in(path: str) -> Costs:
     return found
 
 
-def sites_in(inputs: Inputs, desk: Desk) -> list[Site]:
+def sites_in(inputs: Inputs, programs: Programs) -> list[Site]:
     """The sites of the settings; none where hsplan refuses them, which it says where it needs them."""
     try:
         with open(inputs.settings, "rb") as file:
             settings = tomllib.loads(file.read().decode("utf-8-sig"))
-        return sites_of(desk, inputs, settings)
+        return sites_of(programs, inputs, settings)
     except (tomllib.TOMLDecodeError, UnicodeDecodeError, Refused, KeyError, TypeError, ValueError, AttributeError):
         return []
 
@@ -57,7 +57,7 @@ def _sum(sites: list[Site], costs: Costs) -> int:
 
 def _cheapest(costs: Costs, most: int) -> Costs:
     """The costs of only so many sites of each region, the cheapest ones."""
-    return {region: dict(sorted(own.items(), key=lambda it: it[1])[:most]) for region, own in costs.items()}
+    return {region: dict(sorted(own.items(), key=lambda pair: pair[1])[:most]) for region, own in costs.items()}
 
 
 def _without(site: str, costs: Costs) -> Costs | None:
@@ -70,11 +70,11 @@ def fewer(sites: list[Site], costs: Costs) -> Iterator[str]:
     """What brings most kinds, and how many there are without it."""
     kinds = most_kinds(sites, costs)
     whole = sum(kinds.values())
-    region = max(kinds, key=lambda it: kinds[it])
+    region = max(kinds, key=lambda name: kinds[name])
     if len(kinds) > 1:
         yield f"{whole - kinds[region]:,} remain without region {region}, which brings most"
-    rests = {it.name: _sum(sites, rest) for it in sites if (rest := _without(it.name, costs)) is not None}
-    site = min(rests, key=lambda it: rests[it], default="")
+    rests = {own.name: _sum(sites, rest) for own in sites if (rest := _without(own.name, costs)) is not None}
+    site = min(rests, key=lambda name: rests[name], default="")
     if site and rests[site] < whole:
         yield f"{rests[site]:,} remain without costs to {site}, the site that brings most"
     for most in range(max(map(len, costs.values())) - 1, 0, -1):
@@ -84,7 +84,7 @@ def fewer(sites: list[Site], costs: Costs) -> Iterator[str]:
             return
 
 
-def too_many(inputs: Inputs, desk: Desk, regions: Sequence[str] | None = None) -> str:
+def too_many(inputs: Inputs, programs: Programs, regions: Sequence[str] | None = None) -> str:
     """Says that a service can have more kinds than hsplan takes, and what brings them; nothing where it can't.
 
     Only the given regions count, where they are known.
@@ -92,7 +92,7 @@ def too_many(inputs: Inputs, desk: Desk, regions: Sequence[str] | None = None) -
     costs = costs_in(inputs.costs)
     if regions is not None:
         costs = {region: costs[region] for region in regions if region in costs}
-    sites = sites_in(inputs, desk)
+    sites = sites_in(inputs, programs)
     whole = _sum(sites, costs)
     if whole <= MOST_KINDS:
         return ""
@@ -109,7 +109,7 @@ def refuse_unit(inputs: Inputs | None, regions: Sequence[str]) -> None:
         raise Unfit(f"{lacking}. Put in the costs first: --unit joins rows by kinds")
 
 
-def outlook(inputs: Inputs | None, regions: Sequence[str], folder: str | None, desk: Desk) -> list[str]:
+def outlook(inputs: Inputs | None, regions: Sequence[str], folder: str | None, programs: Programs) -> list[str]:
     """What is lacking for a demand that has to be joined, where that is known before it is counted."""
     if not inputs:
         needed = f"{NAMES['settings']} and {NAMES['costs']}"
@@ -123,5 +123,5 @@ def outlook(inputs: Inputs | None, regions: Sequence[str], folder: str | None, d
             f"{inputs.costs} has no cost yet of {listed(lacking)}; "
             f"a demand of more than {MOST_KINDS:,} rows needs the costs first"
         )
-    many = too_many(inputs, desk, regions or None)
+    many = too_many(inputs, programs, regions or None)
     return [*lines, many] if many else lines

@@ -31,16 +31,16 @@ class Prefixes:
             self._first.setdefault(prefix, handle[:MOST_SHOWN])
             if len(self._counts) > MOST_PREFIXES:
                 self._counts = Counter(dict(self._counts.most_common(MOST_PREFIXES // 2)))
-                self._first = {it: self._first[it] for it in self._counts}
+                self._first = {own: self._first[own] for own in self._counts}
 
     def lines(self) -> list[str]:
         """The rare prefixes where others aren't rare, and how only the wanted ones are counted."""
         least = RARE * self._counts.total()
-        common = [it for it, count in self._counts.most_common() if count >= least]
-        rare = [(it, count) for it, count in self._counts.most_common() if count < least]
+        common = [own for own, count in self._counts.most_common() if count >= least]
+        rare = [(own, count) for own, count in self._counts.most_common() if count < least]
         if not common or not rare:
             return []
-        options = [f"--prefix {shell_word(it.decode('utf-8', 'replace'))}" for it in common]
+        options = [f"--prefix {shell_word(own.decode('utf-8', 'replace'))}" for own in common]
         remedy = " ".join(options) if len(options) <= 3 else f"--prefix for each of yours, as {options[0]}"
         words = "a prefix has" if len(rare) == 1 else f"{len(rare):,} prefixes have each"
         lines = [f"{words} less than 1% of the queries; where these are no handles of yours, give {remedy}"]

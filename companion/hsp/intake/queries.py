@@ -12,7 +12,7 @@ from dataclasses import dataclass, field, replace
 
 from hsp.base.bounds import Query
 from hsp.base.grammar import LOG_HEAD
-from hsp.base.programs import Desk
+from hsp.base.programs import Programs
 from hsp.base.unfit import Unfit
 from hsp.intake.forms import NAMES, ODD, Clock, Form, Odd, Remembered, Take, likeliest
 from hsp.intake.logs import Skipped, Watch, numbered
@@ -40,8 +40,8 @@ def field_of(octets: bytes) -> bytes:
 class Judge:
     """What hsplan says of handles. It is asked once for each while that is remembered."""
 
-    def __init__(self, desk: Desk, most: int = 1 << 26) -> None:
-        self._desk, self._most, self._octets = desk, most, 0
+    def __init__(self, programs: Programs, most: int = 1 << 26) -> None:
+        self._programs, self._most, self._octets = programs, most, 0
         self._known: set[bytes] = set()
         self._faults: dict[bytes, str] = {}
 
@@ -54,14 +54,14 @@ class Judge:
             self._octets = 0
         fresh = list(asked - self._known)
         if fresh:
-            log = LOG_HEAD + b"".join(b"any,%b\n" % field_of(it) for it in fresh)
-            for handle, answer in zip(fresh, self._desk.answers_without_sites(log, len(fresh))):
+            log = LOG_HEAD + b"".join(b"any,%b\n" % field_of(field) for field in fresh)
+            for handle, answer in zip(fresh, self._programs.answers_without_sites(log, len(fresh))):
                 if answer.startswith(REFUSED):
                     why = answer.removeprefix(REFUSED).removeprefix(BAD_HANDLE)
                     self._faults[handle] = f"not a handle ({why})"
             self._known.update(fresh)
             self._octets += sum(map(len, fresh)) + BESIDE * len(fresh)
-        return {it: self._faults[it] for it in asked & self._faults.keys()} if self._faults else {}
+        return {own: self._faults[own] for own in asked & self._faults.keys()} if self._faults else {}
 
 
 @dataclass
@@ -81,10 +81,10 @@ class Reading:
 
 def _taker(path: str, form: Form, first: list[tuple[int, bytes]]) -> tuple[Form, Take]:
     """How the lines of a log are taken, by its first lines where no form is named."""
-    lines = [it for _, it in first]
+    lines = [line for _, line in first]
     chosen: Form | None = form
     if form.name == "auto" and not form.pattern:
-        chosen = likeliest((replace(form, name=it) for it in NAMES), lines)
+        chosen = likeliest((replace(form, name=name) for name in NAMES), lines)
         if not chosen:
             raise Unfit(f"{path}: line {first[0][0]}: a log of no known form; {NAME_IT}")
     assert chosen

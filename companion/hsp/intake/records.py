@@ -38,7 +38,7 @@ class ServerRecord:
     interfaces: tuple[Interface, ...]
 
     def octets(self) -> bytes:
-        interfaces = b"".join(it.octets() for it in self.interfaces)
+        interfaces = b"".join(interface.octets() for interface in self.interfaces)
         return whole(self.id, 4) + self.address + counted(self.key) + whole(len(self.interfaces), 4) + interfaces
 
 
@@ -58,7 +58,7 @@ class SiteRecord:
     def octets(self) -> bytes:
         head = whole(self.version, 2) + bytes(self.protocol) + whole(self.serial, 2) + bytes([self.mask, self.option])
         attributes = b"".join(counted(name) + counted(value) for name, value in self.attributes)
-        servers = b"".join(it.octets() for it in self.servers)
+        servers = b"".join(server.octets() for server in self.servers)
         counts = [counted(self.filter), whole(len(self.attributes), 4) + attributes]
         return b"".join([head, *counts, whole(len(self.servers), 4), servers])
 
@@ -74,6 +74,8 @@ class SiteRecord:
             f"attributes {len(self.attributes)}",
             f"servers {len(self.servers)}",
         ]
-        for place, it in enumerate(self.servers):
-            lines.append(f"server {place} {it.id} {it.address.hex()} {len(it.key)} {len(it.interfaces)}")
+        for place, server in enumerate(self.servers):
+            lines.append(
+                f"server {place} {server.id} {server.address.hex()} {len(server.key)} {len(server.interfaces)}"
+            )
         return "".join(f"{line}\n" for line in lines)

@@ -17,7 +17,7 @@ from typing import Any
 from hsp.base.bounds import whole
 from hsp.base.grammar import HEADERS, LONGEST_NAME
 from hsp.base.numbers import some
-from hsp.base.programs import Desk, Missing, Refused, table_of
+from hsp.base.programs import Missing, Programs, Refused, table_of
 from hsp.base.unfit import Unfit, shown
 
 # The region of an address, or the reason why it has none.
@@ -90,12 +90,12 @@ class Networks:
             other = found[family].setdefault((first, prefix), region)
             if other != region:
                 rows = self._rows(path, octets)
-                above = next(at for at, it, _ in rows if _network(path, at, it) == (family, first, prefix))
+                above = next(at for at, begin, _ in rows if _network(path, at, begin) == (family, first, prefix))
                 both = f"{shown(region.decode())} here and {shown(other.decode())} in line {above}"
                 raise Unfit(f"{path}: line {line}: {network} has two regions, {both}; take one of the lines out")
         self._ranges = {
-            family: ranges(((*key, region) for key, region in it.items()), BITS[family])
-            for family, it in found.items()
+            family: ranges(((*key, region) for key, region in networks.items()), BITS[family])
+            for family, networks in found.items()
         }
 
     @staticmethod
@@ -213,13 +213,13 @@ def named_in(path: str, elsewhere: str | None) -> list[str]:
     return [*names, *([elsewhere] if elsewhere and elsewhere not in names else [])]
 
 
-def named(places: dict[str, str], desk: Desk) -> None:
+def named(places: dict[str, str], programs: Programs) -> None:
     """Refuses a region whose name hsplan refuses. Each has the place where it stands."""
     names = list(places)
     for at in range(0, len(names), AT_ONCE):
-        rows = ([it, "10/1", 1] for it in names[at : at + AT_ONCE])
+        rows = ([own, "10/1", 1] for own in names[at : at + AT_ONCE])
         try:
-            desk.plan(desk.without_sites(os.fsencode(table_of(HEADERS["demand"], rows))))
+            programs.plan(programs.without_sites(os.fsencode(table_of(HEADERS["demand"], rows))))
         except Refused as fault:
             said = re.fullmatch(r"demand: (.*) row ([0-9]+)", fault.line)
             if not said:
@@ -236,14 +236,14 @@ def _base(path: str, by: str, own: bytes | None) -> Database | Networks:
     return Database(path, by, own) if DATABASE_MARK in octets[-TAIL:] else Networks(path, octets, own)
 
 
-def regions_in(path: str, by: str, elsewhere: str | None, desk: Desk | None = None) -> Seek:
-    """How regions are found by a file: a table of networks or a database. A desk asks hsplan for their names."""
+def regions_in(path: str, by: str, elsewhere: str | None, programs: Programs | None = None) -> Seek:
+    """How regions are found by a file: a table of networks or a database. hsplan is asked for their names."""
     found = _base(path, by, os.fsencode(elsewhere) if elsewhere else None)
     places = {elsewhere: "--elsewhere"} if elsewhere else {}
     if isinstance(found, Networks):
         places |= {name: f"{path}: line {line}" for name, line in found.names.items()}
-    if desk:
-        named(places, desk)
+    if programs:
+        named(places, programs)
     return found.seek
 
 

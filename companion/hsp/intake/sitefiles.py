@@ -15,7 +15,7 @@ from dataclasses import dataclass
 from typing import Any
 
 from hsp.base.grammar import NAME_SIGNS
-from hsp.base.programs import Desk, Refused
+from hsp.base.programs import Programs, Refused
 from hsp.base.unfit import Unfit, shown
 from hsp.intake.records import counted
 from hsp.intake.sitejson import Notes, Part, from_base64, record_of
@@ -50,8 +50,8 @@ class Found:
 class Files:
     """Reads files. Remembers what was left out, and gives each site a name of its own."""
 
-    def __init__(self, desk: Desk) -> None:
-        self.desk = desk
+    def __init__(self, programs: Programs) -> None:
+        self.programs = programs
         self.left: list[str] = []
         self.taken: list[str] = []
         self._names: set[str] = set()
@@ -77,8 +77,8 @@ class Files:
         if text[:1] == b"<":
             raise Unfit(f"{notes.file}: a page, not JSON; ask the proxy for /api/handles/HANDLE?type=HS_SITE")
         held = [octets, *_unwritten(text)]
-        for it in held:
-            sites = self._of_octets(notes.file, it)
+        for item in held:
+            sites = self._of_octets(notes.file, item)
             if sites:
                 yield from sites
                 return
@@ -88,14 +88,14 @@ class Files:
 
     def _fields(self, octets: bytes) -> str | None:
         try:
-            return self.desk.site(octets)
+            return self.programs.site(octets)
         except Refused:
             return None
 
     def _why(self, octets: bytes) -> str:
         """What hsplan says of octets that are no record."""
         try:
-            return self.desk.site(octets)
+            return self.programs.site(octets)
         except Refused as fault:
             return f"hsplan says {fault.line.removeprefix('site: ')}"
 
@@ -108,7 +108,7 @@ class Files:
 
     def _of_list(self, file: str, octets: bytes) -> Iterator[Found]:
         """The sites of a value list. Octets that look like a site are one where hsplan finds it by its index."""
-        path = self.desk.put(octets, ".values") if MARKER in octets else ""
+        path = self.programs.put(octets, ".values") if MARKER in octets else ""
         room = MOST_TRIED * len(octets)
         for match in itertools.islice(re.finditer(re.escape(MARKER), octets), MOST_VALUES):
             index = int.from_bytes(octets[max(0, match.start() - 4) : match.start()], "big")
@@ -122,7 +122,7 @@ class Files:
                 return
             fields = self._fields(record)
             try:
-                same = fields is not None and self.desk.site_of_value(path, index) == fields
+                same = fields is not None and self.programs.site_of_value(path, index) == fields
             except Refused:
                 continue
             if same and fields:
@@ -131,8 +131,8 @@ class Files:
     def _of_json(self, notes: Notes, part: Part) -> Iterator[Found]:
         """The sites of a handle's values, of one value, or of a server's own file; or those of a list of these."""
         if isinstance(part.value, list):
-            for it in part.items():
-                yield from self._of_json(notes, it)
+            for inner in part.items():
+                yield from self._of_json(notes, inner)
             return
         said = part.fields()
         if "servers" in said:
@@ -151,14 +151,14 @@ class Files:
             why = " (no such handle)" if code == NO_SUCH_HANDLE else ""
             raise part.unfit(f"the proxy answered with the code {shown(code)}{why}, so no site is in it")
         values = list(said["values"].items()) if "values" in said else []
-        kinds = sorted({str(it.fields()["type"].value) for it in values if "type" in it.fields()})
+        kinds = sorted({str(value.fields()["type"].value) for value in values if "type" in value.fields()})
         if not set(kinds) & set(KINDS):
             has = f"its values are of the types {', '.join(map(ascii, kinds))}" if kinds else "it has no values"
             raise part.unfit(
                 f"no value of the type HS_SITE: {has}. Ask for the prefix (0.NA/..), or for the handle in its HS_SERV"
             )
-        for it in values:
-            yield from self._of_value(notes, it)
+        for own in values:
+            yield from self._of_value(notes, own)
 
     def _of_value(self, notes: Notes, part: Part) -> Iterator[Found]:
         """The site of a value. A value of another type is left out."""
@@ -170,7 +170,7 @@ class Files:
         if "data" not in said:
             raise part.unfit("no data")
         data = said["data"].fields()
-        form, value = (data.get(it) for it in ("format", "value"))
+        form, value = (data.get(name) for name in ("format", "value"))
         index = said["index"].value if "index" in said else None
         if value and isinstance(value.value, dict):
             yield self._made(notes, value, index)
@@ -196,7 +196,7 @@ class Files:
         """The site of a record that is made of JSON."""
         record = record_of(part)
         try:
-            fields = self.desk.site(record.octets())
+            fields = self.programs.site(record.octets())
         except Refused as fault:
             raise part.unfit(f"hsplan refuses its record: {fault.line}") from None
         if fields != record.fields():
@@ -235,7 +235,7 @@ def _object(pairs: list[tuple[str, Any]]) -> dict[str, Any]:
     found = dict(pairs)
     if len(found) < len(pairs):
         keys = [key for key, _ in pairs]
-        raise _Twice(next(it for it in keys if keys.count(it) > 1))
+        raise _Twice(next(name for name in keys if keys.count(name) > 1))
     return found
 
 

@@ -58,7 +58,9 @@ class Part:
         for key in self.value:
             if known and key not in known:
                 self.notes.leave(self.below(key), "not a field of a record")
-        return {key: Part(it, self.below(key), self.notes) for key, it in self.value.items() if it is not None}
+        return {
+            key: Part(value, self.below(key), self.notes) for key, value in self.value.items() if value is not None
+        }
 
     def below(self, key: str) -> str:
         """The path of a field."""
@@ -67,8 +69,8 @@ class Part:
     def items(self) -> Iterator[Part]:
         if not isinstance(self.value, list):
             raise self.unfit(f"{shown(self.value)} isn't a list")
-        for at, it in enumerate(self.value):
-            yield Part(it, f"{self.path}[{at}]", self.notes)
+        for at, value in enumerate(self.value):
+            yield Part(value, f"{self.path}[{at}]", self.notes)
 
     def number(self, octets: int) -> int:
         """A whole number that so many octets hold."""
@@ -110,7 +112,7 @@ def key_of_web_key(key: dict[str, Any]) -> bytes:
     names = {"RSA": ("e", "n"), "DSA": ("q", "p", "g", "y")}.get(kind if isinstance(kind, str) else "")
     if not names:
         raise ValueError(f"a key of the kind {shown(kind)} has no known record")
-    numbers = b"".join(counted(_number_of(key.get(it))) for it in names)
+    numbers = b"".join(counted(_number_of(key.get(name))) for name in names)
     return counted(f"{kind}_PUB_KEY".encode()) + whole(0, 2) + numbers
 
 
@@ -155,7 +157,7 @@ def interface_of(part: Part) -> Interface | None:
         part.notes.leave(part.path, f"the protocol {shown(protocol.value)} has no known number")
         return None
     number = PROTOCOLS[name] if name in PROTOCOLS else protocol.number(1)
-    admin, query = (it in said and said[it].flag() for it in ("admin", "query"))
+    admin, query = (word in said and said[word].flag() for word in ("admin", "query"))
     return Interface(
         admin * ADMINISTRATION + query * RESOLUTION, number, said["port"].number(4) if "port" in said else 0
     )
@@ -166,9 +168,9 @@ def server_of(part: Part) -> ServerRecord:
     for name in ("serverId", "address"):
         if name not in said:
             raise part.unfit(f"no {name}")
-    interfaces = [interface_of(it) for it in said["interfaces"].items()] if "interfaces" in said else []
+    interfaces = [interface_of(interface) for interface in said["interfaces"].items()] if "interfaces" in said else []
     key = key_of(said["publicKey"]) if "publicKey" in said else b""
-    held = tuple(it for it in interfaces if it)
+    held = tuple(interface for interface in interfaces if interface)
     return ServerRecord(said["serverId"].number(4), address_of(said["address"]), key, held)
 
 
@@ -192,7 +194,7 @@ def protocol_of(part: Part) -> tuple[int, int]:
 
 def attribute_of(part: Part) -> tuple[bytes, bytes]:
     said = part.fields("name", "value")
-    name, value = (said[it].text() if it in said else b"" for it in ("name", "value"))
+    name, value = (said[word].text() if word in said else b"" for word in ("name", "value"))
     return name, value
 
 
@@ -203,7 +205,7 @@ def record_of(part: Part) -> SiteRecord:
         raise part.unfit("no servers")
     if "hashOption" not in said:
         part.notes.taken.append(f"{part.notes.at(part.path)}: no hashOption, taken for the whole handle")
-    primary, multi = (it in said and said[it].flag() for it in ("primarySite", "multiPrimary"))
+    primary, multi = (word in said and said[word].flag() for word in ("primarySite", "multiPrimary"))
     return SiteRecord(
         version=said["version"].number(2) if "version" in said else 1,
         protocol=protocol_of(said["protocolVersion"]) if "protocolVersion" in said else (2, 10),
@@ -211,6 +213,8 @@ def record_of(part: Part) -> SiteRecord:
         mask=primary * PRIMARY + multi * MULTI_PRIMARY,
         option=option_of(said["hashOption"]) if "hashOption" in said else WHOLE_HANDLE,
         filter=said["hashFilter"].text() if "hashFilter" in said else b"",
-        attributes=tuple(attribute_of(it) for it in said["attributes"].items()) if "attributes" in said else (),
-        servers=tuple(server_of(it) for it in said["servers"].items()),
+        attributes=tuple(attribute_of(attribute) for attribute in said["attributes"].items())
+        if "attributes" in said
+        else (),
+        servers=tuple(server_of(server) for server in said["servers"].items()),
     )

@@ -45,8 +45,8 @@ def empty() -> dict[str, str]:
 def _record(addresses: list[str]) -> bytes:
     """The record of a site that hashes the whole handle, with servers 1, 2 and so on."""
     interfaces = (Interface(BOTH, 0, PORT), Interface(BOTH, 1, PORT))
-    octets = [ipaddress.ip_address(it).packed.rjust(16, b"\0") for it in addresses]
-    servers = tuple(ServerRecord(at, it, b"", interfaces) for at, it in enumerate(octets, 1))
+    octets = [ipaddress.ip_address(address).packed.rjust(16, b"\0") for address in addresses]
+    servers = tuple(ServerRecord(at, address, b"", interfaces) for at, address in enumerate(octets, 1))
     return SiteRecord(1, (2, 11), 1, 0, 2, b"", (), servers).octets()
 
 
@@ -56,9 +56,9 @@ def example() -> dict[str, str]:
         f'[[site]]\n# {", ".join(room)}\nname = "{name}"\nrecord = "{_record(list(room)).hex()}"\n'
         for name, room in SITES.items()
     ]
-    demand = [(region, handle, count) for region, it in ASKED.items() for handle, count in zip(HANDLES, it)]
-    costs = [(region, site, cost) for region, it in COSTS.items() for site, cost in it.items()]
-    rooms = [(name, at, room) for name, it in SITES.items() for at, room in enumerate(it.values(), 1)]
+    demand = [(region, handle, count) for region, counts in ASKED.items() for handle, count in zip(HANDLES, counts)]
+    costs = [(region, site, cost) for region, prices in COSTS.items() for site, cost in prices.items()]
+    rooms = [(name, at, room) for name, servers in SITES.items() for at, room in enumerate(servers.values(), 1)]
     tables: dict[str, Sequence[tuple[object, ...]]] = {"demand": demand, "costs": costs, "capacity": rooms}
     titles = 'title = "An example"\ncost = "ms"\ntime = "the busiest hour"\n'
     return {

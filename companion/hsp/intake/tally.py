@@ -14,7 +14,7 @@ from collections.abc import Callable, Iterable, Iterator
 from hsp.base.bounds import MOST_HELD, Query, pieces, weight
 from hsp.base.grammar import GREATEST_COUNT, GREATEST_UNIT, HEADERS, MOST_DEMAND_ROWS, MOST_REGIONS
 from hsp.base.numbers import listed, some
-from hsp.base.programs import Desk, Inputs, Refused
+from hsp.base.programs import Inputs, Programs, Refused
 from hsp.base.unfit import Unfit
 from hsp.intake.outlook import too_many
 from hsp.intake.prefixes import Prefixes
@@ -39,14 +39,14 @@ def rows_of(counts: Iterable[tuple[Query, int]]) -> Iterator[bytes]:
 
 def _most_first(counts: Counter[Query]) -> list[tuple[Query, int]]:
     """Those with the most queries first, so that the same counts have the same table."""
-    return sorted(counts.items(), key=lambda it: (-it[1], it[0]))
+    return sorted(counts.items(), key=lambda pair: (-pair[1], pair[0]))
 
 
 class Tally:
     """How often each region asks for each handle."""
 
-    def __init__(self, desk: Desk, most: int = MOST_PAIRS) -> None:
-        self._desk, self._most = desk, most
+    def __init__(self, programs: Programs, most: int = MOST_PAIRS) -> None:
+        self._programs, self._most = programs, most
         self._counts: Counter[Query] = Counter()
         self._octets = 0
         self._spilled: str | None = None
@@ -87,8 +87,8 @@ class Tally:
         """Puts the counts into a file in their order, since a table is a log of `kinds`."""
         self.regions.update(region for region, _ in self._counts)
         self.prefixes.add(self._counts)
-        self._spilled = self._spilled or self._desk.put(HEADER, ".csv")
-        self._desk.add(self._spilled, rows_of(self._counts.items()))
+        self._spilled = self._spilled or self._programs.put(HEADER, ".csv")
+        self._programs.add(self._spilled, rows_of(self._counts.items()))
         self._counts.clear()
         self._octets = 0
 
@@ -106,9 +106,9 @@ class Tally:
         service = self._can_join(inputs)
         self._spill()
         try:
-            joined = self._desk.kinds(service, self._spilled or "", unit).encode()
+            joined = self._programs.kinds(service, self._spilled or "", unit).encode()
         except Refused as fault:
-            raise Unfit(advice(fault, service, self._desk)) from None
+            raise Unfit(advice(fault, service, self._programs)) from None
         self._accepted(joined)
         return joined, True
 
@@ -136,12 +136,12 @@ class Tally:
             paying = {row[0].encode() for row in table(inputs.costs)}
         except (csv.Error, UnicodeDecodeError) as error:
             raise Unfit(f"{inputs.costs}: not a table: {error}") from None
-        return sorted(it.decode("utf-8", "replace") for it in self.regions - paying)
+        return sorted(region.decode("utf-8", "replace") for region in self.regions - paying)
 
     def _accepted(self, demand: bytes) -> None:
         """Has hsplan read a table of demand before it is written."""
         try:
-            self._desk.plan(self._desk.without_sites(demand))
+            self._programs.plan(self._programs.without_sites(demand))
         except Refused as fault:
             row = re.search(r"row ([0-9]+)", fault.line)
             line = demand.split(b"\n")[int(row[1]) + 1] if row else b""
@@ -155,12 +155,12 @@ def _remedy(fault: Refused) -> str:
     return f"; {found}" if found else ""
 
 
-def advice(fault: Refused, inputs: Inputs, desk: Desk) -> str:
+def advice(fault: Refused, inputs: Inputs, programs: Programs) -> str:
     """What an operator does where rows can't be joined."""
     unit = re.search(r"CountTooLarge.* unit ([0-9]+)", fault.line)
     if unit:
         fits = int(unit[1]) <= GREATEST_UNIT
         remedy = f"give --unit {unit[1]}" if fits else "no unit suffices: count the logs in parts"
         return f"a row of the demand has more than {GREATEST_COUNT:,} queries; {remedy}"
-    many = too_many(inputs, desk) if "TooManyKinds" in fault.line else ""
+    many = too_many(inputs, programs) if "TooManyKinds" in fault.line else ""
     return f"hsplan-stream can't join the rows: {fault.line}{'; ' + many if many else _remedy(fault)}"

@@ -7,7 +7,7 @@ import shlex
 from dataclasses import replace
 
 from hsp.base.paths import named, path_in
-from hsp.base.programs import Desk, Inputs
+from hsp.base.programs import Inputs, Programs
 from hsp.plans.service import Service
 
 # The inputs in the units of a demand, as they are kept beside its plan.
@@ -17,7 +17,7 @@ CAPACITY, SETTINGS = "capacity-in-units.csv", "settings-in-units.toml"
 def answer_command(inputs: Inputs, plan: str, unit: int, log: str = "/dev/stdin") -> str:
     """The command that answers a log by a plan. The inputs are those in units."""
     words = [*inputs.words(), "--plan", plan, *(["--unit", str(unit)] if unit > 1 else []), "--log", log]
-    shown = [it if it.startswith("--") else shlex.quote(named(it)) for it in words]
+    shown = [word if word.startswith("--") else shlex.quote(named(word)) for word in words]
     return " ".join(["hsplan-stream", "answer", *shown])
 
 
@@ -27,9 +27,9 @@ def kept_beside(plan: str, inputs: Inputs) -> Inputs:
     return replace(inputs, capacity=path_in(folder, CAPACITY), settings=path_in(folder, SETTINGS), unit=1)
 
 
-def in_units(service: Service, desk: Desk, plan: str) -> tuple[Inputs, dict[str, bytes]]:
+def in_units(service: Service, programs: Programs, plan: str) -> tuple[Inputs, dict[str, bytes]]:
     """The inputs by which a kept plan is answered, and what has to be written for them beside the plan."""
-    divided, beside = desk.in_units(service.inputs), kept_beside(plan, service.inputs)
+    divided, beside = programs.in_units(service.inputs), kept_beside(plan, service.inputs)
     contents: dict[str, bytes] = {}
     chosen = replace(service.inputs, unit=1)
     for kind in ("settings", "capacity"):

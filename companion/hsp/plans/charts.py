@@ -23,7 +23,7 @@ text{fill:#1a1f26;font:13px system-ui,"DejaVu Sans",sans-serif}
 
 def drawn(service: Service, cases: list[Case], step: float) -> str:
     """The cost by the size of a server as a curve, and other cases as bars."""
-    of_sizes = [it for it in cases if it.kind == SIZE]
+    of_sizes = [case for case in cases if case.kind == SIZE]
     return curve(service, of_sizes) if of_sizes else bars(cases, step)
 
 
@@ -68,11 +68,11 @@ class Axes:
 
 def curve(service: Service, cases: list[Case]) -> str:
     """The cost of the plan by the size of one server."""
-    good = [(it.room, it.cost) for it in cases if it.cost is not None]
+    good = [(case.room, case.cost) for case in cases if case.cost is not None]
     if not good:
         raise Missing("short at each of these sizes, so there is nothing to draw: give more room by --to")
     what = cases[0].what
-    axes = Axes([it.room for it in cases], [cost for _, cost in good])
+    axes = Axes([case.room for case in cases], [cost for _, cost in good])
     unit = f" ({service.titles.cost})" if service.titles.cost else ""
     parts = [f'<text class="head" x="12" y="22">{escape(f"Cost of the plan{unit} by room at {what}")}</text>']
     if len(good) < len(cases):
@@ -84,7 +84,7 @@ def curve(service: Service, cases: list[Case]) -> str:
     points = [(axes.x(room), axes.y(cost)) for room, cost in good]
     parts.append('<path class="line" d="M' + "L".join(f"{x} {y}" for x, y in points) + '"/>')
     parts += [f'<circle class="dot" cx="{x}" cy="{y}" r="3"/>' for x, y in points]
-    own = next(service.capacity(it) for it in service.servers if it.label == what)
+    own = next(service.capacity(server) for server in service.servers if server.label == what)
     for (room, cost), (x, y) in zip(good, points):
         if room == own:
             parts.append(f'<circle class="now" cx="{x}" cy="{y}" r="6"/>')
@@ -116,11 +116,11 @@ def bars(cases: list[Case], step: float) -> str:
     }
     parts, y, most = [], 30, greatest(cases)
     for kind, head in heads.items():
-        own = [it for it in cases if it.kind == kind]
+        own = [case for case in cases if case.kind == kind]
         if not own:
             continue
         parts.append(f'<text class="head" x="12" y="{y}">{head}</text>')
-        for at, it in enumerate(own):
-            parts += _bar(it, most, y + 14 + 22 * at)
+        for at, case in enumerate(own):
+            parts += _bar(case, most, y + 14 + 22 * at)
         y += 40 + 22 * len(own)
     return _svg(y, "What changes would cost or save", parts)

@@ -72,7 +72,7 @@ def bad_keys(said: Any) -> list[BadKey]:
         if not _is_whole(said.get(key, 0), 0):
             found.append(BadKey(key, f"{key} is no whole number", f"take {key} out, or count the logs again"))
     log = said.get("log", [])
-    if not isinstance(log, list) or not all(isinstance(it, str) for it in log):
+    if not isinstance(log, list) or not all(isinstance(line, str) for line in log):
         found.append(BadKey("log", "log is no list of texts", 'write log = ["access.log"], or take it out'))
     return found
 
@@ -159,7 +159,7 @@ def marked(folder: str, mark: Mark) -> dict[str, bytes]:
         with open(path, encoding="utf-8", newline="") as file:
             text = file.read()
     written = _written(text, mark)
-    wanted = {key: it for key, it in before.items() if key != TABLE}
+    wanted = {key: value for key, value in before.items() if key != TABLE}
     try:
         found = tomllib.loads(written)
     except tomllib.TOMLDecodeError:

@@ -99,22 +99,22 @@ def step_of(most: float) -> int:
 
 
 def servers_of(view: View, plan: Planned) -> list[ServerView]:
-    gains = {it.server: it for it in plan.gains}
+    gains = {gain.server: gain for gain in plan.gains}
     before = view.reference.loads if view.reference else [0] * len(plan.loads)
     numbers = {site.name: at for at, site in enumerate(plan.service.sites)}
     return [
         ServerView(
-            numbers[it.site],
-            it.id,
-            it.label,
-            plan.loads[it.number],
-            plan.service.capacity(it),
-            before[it.number],
-            view.bought.get(it, 0),
-            gains.get(it),
-            plan.is_full(it),
+            numbers[server.site],
+            server.id,
+            server.label,
+            plan.loads[server.number],
+            plan.service.capacity(server),
+            before[server.number],
+            view.bought.get(server, 0),
+            gains.get(server),
+            plan.is_full(server),
         )
-        for it in plan.service.servers
+        for server in plan.service.servers
     ]
 
 
@@ -125,20 +125,20 @@ def regions_of(view: View, plan: Planned) -> list[RegionView]:
         then, was = view.reference.regions.get(name, (0, 0)) if view.reference else (0, 0)
         before = was / then if then else None
         found.append(RegionView(name, asked, cost, cost / asked if asked else 0.0, before, cost - was))
-    return sorted(found, key=lambda it: it.name)
+    return sorted(found, key=lambda region: region.name)
 
 
 def reserve(servers: list[ServerView], hosts: list[Host]) -> str:
     """How full the fullest servers are."""
-    full = [it for it in servers if it.is_full]
+    full = [server for server in servers if server.is_full]
     words = [f"{len(full)} of {some(len(servers), 'server')}"] if full else []
-    machines = sum(it.is_full for it in hosts)
+    machines = sum(host.is_full for host in hosts)
     words += [some(machines, "machine")] if machines else []
     said = f"{listed(words)} {'is' if len(full) + machines == 1 else 'are'} full. " if words else ""
-    rest = [it for it in servers if not it.is_full and it.capacity]
+    rest = [server for server in servers if not server.is_full and server.capacity]
     if not rest:
         return said
-    most = max(rest, key=lambda it: it.load / it.capacity)
+    most = max(rest, key=lambda server: server.load / server.capacity)
     first = "The fullest of the others" if full else "The fullest server"
     return f"{said}{first}, {most.label}, is {percent(most.load, most.capacity)} full."
 
@@ -152,12 +152,12 @@ def rows_of(plan: Planned) -> list[RowView]:
         if uses:
             shown = [(site, f"{site}.{number}", queries) for site, number, queries in uses]
             found.append(RowView(own.region, own.handle, own.count, prices[at], plan.added(at), shown))
-    return sorted(found, key=lambda it: (-it.added, -it.count))
+    return sorted(found, key=lambda row: (-row.added, -row.count))
 
 
 def packed(rows: Iterable[RowView], regions: list[str]) -> list[list[str]]:
     """All rows as text, one for each handle: small, and no element of the page until it is asked for."""
-    numbers = {it: at for at, it in enumerate(regions)}
+    numbers = {region: at for at, region in enumerate(regions)}
     lines: dict[str, list[str]] = {}
     for row in rows:
         is_whole = len(row.uses) == 1
@@ -172,7 +172,8 @@ def diverted(plan: Planned) -> int:
     service = plan.service
     costs = {(region, at): service.costs[region, service.sites[at].name] for region, at in plan.shares}
     least = {
-        it: min(service.costs[it, service.sites[at].name] for at in service.sites_for(it)) for it in service.regions
+        own: min(service.costs[own, service.sites[at].name] for at in service.sites_for(own))
+        for own in service.regions
     }
     return sum(queries for key, queries in plan.shares.items() if costs[key] > least[key[0]])
 
@@ -192,8 +193,8 @@ def changes_between(old: Service, new: Service) -> list[str]:
 def _counts(service: Service, by_kind: bool) -> Counter[tuple[object, ...]]:
     """How often each region asks for each handle, or for each kind: a kind is known by its servers."""
     counts: Counter[tuple[object, ...]] = Counter()
-    for it in service.rows:
-        counts[it.region, service.kind(it) if by_kind else it.handle] += it.count
+    for row in service.rows:
+        counts[row.region, service.kind(row) if by_kind else row.handle] += row.count
     return counts
 
 
@@ -202,7 +203,7 @@ def _texts(table: Mapping[tuple[str, str], int] | Mapping[tuple[str, int], int])
 
 
 def _limits(service: Service) -> dict[tuple[str, str], int]:
-    return {(dotted(it["address"]), ""): int(it["limit"]) for it in service.settings.get("host", [])}
+    return {(dotted(host["address"]), ""): int(host["limit"]) for host in service.settings.get("host", [])}
 
 
 def _changed(words: str, before: dict[tuple[str, str], int], after: dict[tuple[str, str], int]) -> list[str]:
@@ -210,15 +211,15 @@ def _changed(words: str, before: dict[tuple[str, str], int], after: dict[tuple[s
         return f"{table[key]:,}" if key in table else "none"
 
     keys = dict.fromkeys([*before, *after])
-    other = (it for it in keys if before.get(it) != after.get(it))
-    return [f"{words.format(*it)}: {shown(before, it)} → {shown(after, it)}" for it in other]
+    other = (name for name in keys if before.get(name) != after.get(name))
+    return [f"{words.format(*name)}: {shown(before, name)} → {shown(after, name)}" for name in other]
 
 
 def best_room(plan: Planned, hosts: list[Host]) -> tuple[str, int, bool] | None:
     """Where room is worth most: its name, what one query more saves there, and whether that is only a bound."""
-    found = [(it.server.label, it.one, False) for it in plan.gains if it.all > 0]
-    found += [(it.address, it.price, True) for it in hosts if it.price]
-    return max(found, key=lambda it: it[1]) if found else None
+    found = [(gain.server.label, gain.one, False) for gain in plan.gains if gain.all > 0]
+    found += [(host.address, host.price, True) for host in hosts if host.price]
+    return max(found, key=lambda pair: pair[1]) if found else None
 
 
 def lacking(service: Service, short: Shortage) -> list[tuple[str, list[Row]]]:
@@ -227,7 +228,7 @@ def lacking(service: Service, short: Shortage) -> list[tuple[str, list[Row]]]:
     for row in short.rows:
         found.setdefault((row.handle, row.region if service.mark.is_joined else ""), []).append(row)
     named = [(service.like(handle), rows) for (handle, _), rows in found.items()]
-    return sorted(named, key=lambda it: -sum(row.count for row in it[1]))
+    return sorted(named, key=lambda pair: -sum(row.count for row in pair[1]))
 
 
 def hash_of(text: str) -> str:
@@ -242,9 +243,9 @@ def environment() -> jinja2.Environment:
         trim_blocks=True,
         lstrip_blocks=True,
         undefined=jinja2.StrictUndefined,
-        finalize=lambda it: escaped(it) if type(it) is str else it,
+        finalize=lambda value: escaped(value) if type(value) is str else value,
     )
-    made.filters.update(number=lambda it: f"{it:,}", signed=signed, listed=listed, hash=hash_of)
+    made.filters.update(number=lambda number: f"{number:,}", signed=signed, listed=listed, hash=hash_of)
     made.globals.update(percent=percent, average=average, queries_of=queries_of, some=some, version=__version__)
     return made
 
@@ -263,8 +264,10 @@ def render(view: View) -> str:
         "bought_shown": BOUGHT_SHOWN,
         "lacking": lacking(view.service, view.short) if view.short else [],
         "least": {
-            it: min((view.service.costs[it, names[at]] for at in view.service.sites_for(it)), default=None)
-            for it in view.service.regions
+            region: min(
+                (view.service.costs[region, names[at]] for at in view.service.sites_for(region)), default=None
+            )
+            for region in view.service.regions
         },
     }
     return environment().get_template("page.html").render(**shown, **(plan_shown(view, plan) if plan else {}))
@@ -284,9 +287,9 @@ def left_alone(view: View, plan: Planned) -> str:
 def plan_shown(view: View, plan: Planned) -> dict[str, object]:
     """What the page shows of a plan."""
     servers, regions, rows = servers_of(view, plan), regions_of(view, plan), rows_of(plan)
-    top = max([1, *(max(it.capacity, it.load) for it in servers)])
-    widest = min(max([top, *(it.before for it in servers)]), int(top * 1.3))
-    axis = max([1.0, *(max(it.now, it.was or 0.0) for it in regions)])
+    top = max([1, *(max(server.capacity, server.load) for server in servers)])
+    widest = min(max([top, *(server.before for server in servers)]), int(top * 1.3))
+    axis = max([1.0, *(max(region.now, region.was or 0.0) for region in regions)])
     step = step_of(axis)
     return {
         "servers": servers,
@@ -295,17 +298,17 @@ def plan_shown(view: View, plan: Planned) -> dict[str, object]:
         "rows": rows,
         "rows_shown": ROWS_SHOWN,
         "packed": packed(rows, plan.service.regions),
-        "share": lambda it: round(100 * min(it, widest) / widest, 2),
+        "share": lambda number: round(100 * min(number, widest) / widest, 2),
         "widest": widest,
         "axis": (int(axis / step) + 1) * step,
         "step": step,
-        "dear": [it for it in servers if it.is_dear],
-        "full": [it for it in servers if it.is_full],
-        "tight": [it for it in plan.hosts if it.price],
+        "dear": [server for server in servers if server.is_dear],
+        "full": [server for server in servers if server.is_full],
+        "tight": [host for host in plan.hosts if host.price],
         "best": best_room(plan, plan.hosts),
         "by_shares": by_shares(plan),
         "reserve": reserve(servers, plan.hosts),
         "alone": left_alone(view, plan),
-        "is_above": any(it.before > it.capacity for it in servers),
+        "is_above": any(server.before > server.capacity for server in servers),
         "diverted": diverted(plan),
     }

@@ -12,7 +12,7 @@ from fractions import Fraction
 
 from hsp.base.grammar import GREATEST_COST, HEADERS, MOST_SERVERS, MOST_SITES
 from hsp.base.numbers import some
-from hsp.base.programs import Bound, Certificate, Desk, Inputs, Missing
+from hsp.base.programs import Bound, Certificate, Inputs, Missing, Programs
 from hsp.base.units import hosts_text, settings_text
 from hsp.plans.service import Row, Server, Service, dotted
 
@@ -81,7 +81,7 @@ class Planned:
 
     @property
     def full(self) -> list[Server]:
-        return [it for it in self.service.servers if self.is_full(it)]
+        return [server for server in self.service.servers if self.is_full(server)]
 
     def added(self, row: int) -> int:
         """What a row costs above its cheapest site."""
@@ -108,8 +108,8 @@ class Shortage:
         return self.demand - self.capacity
 
 
-def capacity_file(desk: Desk, capacities: dict[tuple[str, int], int]) -> str:
-    return desk.put_table(HEADERS["capacity"], ((site, at, room) for (site, at), room in capacities.items()))
+def capacity_file(programs: Programs, capacities: dict[tuple[str, int], int]) -> str:
+    return programs.put_table(HEADERS["capacity"], ((site, at, room) for (site, at), room in capacities.items()))
 
 
 def _shares(service: Service, certificate: Certificate) -> Shares:
@@ -123,112 +123,114 @@ def _shares(service: Service, certificate: Certificate) -> Shares:
 def _hosts(service: Service, loads: list[int]) -> list[Host]:
     prices = service.certificate.prices("host")
     found = []
-    for it, price in zip(service.settings.get("host", []), prices):
-        own = [server for server in service.servers if server.address == it["address"].lower()]
-        load, limit = sum(loads[server.number] for server in own), it["limit"]
-        found.append(Host(dotted(it["address"]), limit, load, price, own, 0 < limit < load + service.unit))
+    for host, price in zip(service.settings.get("host", []), prices):
+        own = [server for server in service.servers if server.address == host["address"].lower()]
+        load, limit = sum(loads[server.number] for server in own), host["limit"]
+        found.append(Host(dotted(host["address"]), limit, load, price, own, 0 < limit < load + service.unit))
     return found
 
 
-def planned(service: Service, desk: Desk) -> Planned:
+def planned(service: Service, programs: Programs) -> Planned:
     """The plan of a service. Its uses, added up by places, have to be the loads of hsplan's report."""
-    reports, bound = desk.loads(service.inputs, service.plan_file)
+    reports, bound = programs.loads(service.inputs, service.plan_file)
     uses: dict[int, list[tuple[int, int]]] = {}
     sums = [0] * len(service.servers)
     for use in service.certificate.uses:
         uses.setdefault(use.row, []).append((use.site, use.queries))
         sums[service.server(use.site, service.rows[use.row].handle).number] += use.queries
-    loads = [it.load for it in reports]
+    loads = [report.load for report in reports]
     if sums != loads:
         raise Missing("the uses by place differ from hsplan's report of loads: please report this with your files")
     return Planned(
         service,
         loads,
-        [it.price for it in reports],
+        [report.price for report in reports],
         bound,
-        desk.regions(service.inputs, service.plan_file),
+        programs.regions(service.inputs, service.plan_file),
         _shares(service, service.certificate),
         uses,
         _hosts(service, loads),
     )
 
 
-def cheapest(service: Service, desk: Desk) -> Reference | None:
+def cheapest(service: Service, programs: Programs) -> Reference | None:
     """Where all queries go to their cheapest site: the plan without any limit. None where a region has no site."""
     everywhere = {key: service.boundless for key in service.capacities}
-    settings = desk.put(settings_text(service.settings), ".toml")
-    inputs = service.inputs.but(settings=settings, capacity=capacity_file(desk, everywhere))
-    certificate, plan = desk.plan(inputs)
+    settings = programs.put(settings_text(service.settings), ".toml")
+    inputs = service.inputs.but(settings=settings, capacity=capacity_file(programs, everywhere))
+    certificate, plan = programs.plan(inputs)
     if not certificate.is_plan:
         return None
-    loads, _ = desk.loads(inputs, plan)
+    loads, _ = programs.loads(inputs, plan)
     shares = _shares(service, certificate)
-    regions = desk.regions(inputs, plan)
+    regions = programs.regions(inputs, plan)
     words = "if all asked their cheapest site"
-    return Reference(words, certificate.cost, service.asked, [it.load for it in loads], regions, shares)
+    return Reference(words, certificate.cost, service.asked, [load.load for load in loads], regions, shares)
 
 
-def _with_room(desk: Desk, service: Service, server: Server, room: int) -> Inputs:
+def _with_room(programs: Programs, service: Service, server: Server, room: int) -> Inputs:
     """The inputs where a server can take `room` queries."""
-    return service.inputs.but(capacity=capacity_file(desk, {**service.capacities, (server.site, server.id): room}))
+    return service.inputs.but(
+        capacity=capacity_file(programs, {**service.capacities, (server.site, server.id): room})
+    )
 
 
-def _gain(desk: Desk, plan: Planned, server: Server) -> Gain:
+def _gain(programs: Programs, plan: Planned, server: Server) -> Gain:
     service, room = plan.service, plan.service.capacity(server)
-    one, _ = desk.plan(_with_room(desk, service, server, room + service.unit))
-    inputs = _with_room(desk, service, server, service.boundless)
-    free, path = desk.plan(inputs)
-    load = desk.loads(inputs, path)[0][server.number].load
+    one, _ = programs.plan(_with_room(programs, service, server, room + service.unit))
+    inputs = _with_room(programs, service, server, service.boundless)
+    free, path = programs.plan(inputs)
+    load = programs.loads(inputs, path)[0][server.number].load
     return Gain(server, (plan.cost - one.cost) // service.unit, load - room, plan.cost - free.cost)
 
 
-def with_gains(plan: Planned, desk: Desk, done: Callable[[], None] = lambda: None) -> Planned:
+def with_gains(plan: Planned, programs: Programs, done: Callable[[], None] = lambda: None) -> Planned:
     """The plan with what room saves at its full servers. A price only bounds that, so each is planned."""
-    priced = [it for it in plan.service.servers if plan.prices[it.number] > 0 and plan.is_full(it)]
-    priced.sort(key=lambda it: -plan.prices[it.number])
+    priced = [server for server in plan.service.servers if plan.prices[server.number] > 0 and plan.is_full(server)]
+    priced.sort(key=lambda server: -plan.prices[server.number])
     found = []
     with concurrent.futures.ThreadPoolExecutor(min(4, os.cpu_count() or 1)) as pool:
-        for gain in pool.map(lambda it: _gain(desk, plan, it), priced[:MOST_GAINS]):
+        for gain in pool.map(lambda server: _gain(programs, plan, server), priced[:MOST_GAINS]):
             found.append(gain)
             done()
-    found.sort(key=lambda it: (-it.one, -it.all))
+    found.sort(key=lambda saving: (-saving.one, -saving.all))
     return replace(plan, gains=found)
 
 
-def shortage(service: Service, desk: Desk) -> Shortage:
+def shortage(service: Service, programs: Programs) -> Shortage:
     """Who lacks what, and the servers that these rows may use."""
-    reached = desk.reached(service.inputs, service.plan_file)
+    reached = programs.reached(service.inputs, service.plan_file)
     certificate = service.certificate
-    rows = [service.rows[it] for it in certificate.rows]
+    rows = [service.rows[number] for number in certificate.rows]
     stranded = sorted({row.region for row in rows if not service.sites_for(row.region)})
-    servers = [it for it in service.servers if (it.site, it.id) in reached]
+    servers = [server for server in service.servers if (server.site, server.id) in reached]
     return Shortage(certificate.demand, certificate.capacity, rows, servers, stranded)
 
 
-def _twinned(service: Service, desk: Desk, cost: Callable[[int], int], dear: int) -> Certificate:
+def _twinned(service: Service, programs: Programs, cost: Callable[[int], int], dear: int) -> Certificate:
     """A plan where each site has a twin without limits, at a cost that is `dear` higher."""
     sites = settings_text(service.settings) + settings_text(service.settings, "hsp-twin-")
     rows: list[tuple[str, str, int]] = []
-    for (region, site), it in service.costs.items():
-        rows += [(region, site, cost(it)), (region, f"hsp-twin-{site}", cost(it) + dear)]
+    for (region, site), price in service.costs.items():
+        rows += [(region, site, cost(price)), (region, f"hsp-twin-{site}", cost(price) + dear)]
     room = dict(service.capacities)
     room.update({(f"hsp-twin-{site}", at): service.boundless for site, at in service.capacities})
     inputs = service.inputs.but(
-        settings=desk.put(sites + hosts_text(service.settings), ".toml"),
-        costs=desk.put_table(HEADERS["costs"], rows),
-        capacity=capacity_file(desk, room),
+        settings=programs.put(sites + hosts_text(service.settings), ".toml"),
+        costs=programs.put_table(HEADERS["costs"], rows),
+        capacity=capacity_file(programs, room),
     )
-    return desk.plan(inputs)[0]
+    return programs.plan(inputs)[0]
 
 
-def least_purchase(service: Service, desk: Desk) -> dict[Server, int] | None:
+def least_purchase(service: Service, programs: Programs) -> dict[Server, int] | None:
     """How much more room at which servers is the least that serves all, and of those a cheapest. None where that
     can't be planned: with more than 16 sites or 512 servers, with costs above 50,000, or where a machine is full."""
     dearest = max(service.costs.values(), default=0)
     if 2 * len(service.sites) > MOST_SITES or 2 * len(service.servers) > MOST_SERVERS or dearest * 20 > GREATEST_COST:
         return None
-    least = _twinned(service, desk, lambda it: 0, 1)
-    best = _twinned(service, desk, lambda it: it, GREATEST_COST - dearest)
+    least = _twinned(service, programs, lambda _: 0, 1)
+    best = _twinned(service, programs, lambda cost: cost, GREATEST_COST - dearest)
     if not least.is_plan or not best.is_plan:
         return None
     bought: Counter[Server] = Counter()
@@ -238,13 +240,13 @@ def least_purchase(service: Service, desk: Desk) -> dict[Server, int] | None:
     return dict(bought) if sum(bought.values()) == least.cost else None
 
 
-def with_purchase(service: Service, desk: Desk, bought: dict[Server, int]) -> Service | None:
+def with_purchase(service: Service, programs: Programs, bought: dict[Server, int]) -> Service | None:
     """The service after a purchase, or None where it still lacks room."""
     room = dict(service.capacities)
     for server, more in bought.items():
         room[server.site, server.id] += more
-    inputs = service.inputs.but(capacity=capacity_file(desk, room))
-    certificate, path = desk.plan(inputs)
+    inputs = service.inputs.but(capacity=capacity_file(programs, room))
+    certificate, path = programs.plan(inputs)
     if not certificate.is_plan:
         return None
     return replace(service, inputs=inputs, capacities=room, certificate=certificate, plan_file=path)
@@ -252,13 +254,17 @@ def with_purchase(service: Service, desk: Desk, bought: dict[Server, int]) -> Se
 
 def above(service: Service, loads: Iterable[int | Fraction]) -> tuple[int, int]:
     """How many servers would get more than they can take, and how many queries too many."""
-    over = [load - service.capacity(it) for it, load in zip(service.servers, loads) if load > service.capacity(it)]
+    over = [
+        load - service.capacity(server)
+        for server, load in zip(service.servers, loads)
+        if load > service.capacity(server)
+    ]
     return len(over), round(sum(over))
 
 
 def above_limits(hosts: Iterable[Host], loads: Sequence[int | Fraction]) -> int:
     """How many machines would get more than their limits."""
-    return sum(sum(loads[it.number] for it in host.servers) > host.limit for host in hosts)
+    return sum(sum(loads[server.number] for server in host.servers) > host.limit for host in hosts)
 
 
 def too_full(words: str, hosts: int) -> str:

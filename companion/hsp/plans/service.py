@@ -15,7 +15,7 @@ from typing import Any
 from hsp.base.bounds import whole
 from hsp.base.numbers import part, some
 from hsp.base.paths import path_in
-from hsp.base.programs import BOUNDLESS, Certificate, Desk, Inputs, Missing, Refused
+from hsp.base.programs import BOUNDLESS, Certificate, Inputs, Missing, Programs, Refused
 from hsp.base.text import escaped
 from hsp.base.unfit import Unfit
 from hsp.plans.marks import Mark, mark_in, titles_of
@@ -129,7 +129,7 @@ class Service:
 
     @property
     def servers(self) -> list[Server]:
-        return [it for site in self.sites for it in site.servers]
+        return [server for site in self.sites for server in site.servers]
 
     @property
     def regions(self) -> list[str]:
@@ -160,7 +160,7 @@ class Service:
     def kind(self, row: Row) -> tuple[tuple[str, int], ...]:
         """The server that a row has at each site that its region may use: the same for all handles of a kind."""
         servers = (self.server(at, row.handle) for at in self.sites_for(row.region))
-        return tuple((it.site, it.id) for it in servers)
+        return tuple((server.site, server.id) for server in servers)
 
 
 def _absent(folder: str, paths: list[str]) -> list[str]:
@@ -190,9 +190,9 @@ def inputs_in(folder: str, given: dict[str, str | None], unit: int) -> Inputs:
 
 def newer_than(inputs: Inputs, plan: str) -> list[str]:
     """The names of the inputs that changed after a plan was written."""
-    files = [it for it in (inputs.settings, inputs.values, inputs.demand, inputs.costs, inputs.capacity) if it]
+    files = [path for path in (inputs.settings, inputs.values, inputs.demand, inputs.costs, inputs.capacity) if path]
     time = os.stat(plan).st_mtime
-    return [os.path.basename(it) for it in files if os.stat(it).st_mtime > time]
+    return [os.path.basename(path) for path in files if os.stat(path).st_mtime > time]
 
 
 def table(path: str) -> list[list[str]]:
@@ -207,7 +207,7 @@ def settings_in(path: str) -> dict[str, Any]:
     """Settings that hsplan takes."""
     octets = whole(path).removeprefix(b"\xef\xbb\xbf")
     if b'"""' not in octets and b"'''" not in octets:  # nor are comments settings
-        octets = b"\n".join(it[0] for it in re.finditer(rb"(?m)^[ \t]*[^#\s][^\r\n]*", octets))
+        octets = b"\n".join(line[0] for line in re.finditer(rb"(?m)^[ \t]*[^#\s][^\r\n]*", octets))
     return tomllib.loads(octets.decode())
 
 
@@ -222,7 +222,7 @@ def dotted(address: str) -> str:
 def titles_in(folder: str, title: str | None, cost: str | None) -> Titles:
     """The words of `hsp.toml`; a title and a unit of cost that were given come first, the folder's name last."""
     said = titles_of(folder)
-    names = [it for it in os.path.abspath(folder).split(os.sep) if it not in ("out", "")]
+    names = [part for part in os.path.abspath(folder).split(os.sep) if part not in ("out", "")]
     plain: dict[str, str] = {key: str(said[key]) for key in TITLE_KEYS if key in said}
     fallback = names[-1] if names else folder
     own_title = title if title else plain.get("title", fallback)
@@ -245,16 +245,16 @@ def site_of(name: str, fields: str, first: int) -> Site:
     return Site(name, option, servers)
 
 
-def sites_of(desk: Desk, inputs: Inputs, settings: dict[str, Any]) -> list[Site]:
+def sites_of(programs: Programs, inputs: Inputs, settings: dict[str, Any]) -> list[Site]:
     """The sites of the settings. hsplan reads their records."""
     sites: list[Site] = []
     first = 0
-    for it in settings.get("site", []):
-        if "record" in it:
-            fields = desk.site(bytes.fromhex(it["record"]))
+    for site in settings.get("site", []):
+        if "record" in site:
+            fields = programs.site(bytes.fromhex(site["record"]))
         else:
-            fields = desk.site_of_value(inputs.values or "", it["index"])
-        sites.append(site_of(it["name"], fields, first))
+            fields = programs.site_of_value(inputs.values or "", site["index"])
+        sites.append(site_of(site["name"], fields, first))
         first += len(sites[-1].servers)
     return sites
 
@@ -266,11 +266,11 @@ def mark_of(folder: str, given: dict[str, str | None]) -> Mark:
 
 
 def read_service(
-    folder: str, desk: Desk, given: dict[str, str | None], title: str | None = None, cost: str | None = None
+    folder: str, programs: Programs, given: dict[str, str | None], title: str | None = None, cost: str | None = None
 ) -> Service:
     """Reads a folder. hsplan plans it first, so any fault of the files is hsplan's."""
     mark = mark_of(folder, given)
-    return service_of(folder, desk, inputs_in(folder, given, mark.unit), titles_in(folder, title, cost), mark)
+    return service_of(folder, programs, inputs_in(folder, given, mark.unit), titles_in(folder, title, cost), mark)
 
 
 def _in_one_line(path: str, rows: list[Row]) -> None:
@@ -283,9 +283,9 @@ def _in_one_line(path: str, rows: list[Row]) -> None:
             )
 
 
-def service_of(folder: str, desk: Desk, inputs: Inputs, titles: Titles, mark: Mark) -> Service:
+def service_of(folder: str, programs: Programs, inputs: Inputs, titles: Titles, mark: Mark) -> Service:
     """Reads files, as `read_service` does."""
-    certificate, plan_file = desk.plan(inputs)
+    certificate, plan_file = programs.plan(inputs)
     settings = settings_in(inputs.settings)
     rows = [Row(region, handle, inputs.unit * int(count)) for region, handle, count in table(inputs.demand)]
     _in_one_line(inputs.demand, rows)
@@ -294,13 +294,13 @@ def service_of(folder: str, desk: Desk, inputs: Inputs, titles: Titles, mark: Ma
         titles,
         inputs,
         settings,
-        sites_of(desk, inputs, settings),
+        sites_of(programs, inputs, settings),
         rows,
-        {(region, site): int(it) for region, site, it in table(inputs.costs)},
+        {(region, site): int(cost) for region, site, cost in table(inputs.costs)},
         {(site, int(server)): int(room) for site, server, room in table(inputs.capacity)},
         certificate,
         plan_file,
-        desk.places(inputs, dict.fromkeys(row.handle for row in rows)),
+        programs.places(inputs, dict.fromkeys(row.handle for row in rows)),
         mark,
     )
 

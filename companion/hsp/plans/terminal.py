@@ -61,17 +61,17 @@ def plan_lines(plan: Planned, reference: Reference | None, every: bool = False) 
 def full_lines(plan: Planned, every: bool = False) -> Iterator[str]:
     """The full servers at which room saves something."""
     unit = _unit(plan.service)
-    worth = [it for it in plan.gains if it.all > 0]
+    worth = [gain for gain in plan.gains if gain.all > 0]
     full, idle = len(plan.full), len(plan.full) - len(worth)
     words = f"full  {full} of {some(len(plan.service.servers), 'server')}"
     words += f", {idle} of them where more room saves nothing" if idle else ""
     yield words + ("; more room saves" if worth else "")
     shown = worth if every else worth[:SHOWN]
-    wide = max((len(it.server.label) for it in shown), default=0)
-    for it in shown:
-        label = colored(it.server.label.ljust(wide), "yellow")
-        one = f"{plan.service.one_more} {it.one:,}{unit}"
-        yield f"      {label}  {one}; {it.room:,} more {it.all:,}{unit} in all"
+    wide = max((len(gain.server.label) for gain in shown), default=0)
+    for gain in shown:
+        label = colored(gain.server.label.ljust(wide), "yellow")
+        one = f"{plan.service.one_more} {gain.one:,}{unit}"
+        yield f"      {label}  {one}; {gain.room:,} more {gain.all:,}{unit} in all"
     if len(worth) > len(shown):
         yield dim(f"      and {len(worth) - len(shown)} more, up to {worth[len(shown)].one:,}{unit} each (--all)")
 
@@ -80,7 +80,7 @@ def _shares_of(plan: Planned, region: str) -> str:
     """Where a region's queries go, in shares."""
     asked = plan.regions[region][0]
     parts = [(plan.shares.get((region, at), 0), site.name) for at, site in enumerate(plan.service.sites)]
-    parts = sorted((it for it in parts if it[0]), reverse=True)
+    parts = sorted((part for part in parts if part[0]), reverse=True)
     return listed((f"{name} {percent(queries, asked)}" for queries, name in parts), 5) or "nowhere"
 
 
@@ -92,9 +92,9 @@ def added_by(plan: Planned, reference: Reference | None, region: str) -> int:
 
 def region_lines(plan: Planned, reference: Reference | None, every: bool = False) -> Iterator[str]:
     """The cost of each region's queries, and where they go; those first that pay most for the limits."""
-    regions = sorted(plan.regions, key=lambda it: (-added_by(plan, reference, it), it))
+    regions = sorted(plan.regions, key=lambda name: (-added_by(plan, reference, name), name))
     shown = regions if every else regions[:SHOWN]
-    wide = max((len(it) for it in shown), default=0)
+    wide = max((len(name) for name in shown), default=0)
     for at, region in enumerate(shown):
         asked, cost = plan.regions[region]
         change = ""
@@ -123,7 +123,7 @@ def shortage_lines(
     if len(short.servers) == len(service.servers):
         yield f"where all {len(service.servers)} servers together lack room"
     elif short.servers:
-        servers = listed(f"{it.label} ({service.capacity(it):,})" for it in short.servers)
+        servers = listed(f"{server.label} ({service.capacity(server):,})" for server in short.servers)
         verb = "is" if len(short.servers) == 1 else "are"
         yield f"where {servers} {verb} all that these may use; room elsewhere doesn't help"
     yield from purchase_lines(service, short, bought, after)
@@ -153,8 +153,8 @@ def purchase_lines(
     cost = after.certificate.cost
     each = f"{average(cost, service.asked)} a query"
     yield f"buy   {whole}, the least that suffices; then the cost is {cost:,}{_unit(service)}, {each}"
-    wide = max(len(it.label) for it in bought)
-    for server, more in sorted(bought.items(), key=lambda it: -it[1]):
+    wide = max(len(own.label) for own in bought)
+    for server, more in sorted(bought.items(), key=lambda pair: -pair[1]):
         before = service.capacity(server)
         yield f"      {colored(server.label.ljust(wide), 'yellow')}  {more:>9,} more: {before:,} to {before + more:,}"
 

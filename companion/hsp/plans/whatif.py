@@ -9,7 +9,7 @@ from dataclasses import dataclass
 
 from hsp.base.grammar import HEADERS
 from hsp.base.numbers import average, listed, queries_of, signed
-from hsp.base.programs import Desk, Missing
+from hsp.base.programs import Missing, Programs
 from hsp.base.spelling import near
 from hsp.base.text import bold, colored
 from hsp.plans.plans import capacity_file
@@ -36,11 +36,11 @@ class Case:
 class Changes:
     """Plans a service again and again, each time with one thing changed."""
 
-    def __init__(self, service: Service, desk: Desk, done: Callable[[], None] = lambda: None) -> None:
-        self.service, self.desk, self.done = service, desk, done
+    def __init__(self, service: Service, programs: Programs, done: Callable[[], None] = lambda: None) -> None:
+        self.service, self.programs, self.done = service, programs, done
 
     def planned(self, kind: str, what: str, room: int = 0, **changed: str) -> Case:
-        certificate, _ = self.desk.plan(self.service.inputs.but(**changed))
+        certificate, _ = self.programs.plan(self.service.inputs.but(**changed))
         self.done()
         if not certificate.is_plan:
             return Case(kind, what, room, None, None, certificate.demand - certificate.capacity)
@@ -51,19 +51,21 @@ class Changes:
     def with_room(self, kind: str, server: Server, room: int) -> Case:
         """A server that can take so many queries."""
         capacities = {**self.service.capacities, (server.site, server.id): room}
-        return self.planned(kind, server.label, room, capacity=capacity_file(self.desk, capacities))
+        return self.planned(kind, server.label, room, capacity=capacity_file(self.programs, capacities))
 
     def without(self, site: str) -> Case:
         """No region may use the site."""
         costs = ((region, name, cost) for (region, name), cost in self.service.costs.items() if name != site)
-        return self.planned(LOST, site, costs=self.desk.put_table(HEADERS["costs"], costs))
+        return self.planned(LOST, site, costs=self.programs.put_table(HEADERS["costs"], costs))
 
     def with_demand(self, percent: float) -> Case:
         """Each row asks for more queries, rounded up to units."""
         unit = self.service.unit
-        rows = ((it.region, it.handle, -int(-it.count * (100 + percent) // (100 * unit))) for it in self.service.rows)
+        rows = (
+            (row.region, row.handle, -int(-row.count * (100 + percent) // (100 * unit))) for row in self.service.rows
+        )
         what = f"{percent:g}% more demand"
-        return self.planned(DEMAND, what, demand=self.desk.put_table(HEADERS["demand"], rows))
+        return self.planned(DEMAND, what, demand=self.programs.put_table(HEADERS["demand"], rows))
 
 
 def full_servers(service: Service) -> list[Server]:
@@ -71,7 +73,7 @@ def full_servers(service: Service) -> list[Server]:
     if not service.certificate.is_plan:
         return service.servers
     prices = service.certificate.prices("server")
-    return [it for it in service.servers if prices[it.number]]
+    return [server for server in service.servers if prices[server.number]]
 
 
 def standard(changes: Changes, step: float) -> list[Case]:
@@ -81,24 +83,24 @@ def standard(changes: Changes, step: float) -> list[Case]:
     for server in full_servers(service):
         room = service.capacity(server)
         more.append(changes.with_room(MORE, server, room + max(service.unit, round(room * step / 100))))
-    more.sort(key=lambda it: (it.cost is None, it.cost or it.lack))
+    more.sort(key=lambda case: (case.cost is None, case.cost or case.lack))
     lost = [changes.without(site.name) for site in service.sites]
-    lost.sort(key=lambda it: (it.cost is not None, -(it.cost or it.lack)))
+    lost.sort(key=lambda case: (case.cost is not None, -(case.cost or case.lack)))
     return more + lost + [changes.with_demand(10)]
 
 
 def server_named(service: Service, words: str) -> Server:
     """The server of the words `site:identifier`."""
-    for it in service.servers:
-        if words == f"{it.site}:{it.id}":
-            return it
+    for server in service.servers:
+        if words == f"{server.site}:{server.id}":
+            return server
     if not service.servers:
         raise Missing(f"no server '{words}': the settings have no site")
     site = words.rpartition(":")[0]
-    ids = [str(it.id) for it in service.servers if it.site == site]
+    ids = [str(server.id) for server in service.servers if server.site == site]
     if ids:
         raise Missing(f"no server '{words}': {site} has {listed(ids, 8)}")
-    meant = near(words, [f"{it.site}:{it.id}" for it in service.servers])
+    meant = near(words, [f"{server.site}:{server.id}" for server in service.servers])
     first = service.servers[0]
     remedy = f"did you mean {meant}?" if meant else f"write site:identifier, as {first.site}:{first.id}"
     raise Missing(f"no server '{words}': {remedy}")
@@ -109,12 +111,14 @@ def sizes(changes: Changes, server: Server, low: int, high: int, points: int) ->
     steps = max(1, points - 1)
     rooms = {round(low + (high - low) * at / steps) for at in range(points)}
     own = changes.service.capacity(server)
-    return [changes.with_room(SIZE, server, it) for it in sorted(rooms | ({own} if low <= own <= high else set()))]
+    return [
+        changes.with_room(SIZE, server, room) for room in sorted(rooms | ({own} if low <= own <= high else set()))
+    ]
 
 
 def greatest(cases: Iterable[Case]) -> int:
     """The greatest change of all cases, or cost where there is no plan to change: the scale of all bars."""
-    return max((abs(it.change if it.change is not None else it.cost or 0) for it in cases), default=0)
+    return max((abs(case.change if case.change is not None else case.cost or 0) for case in cases), default=0)
 
 
 def bar(part: float, most: float, width: int = 24) -> str:
@@ -141,34 +145,34 @@ def lines(service: Service, cases: list[Case], step: float) -> Iterator[str]:
     else:
         yield f"now   {colored('short', 'red')} by {queries_of(now.demand - now.capacity)}"
     heads = {MORE: f"{step:g}% more room at", LOST: "without the site", DEMAND: "all regions together"}
-    most = greatest(it for it in cases if it.kind in heads)
+    most = greatest(case for case in cases if case.kind in heads)
     for kind, head in heads.items():
-        own = [it for it in cases if it.kind == kind]
+        own = [case for case in cases if case.kind == kind]
         if own:
             yield bold(head)
-        yield from (_line(it, most) for it in own)
-    yield from size_lines(service, [it for it in cases if it.kind == SIZE])
+        yield from (_line(case, most) for case in own)
+    yield from size_lines(service, [case for case in cases if case.kind == SIZE])
 
 
 def size_lines(service: Service, cases: list[Case]) -> Iterator[str]:
     """The cost by the size of a server."""
     if not cases:
         return
-    own = next(it for it in service.servers if it.label == cases[0].what)
+    own = next(server for server in service.servers if server.label == cases[0].what)
     yield bold(f"{'room at ' + own.label:<18}{'cost':>16}{'change':>14}")
-    for it in cases:
-        mark = "  now" if it.room == service.capacity(own) else ""
-        if it.cost is None:
-            yield f"{it.room:>18,}{'short':>16} by {queries_of(it.lack)}{mark}"
+    for case in cases:
+        mark = "  now" if case.room == service.capacity(own) else ""
+        if case.cost is None:
+            yield f"{case.room:>18,}{'short':>16} by {queries_of(case.lack)}{mark}"
         else:
-            yield f"{it.room:>18,}{it.cost:>16,}{signed(it.change) if it.change is not None else '':>14}{mark}"
+            yield f"{case.room:>18,}{case.cost:>16,}{signed(case.change) if case.change is not None else '':>14}{mark}"
 
 
 def csv_of(cases: list[Case]) -> str:
     out = io.StringIO()
     writer = csv.writer(out, lineterminator="\n")
     writer.writerow(["case", "what", "room", "cost", "change", "lack"])
-    for it in cases:
-        cost, change = ("" if value is None else value for value in (it.cost, it.change))
-        writer.writerow([it.kind, it.what, it.room or "", cost, change, it.lack or ""])
+    for case in cases:
+        cost, change = ("" if value is None else value for value in (case.cost, case.change))
+        writer.writerow([case.kind, case.what, case.room or "", cost, change, case.lack or ""])
     return out.getvalue()

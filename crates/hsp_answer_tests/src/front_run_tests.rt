@@ -252,21 +252,27 @@ fn a_front_is_answered_alike_in_every_merge(rt: HostRuntime) {
     let left = [0, 0, 1, 1];
     let cases = [
         plain(
-            b"front,region,handle\n0,r1,10/1\n0,r1,10/1\n0,r1,10/1\n0,r2,10/3\n1,r1,10/1\n1,r1,10/1\n1,r1,10/1\n1,r1,10/1\n",
+            b"front,region,handle\n0,r1,10/1\n0,r1,10/1\n0,r1,10/1\n0,r2,10/3\n1,r1,10/1\n1,r1,10/1\n1,r1,10/1\n\
+            1,r1,10/1\n",
             sums,
-            b"assigned E 1 3\nassigned E 1 3\nassigned E 1 3\nassigned E 1 3\nassigned E 1 3\nassigned E 1 3\nspent\nspent\n",
+            b"assigned E 1 3\nassigned E 1 3\nassigned E 1 3\nassigned E 1 3\nassigned E 1 3\nassigned E 1 3\nspent\n\
+            spent\n",
             left,
         ),
         plain(
-            b"front,region,handle\n1,r1,10/1\n1,r1,10/1\n1,r1,10/1\n1,r1,10/1\n0,r1,10/1\n0,r1,10/1\n0,r1,10/1\n0,r2,10/3\n",
+            b"front,region,handle\n1,r1,10/1\n1,r1,10/1\n1,r1,10/1\n1,r1,10/1\n0,r1,10/1\n0,r1,10/1\n0,r1,10/1\n\
+            0,r2,10/3\n",
             sums,
-            b"assigned E 1 3\nassigned E 1 3\nspent\nspent\nassigned E 1 3\nassigned E 1 3\nassigned E 1 3\nassigned E 1 3\n",
+            b"assigned E 1 3\nassigned E 1 3\nspent\nspent\nassigned E 1 3\nassigned E 1 3\nassigned E 1 3\n\
+            assigned E 1 3\n",
             left,
         ),
         plain(
-            b"front,region,handle\n1,r1,10/1\n0,r1,10/1\n1,r1,10/1\n0,r1,10/1\n1,r1,10/1\n0,r1,10/1\n1,r1,10/1\n0,r2,10/3\n",
+            b"front,region,handle\n1,r1,10/1\n0,r1,10/1\n1,r1,10/1\n0,r1,10/1\n1,r1,10/1\n0,r1,10/1\n1,r1,10/1\n\
+            0,r2,10/3\n",
             sums,
-            b"assigned E 1 3\nassigned E 1 3\nassigned E 1 3\nassigned E 1 3\nspent\nassigned E 1 3\nspent\nassigned E 1 3\n",
+            b"assigned E 1 3\nassigned E 1 3\nassigned E 1 3\nassigned E 1 3\nspent\nassigned E 1 3\nspent\n\
+            assigned E 1 3\n",
             left,
         ),
     ];

@@ -37,17 +37,23 @@ const SHORT: Texts<'static> = Texts {
 const WIDE: Texts<'static> = Texts {
     sites: ONE_SERVER,
     hosts: b"",
-    demand: b"region,handle,count\nr1,10/0,1000000\nr1,10/1,1000000\nr1,10/2,1000000\nr1,10/3,1000000\nr1,10/4,1000000\nr1,10/5,1000000\nr1,10/6,1000000\nr1,10/7,1000000\nr1,10/8,1000000\nr1,10/9,1000000\nr1,10/10,1000000\nr1,10/11,1000000\nr1,10/12,1000000\nr1,10/13,1000000\nr1,10/14,1000000\nr1,10/15,1000000\nr1,10/16,1000000\nr1,10/17,1000000\nr1,10/18,1000000\nr1,10/19,1000000\n",
+    demand: b"region,handle,count\nr1,10/0,1000000\nr1,10/1,1000000\nr1,10/2,1000000\nr1,10/3,1000000\n\
+    r1,10/4,1000000\nr1,10/5,1000000\nr1,10/6,1000000\nr1,10/7,1000000\nr1,10/8,1000000\nr1,10/9,1000000\n\
+    r1,10/10,1000000\nr1,10/11,1000000\nr1,10/12,1000000\nr1,10/13,1000000\nr1,10/14,1000000\nr1,10/15,1000000\n\
+    r1,10/16,1000000\nr1,10/17,1000000\nr1,10/18,1000000\nr1,10/19,1000000\n",
     costs: b"region,site,cost\nr1,X,1000000\n",
     capacity: b"site,server_id,capacity\nX,7,20000000\n",
 };
 
 // A site and a region of the longest names.
 const LONG: Texts<'static> = Texts {
-    sites: b"[[site]]\nname = \"S23456789012345678901234567890123456789012345678901234567890123s\"\nrecord = \"000102000001000100000000000000000000000100000007000000000000000000000000000000010000000000000000\"\n",
+    sites: b"[[site]]\nname = \"S23456789012345678901234567890123456789012345678901234567890123s\"\n\
+    record = \"000102000001000100000000000000000000000100000007000000000000000000000000000000010000000000000000\"\n",
     hosts: b"",
     demand: b"region,handle,count\nR23456789012345678901234567890123456789012345678901234567890123r,10/1,2\n",
-    costs: b"region,site,cost\nR23456789012345678901234567890123456789012345678901234567890123r,S23456789012345678901234567890123456789012345678901234567890123s,3\n",
+    costs: b"region,site,cost\n\
+    R23456789012345678901234567890123456789012345678901234567890123r,S234567890123456789012345678901234567890123456789\
+    01234567890123s,3\n",
     capacity: b"site,server_id,capacity\nS23456789012345678901234567890123456789012345678901234567890123s,7,5\n",
 };
 
@@ -417,7 +423,12 @@ fn loads_of_the_base_are_reported(rt: HostRuntime) {
         rt.alloc(),
         &instance,
         &certificate,
-        b"place     server       load   capacity         price site\n    0          7          4         10             0 E\n    1          3          6          6             1 E\n    0          1          2          2             0 W\n    1          2          0         10             0 W\n    2          9          0         10             0 W\nbound 23 - 6 = 17\n",
+        b"place     server       load   capacity         price site\n    \
+        0          7          4         10             0 E\n    \
+        1          3          6          6             1 E\n    \
+        0          1          2          2             0 W\n    \
+        1          2          0         10             0 W\n    2          9          0         10             0 W\n\
+        bound 23 - 6 = 17\n",
     );
 }
 
@@ -430,7 +441,8 @@ fn regions_of_the_base_are_reported(rt: HostRuntime) {
         rt.alloc(),
         &instance,
         &certificate,
-        b"    demand             cost region\n         9                9 r1\n         3                8 r2\ntotal 12 17\n",
+        b"    demand             cost region\n         9                9 r1\n         3                8 r2\n\
+        total 12 17\n",
     );
 }
 
@@ -443,7 +455,8 @@ fn a_shortage_is_reported(rt: HostRuntime) {
         rt.alloc(),
         &instance,
         &certificate,
-        b"short 9 - 8 = 1\n row   count region\n   2       9 r2\nplace     server   capacity site\n    1          3          6 E\n    0          1          2 W\n",
+        b"short 9 - 8 = 1\n row   count region\n   2       9 r2\n\
+        place     server   capacity site\n    1          3          6 E\n    0          1          2 W\n",
     );
 }
 
@@ -456,7 +469,12 @@ fn nothing_is_reported_of_no_demand(rt: HostRuntime) {
         rt.alloc(),
         &instance,
         &certificate,
-        b"place     server       load   capacity         price site\n    0          7          0         10             0 E\n    1          3          0          6             0 E\n    0          1          0          2             0 W\n    1          2          0         10             0 W\n    2          9          0         10             0 W\nbound 0 - 0 = 0\n",
+        b"place     server       load   capacity         price site\n    \
+        0          7          0         10             0 E\n    \
+        1          3          0          6             0 E\n    \
+        0          1          0          2             0 W\n    \
+        1          2          0         10             0 W\n    2          9          0         10             0 W\n\
+        bound 0 - 0 = 0\n",
     );
     regions_are(
         &rt,
@@ -484,7 +502,9 @@ fn sums_may_be_wider_than_64_bits(rt: HostRuntime) {
         rt.alloc(),
         &instance,
         &certificate,
-        b"place     server       load   capacity         price site\n    0          7   20000000   20000000  999999000000 X\nbound 20000000000000000000 - 19999980000000000000 = 20000000000000\n",
+        b"place     server       load   capacity         price site\n    \
+        0          7   20000000   20000000  999999000000 X\n\
+        bound 20000000000000000000 - 19999980000000000000 = 20000000000000\n",
     );
     regions_are(
         &rt,
@@ -504,14 +524,17 @@ fn names_stand_whole(rt: HostRuntime) {
         rt.alloc(),
         &instance,
         &certificate,
-        b"place     server       load   capacity         price site\n    0          7          2          5             0 S23456789012345678901234567890123456789012345678901234567890123s\nbound 6 - 0 = 6\n",
+        b"place     server       load   capacity         price site\n    \
+        0          7          2          5             0 S234567890123456789012345678901234567890123456789012345678901\
+        23s\nbound 6 - 0 = 6\n",
     );
     regions_are(
         &rt,
         rt.alloc(),
         &instance,
         &certificate,
-        b"    demand             cost region\n         2                6 R23456789012345678901234567890123456789012345678901234567890123r\ntotal 2 6\n",
+        b"    demand             cost region\n         \
+        2                6 R23456789012345678901234567890123456789012345678901234567890123r\ntotal 2 6\n",
     );
 }
 
@@ -524,7 +547,8 @@ fn loads_and_regions_of_many_rows_are_reported(rt: HostRuntime) {
         rt.alloc(),
         &instance,
         &certificate,
-        b"place     server       load   capacity         price site\n    0          7       5000       6000             0 X\nbound 5000 - 0 = 5000\n",
+        b"place     server       load   capacity         price site\n    \
+        0          7       5000       6000             0 X\nbound 5000 - 0 = 5000\n",
     );
     regions_are(
         &rt,

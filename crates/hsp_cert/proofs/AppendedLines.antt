@@ -25,11 +25,13 @@ pub body_appended : (b : Best) (o p q r s : List ℕ) → p ≡ o ++ spelling (u
     → s ≡ r ++ spelling (price_items word.Host 0 b.host_prices) → s ≡ o ++ spelling (body_items b)
 body_appended b o p q r s hp hq hr hs = rw (hs, hr, hq, hp) (simp (spelling-append, append_assoc))
 
+-- five parts are appended in turn
 appended : (o : List ℕ) (a b c d e : List Item)
     → ((((o ++ spelling a) ++ spelling b) ++ spelling c) ++ spelling d) ++ spelling e ≡ o
     ++ spelling (a ++ (b ++ (c ++ (d ++ e))))
 appended o a b c d e = simp (spelling-append, append_assoc)
 
+-- six parts are appended in turn
 appended_behind : (o : List ℕ) (a b c d e f : List Item)
     → (((((o ++ spelling a) ++ spelling b) ++ spelling c) ++ spelling d) ++ spelling e) ++ spelling f ≡ o
     ++ spelling (a ++ (b ++ (c ++ (d ++ (e ++ f)))))

@@ -26,20 +26,24 @@ use Rattle.hsp_cert.specs.Steps.{step_at, step, no_plan, no_set}
 
 -- ---- lists
 
+-- a list that is none is empty
 none_is : {A : Type 0} (xs : List A) → is_none xs ≡ true → xs ≡ []
 none_is xs h = nil_from_length xs (eqb-true (length xs) 0 h)
 
+-- a test passes for all and for one more
 all_push : {A : Type 0} (p : A → Bool) (xs : List A) (x : A) → list_all p xs ≡ true → p x ≡ true
     → list_all p (xs ++ x ∷ []) ≡ true
 all_push p xs x h k =
     list_all-append p xs (x ∷ []) ∙ and_from (list_all p xs) (p x && true) h (and_from (p x) true k refl)
 
+-- the last element is the one that was put last
 pub last_push : {A : Type 0} (xs : List A) (x : A) → last (xs ++ x ∷ []) ≡ Some x
 last_push xs x =
     let at : length (xs ++ x ∷ []) - 1 ≡ length xs = omega (arith, length-append xs (x ∷ [])) in
     rw at (slice_get-get_or (xs ++ x ∷ []) (length xs) x (omega (arith, length-append xs (x ∷ [])))
     ∙ ap (λ y. Some y) (get_or-append_seam xs x [] x))
 
+-- an ascending list stays so by an element that goes on from its last
 ascends_behind : {A : Type 0} (before : A → A → Bool) (y : A) (xs : List A) (x : A)
     → ascends_from before (Some y) xs ≡ true → goes_on_from before (slice_get (y ∷ xs) (length xs)) x ≡ true
     → ascends_from before (Some y) (xs ++ x ∷ []) ≡ true
@@ -55,10 +59,12 @@ ascends_push before [] x h k = refl
 ascends_push before (y ∷ xs) x h k =
     let at : suc (length xs) - 1 ≡ length xs = omega arith in ascends_behind before y xs x h (rw at at k)
 
+-- what is there under a condition is there, and the condition holds
 pub when_taken : {A : Type 0} (t : Bool) (x y : A) → when t x ≡ Some y → (t ≡ true) × (x ≡ y)
 when_taken true x y h = (refl, cc)
 when_taken false x y h = absurd cc
 
+-- what is there behind a function came from something that is there
 mapped_taken : {A B : Type 0} (f : A → B) (o : Option A) (y : B) → option_map f o ≡ Some y
     → (x : A) × (o ≡ Some x) × (f x ≡ y)
 mapped_taken f None y h = absurd cc
@@ -66,15 +72,18 @@ mapped_taken f (Some x) y h = (x, refl, cc)
 
 -- ---- items of lists that grow
 
+-- one use more is one item more
 use_items-push : (us : List UseLine) (u : UseLine)
     → use_items (us ++ u ∷ []) ≡ use_items us ++ item.Three word.Use u.row u.site u.count ∷ []
 use_items-push [] u = refl
 use_items-push (v ∷ us) u = ap (λ (x : List Item). item.Three word.Use v.row v.site v.count ∷ x) (use_items-push us u)
 
+-- one row more is one item more
 row_items-push : (rs : List ℕ) (r : ℕ) → row_items (rs ++ r ∷ []) ≡ row_items rs ++ item.One word.Row r ∷ []
 row_items-push [] r = refl
 row_items-push (s ∷ rs) r = ap (λ (x : List Item). item.One word.Row s ∷ x) (row_items-push rs r)
 
+-- one price more is one item more, of the next number
 price_items-push : (w : Word) (n : ℕ) (ps : List ℕ) (k p : ℕ) → k ≡ n + length ps
     → price_items w n (ps ++ p ∷ []) ≡ price_items w n ps ++ item.Two w k p ∷ []
 price_items-push w n [] k p e = let at : n ≡ k = omega arith in ap (λ (m : ℕ). item.Two w m p ∷ []) at
@@ -90,6 +99,7 @@ Next_body v b i c =
 abbrev plan_of : ℕ → List UseLine → List ℕ → List ℕ → List ℕ → Best
 plan_of cost us rs ss hs = record { cost = cost; uses = us; row_prices = rs; server_prices = ss; host_prices = hs }
 
+-- a price that may come next has the next number and keeps to the limits
 next_facts : (most : ℕ) (ps : List ℕ) (n p : ℕ) → is_next most ps n p ≡ true
     → (n ≡ length ps) × (n < most) × (is_price p ≡ true)
 next_facts most ps n p h =
@@ -98,6 +108,7 @@ next_facts most ps n p h =
     let lt : n < most = let t = b.1 in grind (arith, nat_tests) in
     (eqb-true n (length ps) b.0, lt, a.1)
 
+-- a price of a row leaves a body that may go on
 body_row : (v : ℕ) (b : Best) (n p : ℕ) → IsBest b → (v ≡ 1 → b.host_prices ≡ []) → may_row_price b n p ≡ true →
     Next_body v b (item.Two word.Row n p) (plan_of b.cost b.uses (b.row_prices ++ p ∷ []) b.server_prices b.host_prices)
 body_row v b n p h one t =
@@ -121,6 +132,7 @@ body_row v b n p h one t =
       refl,
     )
 
+-- a use leaves a body that may go on
 body_use : (v : ℕ) (b : Best) (u : UseLine) → IsBest b → (v ≡ 1 → b.host_prices ≡ []) → may_use b u ≡ true →
     Next_body v b (item.Three word.Use u.row u.site u.count)
     (plan_of b.cost (b.uses ++ u ∷ []) b.row_prices b.server_prices b.host_prices)
@@ -148,6 +160,7 @@ body_use v b u h one t =
       refl,
     )
 
+-- a price of a server leaves a body that may go on
 body_server : (v : ℕ) (b : Best) (n p : ℕ) → IsBest b → (v ≡ 1 → b.host_prices ≡ []) → may_server_price b n p ≡ true →
     Next_body v b (item.Two word.Server n p)
     (plan_of b.cost b.uses b.row_prices (b.server_prices ++ p ∷ []) b.host_prices)
@@ -171,6 +184,7 @@ body_server v b n p h one t =
       refl,
     )
 
+-- a price of a host leaves a body that may go on
 pub body_host : (v : ℕ) (b : Best) (n p : ℕ) → IsBest b → may_host_price v b n p ≡ true →
     Next_body v b (item.Two word.Host n p)
     (plan_of b.cost b.uses b.row_prices b.server_prices (b.host_prices ++ p ∷ []))
@@ -195,12 +209,14 @@ body_host v b n p h t =
       refl,
     )
 
+-- a use that was taken may stand there, and is put last
 use_in_taken : (b c : Best) (t : Bool) (u : UseLine) → use_step b (when t u) ≡ Some c
     → (may_use b u ≡ true) × (plan_of b.cost (b.uses ++ u ∷ []) b.row_prices b.server_prices b.host_prices ≡ c)
 use_in_taken b c true u h =
     when_taken (may_use b u) (plan_of b.cost (b.uses ++ u ∷ []) b.row_prices b.server_prices b.host_prices) c h
 use_in_taken b c false u h = absurd cc
 
+-- each item that a body takes leaves one that may go on
 body_next : (v : ℕ) (b : Best) (i : Item) (c : Best) → IsBest b → (v ≡ 1 → b.host_prices ≡ [])
     → body_step v b i ≡ Some c → Next_body v b i c
 body_next v b (item.Three word.Use r s n) c h one e =
@@ -271,12 +287,15 @@ so_far d = so_far_at d.stage d
 abbrev Next : Stage → Drafted → Item → Drafted → Type 0
 Next s d i e = Valid e × (so_far e ≡ so_far_at s d ++ i ∷ [])
 
+-- a version that is known is one or two
 one_or_two : (v : ℕ) → (v == 1 || v == 2) ≡ true → (v ≡ 1) ⊎ (v ≡ 2)
 one_or_two v h = grind (arith, nat_tests)
 
+-- an amount keeps to its limit
 amount : (n : ℕ) → is_amount n ≡ true → n ≤ 10000000000000000
 amount n h = grind (arith, nat_tests)
 
+-- each item of the head that is taken leads on
 head_next : (s : Stage) (d : Drafted) (i : Item) (e : Drafted) → Valid_at s d → head_at s d i ≡ Some e → Next s d i e
 head_next stage.Version d (item.One word.Version v) e h eq =
     let made : Drafted = record { stage = stage.Kind; version = v; plan = d.plan; set = d.set } in
@@ -336,6 +355,7 @@ head_next stage.Capacity d (item.One word.Capacity n) e h eq =
     )
 head_next s d i e h eq = absurd cc
 
+-- what a body takes leads on from the draft
 body_taken : (d : Drafted) (i : Item) (e : Drafted) → Valid_at stage.Body d
     → option_map (with_plan stage.Body d) (body_step d.version d.plan i) ≡ Some e → Next stage.Body d i e
 body_taken d i e h eq =
@@ -347,6 +367,7 @@ body_taken d i e h eq =
           ∙ ap (λ (x : List Item). plan_head d ++ x) n.1,
     )
 
+-- each item that a plan takes leads on
 plan_next : (d : Drafted) (i : Item) (e : Drafted) → Valid_at stage.Body d → plan_step d i ≡ Some e
     → Next stage.Body d i e
 plan_next d (item.Alone word.End) e h eq =
@@ -355,6 +376,7 @@ plan_next d (item.Alone word.End) e h eq =
     ((h.0, h.1, eqb-true d.version (version_of d.plan.host_prices) t.0), refl)
 plan_next d i e h eq = body_taken d i e h eq
 
+-- a row that was taken may stand there, and is put last
 row_in_taken : (s c : Short) (t : Bool) (r : ℕ) → row_step s (when t r) ≡ Some c
     → (may_row s r ≡ true) × (record { rows = s.rows ++ r ∷ []; demand = s.demand; capacity = s.capacity } ≡ c)
 row_in_taken s c true r h =
@@ -365,6 +387,7 @@ abbrev Next_rows : Short → Item → Short → Type 0
 Next_rows s i t =
     IsShort t × (row_items t.rows ≡ row_items s.rows ++ i ∷ []) × (t.demand ≡ s.demand) × (t.capacity ≡ s.capacity)
 
+-- each item that a short set takes leaves one that may go on
 rows_next : (s : Short) (i : Item) (c : Short) → IsShort s → rows_step s i ≡ Some c → Next_rows s i c
 rows_next s (item.One word.Row r) c h e =
     let t = row_in_taken s c (nat_le r 8191) r e in
@@ -382,6 +405,7 @@ rows_next s (item.One word.Row r) c h e =
     )
 rows_next s i c h e = absurd cc
 
+-- what the rows take leads on from the draft
 rows_taken : (d : Drafted) (i : Item) (e : Drafted) → Valid_at stage.Rows d
     → option_map (with_set stage.Rows d) (rows_step d.set i) ≡ Some e → Next stage.Rows d i e
 rows_taken d i e h eq =
@@ -398,6 +422,7 @@ rows_taken d i e h eq =
           ∙ ap (λ (x : List Item). shortage_head d ++ x) n.1,
     )
 
+-- each item that a short set takes leads on, its end too
 shortage_next : (d : Drafted) (i : Item) (e : Drafted) → Valid_at stage.Rows d → shortage_step d i ≡ Some e
     → Next stage.Rows d i e
 shortage_next d (item.Alone word.End) e h eq =
@@ -405,6 +430,7 @@ shortage_next d (item.Alone word.End) e h eq =
     subst (Next stage.Rows d (item.Alone word.End)) same ((h.0, h.1, h.2), refl)
 shortage_next d i e h eq = rows_taken d i e h eq
 
+-- at each stage, an item that is taken leads on
 next_at : (s : Stage) (d : Drafted) (i : Item) (e : Drafted) → Valid_at s d → step_at s d i ≡ Some e → Next s d i e
 next_at stage.Body d i e h eq = plan_next d i e h eq
 next_at stage.Rows d i e h eq = shortage_next d i e h eq

@@ -8,6 +8,7 @@ use Rattle.hsp_cert.specs.Text.{unlines}
 abbrev pub Unbroken : List ℕ → Type 0
 Unbroken xs = AllByRecursion (λ x. x ≡ 10 → ⊥) xs
 
+-- a line without a line feed is one by recursion
 pub by_recursion : (xs : List ℕ) → IsUnbroken xs → Unbroken xs
 by_recursion [] h = tt
 by_recursion (x ∷ xs) h = (h 0 (omega arith), by_recursion xs (λ k lt. h (suc k) (omega arith)))
@@ -38,6 +39,7 @@ first_line l ls x = append_assoc l (10 ∷ unlines ls) x
 abbrev pub GoesOn : List (List ℕ) → List (List ℕ) → List ℕ → List ℕ → Type 0
 GoesOn ls ms x y = (more : List (List ℕ)) × (ms ≡ ls ++ more) × (x ≡ unlines more ++ y)
 
+-- of two ways to cut a text into lines, one goes on from the other
 pub fronts : (ls ms : List (List ℕ)) (x y : List ℕ) → AllByRecursion Unbroken ls → AllByRecursion Unbroken ms
     → unlines ls ++ x ≡ unlines ms ++ y → GoesOn ls ms x y ⊎ GoesOn ms ls y x
 fronts [] ms x y hl hm e = inl (ms, refl, e)

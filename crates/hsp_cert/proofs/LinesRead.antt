@@ -30,21 +30,26 @@ ReadsBack i = item_in (line_of i) ≡ Some i
 abbrev pub some_item : Item → Option Item
 some_item i = Some i
 
+-- an item is one only
 pub item_is : (i j : Item) → some_item i ≡ Some j → i ≡ j
 item_is i j h = cc
 
 -- ---- the lines of a certificate say its items
 
+-- a number that passes the test is no greater
 le_of : (a b : ℕ) → nat_le a b ≡ true → a ≤ b
 le_of a b h = grind (arith, nat_tests)
 
+-- the numbers of a use fit in 64 bits
 use_fits : (u : UseLine) → is_use u ≡ true → (u.row < 2 ^ 64) × (u.site < 2 ^ 64) × (u.count < 2 ^ 64)
 use_fits u h = grind (arith, nat_tests)
 
+-- the numbers of all uses fit
 uses_fit : (us : List UseLine) → list_all is_use us ≡ true → AllByRecursion Fits (use_items us)
 uses_fit [] h = tt
 uses_fit (u ∷ us) h = let a = and_parts (is_use u) (list_all is_use us) h in (use_fits u a.0, uses_fit us a.1)
 
+-- the numbers of prices fit
 prices_fit : (w : Word) (n : ℕ) (ps : List ℕ) → n + length ps ≤ 8192 → list_all is_price ps ≡ true
     → AllByRecursion Fits (price_items w n ps)
 prices_fit w n [] le h = tt
@@ -53,6 +58,7 @@ prices_fit w n (p ∷ ps) le h =
     let price = le_of p 1000000000000 a.0 in
     ((omega arith, omega arith), prices_fit w (n + 1) ps (omega arith) a.1)
 
+-- the numbers of rows fit
 rows_fit : (rs : List ℕ) → list_all is_row rs ≡ true → AllByRecursion Fits (row_items rs)
 rows_fit [] h = tt
 rows_fit (r ∷ rs) h =
@@ -60,10 +66,12 @@ rows_fit (r ∷ rs) h =
     let row = le_of r 8191 a.0 in
     (omega arith, rows_fit rs a.1)
 
+-- a version fits
 version_small : (ps : List ℕ) → version_of ps < 2 ^ 64
 version_small [] = omega arith
 version_small (p ∷ ps) = omega arith
 
+-- all numbers of a certificate fit
 claim_fits : (claim : Claim) → IsCertificate claim → AllByRecursion Fits (items_of claim)
 claim_fits (best b) h =
     let cost = h.cost in
@@ -86,24 +94,30 @@ claim_fits (short s) h =
       (tt, (omega arith, (omega arith, all_append Fits (row_items s.rows) end (rows_fit s.rows h.rows) (tt, tt)))),
     )
 
+-- items whose numbers fit are read back from their lines
 read_back : (is : List Item) → AllByRecursion Fits is → AllByRecursion ReadsBack is
 read_back [] h = tt
 read_back (i ∷ is) h = (reads_back i h.0, read_back is h.1)
 
+-- the items of a certificate are read back from their lines
 pub claim_back : (claim : Claim) → IsCertificate claim → AllByRecursion ReadsBack (items_of claim)
 claim_back claim h = read_back (items_of claim) (claim_fits claim h)
 
 -- ---- no line of a certificate holds an LF
 
+-- printed octets have no line feed
 unbroken : (xs : List ℕ) → Printed xs → Unbroken xs
 unbroken xs h = printed_apart 10 (omega arith) xs h
 
+-- parts without a line feed, with a space between them, have none
 spaced : (xs ys : List ℕ) → Printed xs → Unbroken ys → Unbroken (xs ++ 32 ∷ ys)
 spaced xs ys h k = all_append (λ x. x ≡ 10 → ⊥) xs (32 ∷ ys) (unbroken xs h) ((λ e. omega (arith, e)), k)
 
+-- a number has no line feed
 number_unbroken : (n : ℕ) → n < 2 ^ 64 → Unbroken (decimal n)
 number_unbroken n h = unbroken (decimal n) (decimal_printed n h)
 
+-- the line of an item has no line feed
 line_unbroken : (i : Item) → Fits i → Unbroken (line_of i)
 line_unbroken (item.Alone w) h = unbroken (spelled w) (word_printed w)
 line_unbroken (item.One w a) h = spaced (spelled w) (decimal a) (word_printed w) (number_unbroken a h)
@@ -115,10 +129,12 @@ line_unbroken (item.Three w a b c) h =
     (spaced (decimal a) (decimal b ++ 32 ∷ decimal c) (decimal_printed a h.0)
     (spaced (decimal b) (decimal c) (decimal_printed b h.1) (number_unbroken c h.2)))
 
+-- the lines of items have none
 lines_unbroken : (is : List Item) → AllByRecursion Fits is → AllByRecursion Unbroken (map line_of is)
 lines_unbroken [] h = tt
 lines_unbroken (i ∷ is) h = (line_unbroken i h.0, lines_unbroken is h.1)
 
+-- the lines of a certificate have none
 pub claim_unbroken : (claim : Claim) → IsCertificate claim → AllByRecursion Unbroken (lines_of claim)
 claim_unbroken claim h = lines_unbroken (items_of claim) (claim_fits claim h)
 
@@ -138,6 +154,7 @@ up_to (x ∷ xs) (y ∷ is) line more hx hi e =
     let r = up_to xs is line more hx.1 hi.1 tails in
     (r.0, r.1, ap (λ (j : Item). j ∷ xs) same ∙ ap (λ (l : List Item). y ∷ l) r.2, r.3, r.4)
 
+-- the lines of two lists of items stand one after the other
 pub map-lines : (xs ys : List Item) → map line_of (xs ++ ys) ≡ map line_of xs ++ map line_of ys
 map-lines [] ys = refl
 map-lines (x ∷ xs) ys = ap (λ (l : List (List ℕ)). line_of x ∷ l) (map-lines xs ys)

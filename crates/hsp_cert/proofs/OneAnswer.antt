@@ -20,6 +20,7 @@ use Rattle.hsp_cert.proofs.LinesRead.{ReadsBack, item_is, claim_back, claim_unbr
 
 -- ---- a certificate's lines are its own
 
+-- items that are read back are the same where their lines are
 items_same : (xs ys : List Item) → AllByRecursion ReadsBack xs → AllByRecursion ReadsBack ys
     → map line_of xs ≡ map line_of ys → xs ≡ ys
 items_same [] [] hx hy e = refl
@@ -31,16 +32,19 @@ items_same (x ∷ xs) (y ∷ ys) hx hy e =
     let same = item_is x y (sym hx.0 ∙ ap item_in at ∙ hy.0) in
     ap (λ (i : Item). i ∷ xs) same ∙ ap (λ (l : List Item). y ∷ l) (items_same xs ys hx.1 hy.1 tails)
 
+-- a certificate that was read to its end is the one that it says
 claimed_is : (c : Claim) → claimed (ended c) ≡ c
 claimed_is (best b) = refl
 claimed_is (short s) = refl
 
+-- certificates of the same lines are the same
 claim_same : (c d : Claim) → IsCertificate c → IsCertificate d → lines_of c ≡ lines_of d → c ≡ d
 claim_same c d hc hd e =
     let same = items_same (items_of c) (items_of d) (claim_back c hc) (claim_back d hd) e in
     let one = some_is (ended c) (ended d) (sym (run_whole c hc) ∙ ap (run (Some start)) same ∙ run_whole d hd) in
     sym (claimed_is c) ∙ ap claimed one ∙ claimed_is d
 
+-- behind its end a certificate takes no item
 nothing_taken : (c : Claim) (i : Item) → step (ended c) i ≡ None
 nothing_taken (best b) i = refl
 nothing_taken (short s) i = refl
@@ -66,6 +70,7 @@ end_in : (is : List Item) → HasNoEnd (map line_of (is ++ item.Alone word.End �
 end_in [] h = h.0 refl
 end_in (i ∷ is) h = end_in is h.1
 
+-- a certificate's lines have an end
 claim_end : (c : Claim) → HasNoEnd (lines_of c) → ⊥
 claim_end (best b) h =
     end_in
@@ -78,17 +83,21 @@ claim_end (short s) h =
 
 -- ---- lines that stand
 
+-- what holds of all of two lists holds of the first
 all_front : {A : Type 0} (P : A → Type 0) (xs ys : List A) → AllByRecursion P (xs ++ ys) → AllByRecursion P xs
 all_front P [] ys h = tt
 all_front P (x ∷ xs) ys h = (h.0, all_front P xs ys h.1)
 
+-- what holds of all of two lists holds of the second
 all_back : {A : Type 0} (P : A → Type 0) (xs ys : List A) → AllByRecursion P (xs ++ ys) → AllByRecursion P ys
 all_back P [] ys h = h
 all_back P (x ∷ xs) ys h = all_back P xs ys h.1
 
+-- lines that can stand have no line feed
 stand_unbroken : (ls : List (List ℕ)) → LinesStand ls → AllByRecursion Unbroken ls
 stand_unbroken ls st = all_front Unbroken ls st.2 (subst (AllByRecursion Unbroken) st.3 (claim_unbroken st.0 st.1))
 
+-- where lines can stand, so can their beginnings
 stands_shorter : (before : List (List ℕ)) (line : List ℕ) (more : List (List ℕ)) → LinesStand (before ++ line ∷ more)
     → LinesStand (before ++ line ∷ [])
 stands_shorter before line more st = (
@@ -104,6 +113,7 @@ record StandsTo (text : List ℕ) (lines : List (List ℕ)) (rest : List ℕ) : 
   stand : LinesStand lines
   no_more : (more : List (List ℕ)) (x : List ℕ) → LinesStand (lines ++ more) → rest ≡ unlines more ++ x → more ≡ []
 
+-- lines that stand up to a place are all lines up to there
 goes_on_same : (text x y : List ℕ) (ls ms : List (List ℕ)) → StandsTo text ls x → LinesStand ms → GoesOn ls ms x y
     → (ls ≡ ms) × (x ≡ y)
 goes_on_same text x y ls ms p st (more, on, rest) =
@@ -118,6 +128,7 @@ cut_once text x y ls ms p q =
       | inr g ↦ let s = goes_on_same text y x ms ls q p.stand g in (sym s.0, sym s.1)
     ]
 
+-- the text of a certificate stands up to its end
 whole_to : (text : List ℕ) (c : Claim) (x : List ℕ) → IsCertificate c → text ≡ text_of c ++ x
     → StandsTo text (lines_of c) x
 whole_to text c x h e =
@@ -127,6 +138,7 @@ whole_to text c x h e =
       no_more = λ more y st over. goes_no_further c more h st;
     }
 
+-- no line can stand in place of a bad one
 stops_there : (text : List ℕ) (n : ℕ) (b : IsBadLine text n) (more : List (List ℕ)) (x : List ℕ)
     → LinesStand (b.0 ++ more) → b.1 ++ 10 ∷ b.2 ≡ unlines more ++ x → more ≡ []
 stops_there text n b [] x st e = refl
@@ -135,14 +147,17 @@ stops_there text n b (m ∷ more) x st e =
     let same = same_line b.1 m b.2 (unlines more ++ x) (by_recursion b.1 b.4) whole.0 (e ∙ first_line m more x) in
     absurd (b.7 (stands_shorter b.0 b.1 more (subst (λ l. LinesStand (b.0 ++ l ∷ more)) (sym same.0) st)))
 
+-- a text with a bad line stands up to that line
 bad_to : (text : List ℕ) (n : ℕ) (b : IsBadLine text n) → StandsTo text b.0 (b.1 ++ 10 ∷ b.2)
 bad_to text n b = record { cut = b.3; stand = b.5; no_more = stops_there text n b }
 
+-- a rest without a line feed has no further line
 lines_over : (tail : List ℕ) → Unbroken tail → (more : List (List ℕ)) (x : List ℕ) → tail ≡ unlines more ++ x
     → more ≡ []
 lines_over tail h [] x e = refl
 lines_over tail h (m ∷ more) x e = absurd (no_line m (unlines more ++ x) tail h (sym (e ∙ first_line m more x)))
 
+-- a text that ends early stands up to its last line feed
 ended_to : (text : List ℕ) (q : IsEnded text) → StandsTo text q.0 q.1
 ended_to text q =
     record { cut = q.2; stand = q.4; no_more = λ more x st e. lines_over q.1 (by_recursion q.1 q.3) more x e }
@@ -156,21 +171,25 @@ whole_and_whole text c d x y hc hd e f =
     let same = cut_once text x y (lines_of c) (lines_of d) (whole_to text c x hc e) (whole_to text d y hd f) in
     (claim_same c d hc hd same.0, same.1)
 
+-- a text is not a whole certificate and open at once
 whole_and_open : (text : List ℕ) (c : Claim) (x y : List ℕ) (ls : List (List ℕ)) → IsCertificate c
     → text ≡ text_of c ++ x → StandsTo text ls y → HasNoEnd ls → ⊥
 whole_and_open text c x y ls h e p none =
     claim_end c (subst HasNoEnd (sym (cut_once text x y (lines_of c) ls (whole_to text c x h e) p).0) none)
 
+-- a text has one bad line
 bad_and_bad : (text : List ℕ) (n m : ℕ) → IsBadLine text n → IsBadLine text m → n ≡ m
 bad_and_bad text n m p q =
     let same = cut_once text (p.1 ++ 10 ∷ p.2) (q.1 ++ 10 ∷ q.2) p.0 q.0 (bad_to text n p) (bad_to text m q) in
     omega (arith, p.8, q.8, ap length same.0)
 
+-- a text with a bad line does not end early
 bad_and_ended : (text : List ℕ) (n : ℕ) → IsBadLine text n → IsEnded text → ⊥
 bad_and_ended text n p q =
     no_line p.1 p.2 q.1 (by_recursion q.1 q.3)
     (cut_once text (p.1 ++ 10 ∷ p.2) q.1 p.0 q.0 (bad_to text n p) (ended_to text q)).1
 
+-- a certificate has one text
 pub one_spelling : HasOneSpelling
 one_spelling c d hc hd e = (whole_and_whole (text_of c ++ []) c d [] [] hc hd refl (ap (λ (x : List ℕ). x ++ []) e)).0
 
@@ -178,10 +197,12 @@ one_spelling c d hc hd e = (whole_and_whole (text_of c ++ []) c d [] [] hc hd re
 nothing_behind : (text : List ℕ) (c : Claim) → text ≡ text_of c → text ≡ text_of c ++ []
 nothing_behind text c e = e ∙ sym (append-nil (text_of c))
 
+-- a certificate's text has nothing behind its end
 ok_and_after : (text : List ℕ) (c : Claim) (n : ℕ) → IsCertificate c → text ≡ text_of c → IsAfterEnd text n → ⊥
 ok_and_after text c n h e p =
     let w = whole_and_whole text c p.0 [] p.2 h p.1 (nothing_behind text c e) p.4 in omega (arith, p.3, ap length w.1)
 
+-- a text has one line behind its end
 after_and_after : (text : List ℕ) (n m : ℕ) → IsAfterEnd text n → IsAfterEnd text m → n ≡ m
 after_and_after text n m p q =
     p.5 ∙ ap (λ (c : Claim). length (lines_of c) + 1) (whole_and_whole text p.0 q.0 p.2 q.2 p.1 q.1 p.4 q.4).0 ∙ sym q.5
@@ -191,9 +212,11 @@ whole_and_bad : (text : List ℕ) (c : Claim) (x : List ℕ) (n : ℕ) → IsCer
     → IsBadLine text n → ⊥
 whole_and_bad text c x n h e p = whole_and_open text c x (p.1 ++ 10 ∷ p.2) p.0 h e (bad_to text n p) p.6
 
+-- a text that begins with a whole certificate does not end early
 whole_and_ended : (text : List ℕ) (c : Claim) (x : List ℕ) → IsCertificate c → text ≡ text_of c ++ x → IsEnded text → ⊥
 whole_and_ended text c x h e p = whole_and_open text c x p.1 p.0 h e (ended_to text p) p.5
 
+-- a text has one answer
 pub one_answer : HasOneAnswer
 one_answer text (Err fault.OutOfMemory) other m k = tt
 one_answer text other (Err fault.OutOfMemory) m k = tt

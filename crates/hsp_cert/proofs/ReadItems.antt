@@ -24,11 +24,13 @@ use Rattle.hsp_cert.proofs.SpacedText.{NoSpace, cut_spaced, cut_whole, rejoined,
 
 -- ---- what a line that is read spells
 
+-- a word that was chosen is this one or one of the others
 chosen : (b : Bool) (v w : Word) (r : Option Word) → (if b then Some v else r) ≡ Some w
     → ((b ≡ true) × (v ≡ w)) ⊎ (r ≡ Some w)
 chosen true v w r h = inl (refl, cc)
 chosen false v w r h = inr h
 
+-- a word that was found is spelled so
 word_named : (ws : List Word) (o : List ℕ) (w : Word) → word_among ws o ≡ Some w → o ≡ spelled w
 word_named [] o w h = absurd cc
 word_named (v ∷ ws) o w h = elim (chosen (bytes_eq o (spelled v)) v w (word_among ws o) h) [
@@ -36,6 +38,7 @@ word_named (v ∷ ws) o w h = elim (chosen (bytes_eq o (spelled v)) v w (word_am
   | inr later ↦ word_named ws o w later
 ]
 
+-- a number that was read is whole and within its limit
 read_parts : (w l : Bool) (v n : ℕ)
     → number_read (if w then (if l then Ok v else Err TooLarge) else Err NotWhole) ≡ Some n
     → (w ≡ true) × (l ≡ true) × (v ≡ n)
@@ -43,18 +46,22 @@ read_parts true true v n h = (refl, refl, cc)
 read_parts true false v n h = absurd cc
 read_parts false l v n h = absurd cc
 
+-- a number that passes the test fits in 64 bits
 below : (n : ℕ) → nat_le n 18446744073709551615 ≡ true → n < 2 ^ 64
 below n h = let le : n ≤ 18446744073709551615 = grind (arith, nat_tests) in omega arith
 
+-- a number that fits in 64 bits passes the test
 fits_64 : (n : ℕ) → n < 2 ^ 64 → nat_le n 18446744073709551615 ≡ true
 fits_64 n h = let le : n ≤ 18446744073709551615 = omega arith in grind (arith, nat_tests)
 
+-- a number that was read is spelled so
 number_named : (o : List ℕ) (n : ℕ) → number_in o ≡ Some n → o ≡ decimal n
 number_named o n h =
     let p = read_parts (is_whole o) (nat_le (digits_value 10 o) 18446744073709551615) (digits_value 10 o) n h in
     let small : n < 2 ^ 64 = omega (arith, below (digits_value 10 o) p.1, p.2) in
     (digits_spell_their_number n o small).0 (p.0, p.2)
 
+-- three numbers behind a word say an item whose line they are
 third_says : (w : Word) (a b : ℕ) (x : List ℕ) (o : Option ℕ) (i : Item) → ((n : ℕ) → o ≡ Some n → x ≡ decimal n)
     → after_third w a b o ≡ Some i →
     spelled w ++ 32 ∷ (decimal a ++ 32 ∷ (decimal b ++ 32 ∷ x)) ≡ line_of i
@@ -63,6 +70,7 @@ third_says w a b x (Some c) i named h =
     let same : item.Three w a b c ≡ i = cc in
     ap (λ (t : List ℕ). spelled w ++ 32 ∷ (decimal a ++ 32 ∷ (decimal b ++ 32 ∷ t))) (named c refl) ∙ ap line_of same
 
+-- two numbers behind a word, and what follows them, say an item whose line they are
 second_says : (w : Word) (a : ℕ) (x : List ℕ) (o : Option ℕ) (r : Option (List ℕ)) (i : Item)
     → ((n : ℕ) → o ≡ Some n → x ≡ decimal n) → after_second w a o r ≡ Some i →
     spelled w ++ 32 ∷ (decimal a ++ 32 ∷ rejoined x r) ≡ line_of i
@@ -74,6 +82,7 @@ second_says w a x (Some b) (Some rest) i named h =
     ap (λ (t : List ℕ). spelled w ++ 32 ∷ (decimal a ++ 32 ∷ (t ++ 32 ∷ rest))) (named b refl)
     ∙ third_says w a b rest (number_in rest) i (number_named rest) h
 
+-- a number behind a word, and what follows it, say an item whose line they are
 first_says : (w : Word) (x : List ℕ) (o : Option ℕ) (r : Option (List ℕ)) (i : Item)
     → ((n : ℕ) → o ≡ Some n → x ≡ decimal n) → after_first w o r ≡ Some i →
     spelled w ++ 32 ∷ rejoined x r ≡ line_of i
@@ -86,6 +95,7 @@ first_says w x (Some a) (Some rest) i named h =
     ∙ ap (λ (t : List ℕ). spelled w ++ 32 ∷ (decimal a ++ 32 ∷ t)) (cut_rejoined rest)
     ∙ second_says w a (cut rest).0 (number_in (cut rest).0) (cut rest).1 i (number_named (cut rest).0) h
 
+-- a word and what follows it say an item whose line they are
 word_says : (x : List ℕ) (o : Option Word) (r : Option (List ℕ)) (i : Item) → ((w : Word) → o ≡ Some w → x ≡ spelled w)
     → after_word o r ≡ Some i → rejoined x r ≡ line_of i
 word_says x None r i named h = absurd cc
@@ -105,6 +115,7 @@ item_spelled line i h =
 abbrev pub Printed : List ℕ → Type 0
 Printed xs = AllByRecursion (λ x. 48 ≤ x) xs
 
+-- octets from 48 on are printed ones
 printed : (xs : List ℕ) → list_all (nat_le 48) xs ≡ true → Printed xs
 printed [] h = tt
 printed (x ∷ xs) h =
@@ -112,14 +123,17 @@ printed (x ∷ xs) h =
     let le : 48 ≤ x = let t = p.0 in grind (arith, nat_tests) in
     (le, printed xs p.1)
 
+-- a word is printed
 pub word_printed : (w : Word) → Printed (spelled w)
 word_printed word.Version = printed (spelled word.Version) refl
 word_printed w = printed (spelled w) refl
 
+-- printed octets stay so by one more
 printed_push : (xs : List ℕ) (x : ℕ) → Printed xs → 48 ≤ x → Printed (xs ++ x ∷ [])
 printed_push [] x h le = (le, tt)
 printed_push (y ∷ xs) x h le = (h.0, printed_push xs x h.1 le)
 
+-- a decimal is printed
 pub decimal_printed : (n : ℕ) → n < 2 ^ 64 → Printed (decimal n)
 decimal_printed n h =
     decimal_by_steps (λ _ ds. Printed ds) (λ k lt. (omega arith, tt))
@@ -130,16 +144,20 @@ pub printed_apart : (c : ℕ) → c < 48 → (xs : List ℕ) → Printed xs → 
 printed_apart c lt [] h = tt
 printed_apart c lt (x ∷ xs) h = let le = h.0 in ((λ e. omega arith), printed_apart c lt xs h.1)
 
+-- a word has no space
 word_spaceless : (w : Word) → NoSpace (spelled w)
 word_spaceless w = printed_apart 32 (omega arith) (spelled w) (word_printed w)
 
+-- a decimal has no space
 decimal_spaceless : (n : ℕ) → n < 2 ^ 64 → NoSpace (decimal n)
 decimal_spaceless n h = printed_apart 32 (omega arith) (decimal n) (decimal_printed n h)
 
+-- each word is found by its spelling
 word_back : (w : Word) → word_in (spelled w) ≡ Some w
 word_back word.Version = refl
 word_back w = refl
 
+-- each number is read back from its decimal
 number_back : (n : ℕ) → n < 2 ^ 64 → number_in (decimal n) ≡ Some n
 number_back n h = let s = (digits_spell_their_number n (decimal n) h).1 refl in rw (s.0, s.1, fits_64 n h) refl
 

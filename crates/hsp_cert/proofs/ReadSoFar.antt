@@ -35,6 +35,7 @@ pub record Progress (text rest : List ℕ) (lines : ℕ) (d : Drafted) : Type 0 
   pub within : lines + length rest ≤ length text
   pub no_end : has_ended d.stage ≡ false → HasNoEnd (map line_of items)
 
+-- at first nothing was read
 pub begins : (text : List ℕ) → Progress text text 0 start
 begins text =
     record { items = []; made = refl; back = tt; read = refl; count = refl; within = omega arith; no_end = λ _. tt }
@@ -42,14 +43,17 @@ begins text =
 abbrev some_of : {A : Type 0} → A → Option A
 some_of x = Some x
 
+-- a step that was taken gave this
 took : {A : Type 0} (o : Option A) (x : A) → Took o true x → o ≡ Some x
 took None x h = absurd h
 took (Some y) x h = ap some_of (sym h)
 
+-- a step that was not taken gave nothing
 refused : {A : Type 0} (o : Option A) (x : A) → Took o false x → o ≡ None
 refused None x h = refl
 refused (Some y) x h = absurd h
 
+-- a line that was taken says an item, which was taken
 said_parts : (d e : Drafted) (o : Option Item) → said_step d o ≡ Some e
     → (i : Item) × (o ≡ Some i) × (step d i ≡ Some e)
 said_parts d e None h = absurd cc
@@ -63,6 +67,7 @@ end_ends_at stage.Rows d e h =
     let same : staged stage.ShortageEnded d ≡ e = cc in subst (λ (x : Drafted). has_ended x.stage ≡ true) same refl
 end_ends_at s d e h = absurd cc
 
+-- while the certificate goes on, no line is its end
 no_end_yet : (d e : Drafted) (i : Item) → ReadsBack i → step d i ≡ Some e → has_ended e.stage ≡ false
     → line_of i ≡ codes "END" → ⊥
 no_end_yet d e i back taken still named =
@@ -99,6 +104,7 @@ adds text rest line after lines d e g still cut t =
           (no_end_yet d e i back p.2 goes, tt));
     }
 
+-- a line that is refused is a bad one
 pub bad_line : (text rest line after : List ℕ) (lines : ℕ) (d e : Drafted) → Progress text rest lines d
     → has_ended d.stage ≡ false → rest ≡ line ++ 10 ∷ after → IsUnbroken line →
     Took (step_line d line) false e → IsBadLine text (lines + 1)
@@ -114,6 +120,7 @@ bad_line text rest line after lines d e g still cut unbroken t = (
   omega (arith, g.count, length-map g.items line_of),
 )
 
+-- a text that ends before the certificate does ends early
 pub ended : (text rest : List ℕ) (lines : ℕ) (d : Drafted) → Progress text rest lines d → has_ended d.stage ≡ false
     → IsUnbroken rest → IsEnded text
 ended text rest lines d g still unbroken =
@@ -131,6 +138,7 @@ whole text rest lines d g over =
       omega (arith, g.count, ap length same, length-map (items_of (claimed d)) line_of),
     )
 
+-- a certificate with nothing behind its end is the whole text
 pub whole_alone : (text rest : List ℕ) (lines : ℕ) (d : Drafted) (c : Claim) → Progress text rest lines d
     → has_ended d.stage ≡ true → (length rest == 0) ≡ true → c ≡ claimed d →
     IsCertificate c × (text ≡ text_of c)
@@ -142,10 +150,12 @@ whole_alone text rest lines d c g over none same =
           ∙ ap text_of (sym same),
     )
 
+-- what is not empty has an octet
 some_left : (rest : List ℕ) → (length rest == 0) ≡ false → 0 < length rest
 some_left [] h = absurd cc
 some_left (x ∷ rest) h = omega arith
 
+-- a certificate with something behind its end has a line after the end
 pub after_end : (text rest : List ℕ) (lines : ℕ) (d : Drafted) → Progress text rest lines d → has_ended d.stage ≡ true
     → (length rest == 0) ≡ false → IsAfterEnd text (lines + 1)
 after_end text rest lines d g over some =

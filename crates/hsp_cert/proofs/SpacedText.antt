@@ -25,10 +25,12 @@ abbrev pub rejoined : List ℕ → Option (List ℕ) → List ℕ
 rejoined a None = a
 rejoined a (Some b) = a ++ 32 ∷ b
 
+-- an octet before a cut text stands before its first part
 rejoined-cons : (x : ℕ) (a : List ℕ) (o : Option (List ℕ)) → rejoined (x ∷ a) o ≡ x ∷ rejoined a o
 rejoined-cons x a None = refl
 rejoined-cons x a (Some b) = refl
 
+-- the parts of a cut text make the text again
 pub cut_rejoined : (t : List ℕ) → t ≡ rejoined (cut t).0 (cut t).1
 cut_rejoined [] = refl
 cut_rejoined (x ∷ t) = elim (cases_eq x 32) [
@@ -37,6 +39,7 @@ cut_rejoined (x ∷ t) = elim (cases_eq x 32) [
       rw (ne_eqb x 32 other) (ap (λ (y : List ℕ). x ∷ y) (cut_rejoined t) ∙ sym (rejoined-cons x (cut t).0 (cut t).1))
 ]
 
+-- a text is cut at its first space
 cut_first : (t : List ℕ) (i : ℕ) → i < length t → get_or t i 0 ≡ 32 → ((k : ℕ) → k < i → get_or t k 0 ≡ 32 → ⊥)
     → cut t ≡ (take i t, Some (drop (suc i) t))
 cut_first [] i lt at none = absurd (omega arith)
@@ -44,6 +47,7 @@ cut_first (x ∷ t) zero lt at none = rw (eq-eqb x 32 at) refl
 cut_first (x ∷ t) (suc i) lt at none =
     rw (ne_eqb x 32 (none 0 (omega arith)), cut_first t i (omega arith) at (λ k h. none (suc k) (omega arith))) refl
 
+-- what stands behind a place are all later octets
 rest_of : (t : List ℕ) (i : ℕ) → i < length t → take (length t - (i + 1)) (drop (i + 1) t) ≡ drop (suc i) t
 rest_of t i h = grind (arith, common_steps)
 
@@ -52,6 +56,7 @@ pub cut_at : (t : List ℕ) (i : ℕ) → i < length t → get_or t i 0 ≡ 32 �
     → cut t ≡ (take i t, Some (take (length t - (i + 1)) (drop (i + 1) t)))
 cut_at t i lt at none = rw (rest_of t i lt) (cut_first t i lt at none)
 
+-- a text without a space is not cut
 pub cut_nowhere : (t : List ℕ) → ((k : ℕ) → k < length t → get_or t k 0 ≡ 32 → ⊥) → cut t ≡ (t, None)
 cut_nowhere [] none = refl
 cut_nowhere (x ∷ t) none =

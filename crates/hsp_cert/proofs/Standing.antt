@@ -23,10 +23,12 @@ record Completes (v : ℕ) (b : Best) : Type 0 where
   more : List Item
   items : body_items plan ≡ body_items b ++ more
 
+-- a body of its own version is complete as it is
 as_it_is : (v : ℕ) (b : Best) → IsBest b → version_of b.host_prices ≡ v → Completes v b
 as_it_is v b h e =
     record { plan = b; is = h; version = e; cost = refl; more = []; items = sym (append-nil (body_items b)) }
 
+-- a body of the second version is complete with a price of a host
 with_hosts : (cost : ℕ) (us : List UseLine) (rs ss hs : List ℕ)
     → IsBest (record { cost = cost; uses = us; row_prices = rs; server_prices = ss; host_prices = hs }) →
     Completes 2 (record { cost = cost; uses = us; row_prices = rs; server_prices = ss; host_prices = hs })
@@ -44,10 +46,12 @@ with_hosts cost us rs ss [] h =
 with_hosts cost us rs ss (q ∷ hs) h =
     as_it_is 2 (record { cost = cost; uses = us; row_prices = rs; server_prices = ss; host_prices = q ∷ hs }) h refl
 
+-- a body of version two goes on as one of that version
 completes_two : (v : ℕ) (b : Best) → 2 ≡ v → Completes 2 b → Completes v b
 completes_two v b e c =
     record { plan = c.plan; is = c.is; version = c.version ∙ e; cost = c.cost; more = c.more; items = c.items }
 
+-- a body of either version goes on to a complete one
 completes : (v : ℕ) (b : Best) → (v ≡ 1) ⊎ (v ≡ 2) → (v ≡ 1 → b.host_prices ≡ []) → IsBest b → Completes v b
 completes v b (inl one) none h = as_it_is v b h (ap version_of (none one) ∙ sym one)
 completes v b (inr two) none h =
@@ -57,6 +61,7 @@ completes v b (inr two) none h =
 abbrev pub CanStand : List Item → Type 0
 CanStand items = (claim : Claim) × IsCertificate claim × (more : List Item) × (items_of claim ≡ items ++ more)
 
+-- the plan without uses and prices keeps every rule
 no_plan_is : IsBest no_plan
 no_plan_is =
     record {
@@ -71,6 +76,7 @@ no_plan_is =
       host_prices = refl;
     }
 
+-- the item that ends a certificate
 end : List Item
 end = item.Alone word.End ∷ []
 
@@ -92,10 +98,12 @@ claim_ended_at stage.ShortageEnded d over h = (
 )
 claim_ended_at s d over h = absurd cc
 
+-- a draft that has ended is a certificate with the items that were read
 pub claim_ended : (d : Drafted) → has_ended d.stage ≡ true → Valid d
     → IsCertificate (claimed d) × (items_of (claimed d) ≡ so_far d)
 claim_ended d over h = claim_ended_at d.stage d over h
 
+-- a draft of any stage goes on to a certificate
 stands_at : (s : Stage) (d : Drafted) → Valid_at s d → CanStand (so_far_at s d)
 unfolding end
 stands_at stage.Version d h = (best no_plan, no_plan_is, items_of (best no_plan), refl)

@@ -29,10 +29,12 @@ abbrev pub run : Option Drafted → List Item → Option Drafted
 run o [] = o
 run o (i ∷ is) = run (stepped o i) is
 
+-- items in two runs are taken one after the other
 pub run-append : (o : Option Drafted) (xs ys : List Item) → run o (xs ++ ys) ≡ run (run o xs) ys
 run-append o [] ys = refl
 run-append o (x ∷ xs) ys = run-append (stepped o x) xs ys
 
+-- nothing is taken once an item was refused
 pub run-none : (xs : List Item) → run None xs ≡ None
 run-none [] = refl
 run-none (x ∷ xs) = run-none xs
@@ -40,9 +42,11 @@ run-none (x ∷ xs) = run-none xs
 abbrev pub some_draft : Drafted → Option Drafted
 some_draft d = Some d
 
+-- a draft is one only
 pub some_is : (d e : Drafted) → some_draft d ≡ Some e → d ≡ e
 some_is d e h = cc
 
+-- a run that gave a draft began with one
 pub first_step : (o : Option Drafted) (xs : List Item) (e : Drafted) → run o xs ≡ Some e → (d : Drafted) × (o ≡ Some d)
 first_step None xs e h = let n = run-none xs in absurd cc
 first_step (Some d) xs e h = (d, refl)
@@ -57,6 +61,7 @@ run_next (x ∷ xs) d e h eq =
     let r = run_next xs f.0 e n.0 (rw f.1 at eq) in
     (r.0, r.1 ∙ ap (λ (l : List Item). l ++ xs) n.1 ∙ append_assoc (so_far d) (x ∷ []) xs)
 
+-- the first draft keeps every rule
 start_valid : Valid start
 start_valid = (
   record {
@@ -89,9 +94,11 @@ in_body v cost us rs ss hs =
       set = no_set;
     }
 
+-- a use has a row and a site within their limits
 use_parts : (u : UseLine) → is_use u ≡ true → (nat_le u.row 8191 && nat_le u.site 31) ≡ true
 use_parts u h = (and_parts (nat_le u.row 8191 && nat_le u.site 31) (nat_le 1 u.count && nat_le u.count 1000000) h).0
 
+-- a use that may stand there is taken
 use_stepped : (v cost : ℕ) (us : List UseLine) (u : UseLine) → is_use u ≡ true
     → goes_on_from is_before (last us) u ≡ true →
     step (in_body v cost us [] [] []) (item.Three word.Use u.row u.site u.count)
@@ -99,6 +106,7 @@ use_stepped : (v cost : ℕ) (us : List UseLine) (u : UseLine) → is_use u ≡ 
 use_stepped v cost us u h k =
     rw (use_parts u h) (rw (and_from (is_use u) (goes_on_from is_before (last us) u) h k) refl)
 
+-- all uses are taken, in their order
 run_uses : (v cost : ℕ) (us vs : List UseLine) (rest : List Item) → list_all is_use vs ≡ true
     → ascends_from is_before (last us) vs ≡ true →
     run (Some (in_body v cost us [] [] [])) (use_items vs ++ rest)
@@ -112,10 +120,12 @@ run_uses v cost us (u ∷ vs) rest h k =
     ∙ run_uses v cost (us ++ u ∷ []) vs rest one.1 (rw (last_push us u) two.1)
     ∙ ap (λ (l : List UseLine). run (Some (in_body v cost l [] [] [])) rest) (append_assoc us (u ∷ []) vs)
 
+-- a function of what stands under a condition stands under it
 map_when : {A B : Type 0} (f : A → B) (t : Bool) (x : A) → option_map f (when t x) ≡ when t (f x)
 map_when f true x = refl
 map_when f false x = refl
 
+-- all prices of a kind are taken, in their order
 run_prices : (w : Word) (most : ℕ) (state : List ℕ → Drafted)
     → ((qs : List ℕ) (n p : ℕ) → step (state qs) (item.Two w n p) ≡ when (is_next most qs n p) (state (qs ++ p ∷ []))) →
     (qs ps : List ℕ) (rest : List Item) → length qs + length ps ≤ most → list_all is_price ps ≡ true →
@@ -135,6 +145,7 @@ run_prices w most state takes qs (p ∷ ps) rest le h =
     ∙ run_prices w most state takes (qs ++ p ∷ []) ps rest within one.1
     ∙ ap (λ (l : List ℕ). run (Some (state l)) rest) (append_assoc qs (p ∷ []) ps)
 
+-- all prices of rows are taken
 run_row_prices : (v cost : ℕ) (us : List UseLine) (ps : List ℕ) (rest : List Item) → length ps ≤ 8192
     → list_all is_price ps ≡ true →
     run (Some (in_body v cost us [] [] [])) (price_items word.Row 0 ps ++ rest)
@@ -146,6 +157,7 @@ run_row_prices v cost us ps rest le h =
     (record { cost = cost; uses = us; row_prices = qs ++ p ∷ []; server_prices = []; host_prices = [] })) [] ps rest
     (omega arith) h
 
+-- all prices of servers are taken
 run_server_prices : (v cost : ℕ) (us : List UseLine) (rs ps : List ℕ) (rest : List Item) → length ps ≤ 1024
     → list_all is_price ps ≡ true →
     run (Some (in_body v cost us rs [] [])) (price_items word.Server 0 ps ++ rest)
@@ -157,6 +169,7 @@ run_server_prices v cost us rs ps rest le h =
     (record { cost = cost; uses = us; row_prices = rs; server_prices = qs ++ p ∷ []; host_prices = [] })) [] ps rest
     (omega arith) h
 
+-- all prices of hosts are taken
 run_host_prices : (cost : ℕ) (us : List UseLine) (rs ss ps : List ℕ) (rest : List Item) → length ps ≤ 1024
     → list_all is_price ps ≡ true →
     run (Some (in_body (version_of ps) cost us rs ss [])) (price_items word.Host 0 ps ++ rest)
@@ -173,6 +186,7 @@ abbrev pub ended : Claim → Drafted
 ended (best b) = record { stage = stage.PlanEnded; version = version_of b.host_prices; plan = b; set = no_set }
 ended (short s) = record { stage = stage.ShortageEnded; version = 1; plan = no_plan; set = s }
 
+-- the version of a plan is one or two
 version_known : (ps : List ℕ) → (version_of ps == 1 || version_of ps == 2) ≡ true
 version_known [] = refl
 version_known (p ∷ ps) = refl
@@ -186,10 +200,12 @@ at_rows demand capacity rows =
       set = record { rows = rows; demand = demand; capacity = capacity };
     }
 
+-- a row that may stand there is taken
 row_stepped : (demand capacity : ℕ) (rs : List ℕ) (r : ℕ) → is_row r ≡ true → goes_on_from nat_lt (last rs) r ≡ true →
     step (at_rows demand capacity rs) (item.One word.Row r) ≡ Some (at_rows demand capacity (rs ++ r ∷ []))
 row_stepped demand capacity rs r h k = rw h (rw (and_from (is_row r) (goes_on_from nat_lt (last rs) r) h k) refl)
 
+-- all rows of a short set are taken, in their order
 run_rows : (demand capacity : ℕ) (rs ts : List ℕ) (rest : List Item) → list_all is_row ts ≡ true
     → ascends_from nat_lt (last rs) ts ≡ true →
     run (Some (at_rows demand capacity rs)) (row_items ts ++ rest)
@@ -203,6 +219,7 @@ run_rows demand capacity rs (r ∷ ts) rest h k =
     ∙ run_rows demand capacity (rs ++ r ∷ []) ts rest one.1 (rw (last_push rs r) two.1)
     ∙ ap (λ (l : List ℕ). run (Some (at_rows demand capacity l)) rest) (append_assoc rs (r ∷ []) ts)
 
+-- the body of a plan is taken whole
 run_body : (b : Best) (rest : List Item) → IsBest b
     → run (Some (in_body (version_of b.host_prices) b.cost [] [] [] [])) (body_items b ++ rest)
     ≡ run (Some (in_body (version_of b.host_prices) b.cost b.uses b.row_prices b.server_prices b.host_prices)) rest

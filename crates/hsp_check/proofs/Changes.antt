@@ -8,10 +8,12 @@ use Rattle.hsp_check.specs.Network.{transport}
 use Rattle.hsp_check.specs.Plan.{Plan, planned, total}
 use Rattle.hsp_check.proofs.Duality.{prices_show_best}
 
+-- prices of one network bound the cost of plans of another
 pub prices_bound_changes : PricesBoundChanges
 prices_bound_changes n x u p q prices demands capacities limits is y feasible =
     prices_bound (transport (with_numbers n demands capacities limits)) is u p q prices.below (planned y) feasible.flow
 
+-- one number that changes is priced by its own price
 pub one_change_is_priced : OneChangeIsPricedBy
 one_change_is_priced n x u p q is feasible prices = record {
   room_saves =

@@ -10,6 +10,7 @@ use Rattle.hsp_check.specs.declared.sums.ArcFlow.{ArcFlow}
 use Rattle.hsp_check.specs.Plan.{Plan, planned}
 use Rattle.hsp_transport.proofs.Summing.{sum_by_same_all}
 
+-- a sum over what a function gives is the sum of that
 sum_of_map : {A B : Type 0} (f : A → B) (g : B → ℕ) (xs : List A) → sum_by g (map f xs) ≡ sum_by (λ x. g (f x)) xs
 sum_of_map f g [] = refl
 sum_of_map f g (x ∷ xs) =
@@ -24,6 +25,7 @@ flow_sum g x arc_flows flows =
     (λ k d l. ap (λ m. g (slice_index_or arc_flows k d).arc m) (flows k d l))
     ∙ sym (sum_of_map (λ (l : ArcFlow). l.arc) (λ a. g a (planned x a)) arc_flows)
 
+-- what holds of all that a function gives
 pub all_of_map : {A B : Type 0} (f : A → B) (P : B → Type 0) (xs : List A) → All P (map f xs) → All (λ x. P (f x)) xs
 all_of_map f P xs all k d l = subst P (get_or-map f xs k d) (all k (f d) (rw (length-map xs f) l))
 

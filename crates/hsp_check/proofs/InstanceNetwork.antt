@@ -20,6 +20,7 @@ pub record IsWithin (rows servers : ℕ) (a : NetworkArc) : Type 0 where
   pub server : a.server < servers
   pub cost : a.cost ≤ 1000000
 
+-- arcs lead from rows to servers that are there
 arcs_within : (servers : List Server) (i rows : ℕ) (lists : List (List Arc)) → AllByRecursion (AreArcs servers) lists
     → i + length lists ≤ rows → All (IsWithin rows (length servers)) (arcs_from i lists)
 arcs_within servers i rows [] each few = All-nil (IsWithin rows (length servers))
@@ -34,12 +35,14 @@ arcs_within servers i rows (arcs ∷ lists) each few =
     }))
     (arcs_within servers (i + 1) rows lists each.1 (omega arith))
 
+-- each arc of an instance's network does
 pub all_within : (it : Instance) → IsInstance it
     → All (IsWithin (length (network_of it).demands) (length (network_of it).capacities)) (network_of it).arcs
 all_within it is =
     rw (length-map it.rows (λ (r : Row). r.count), length-map it.servers (λ (s : Server). s.capacity))
     (arcs_within it.servers 0 (length it.rows) it.arcs is.arcs (omega (arith, is.one_list_a_row)))
 
+-- each host of a server is a listed one
 hosts_there : (it : Instance) → IsInstance it → (j h : ℕ) → j < length (network_of it).capacities
     → (network_of it).host_of j ≡ Some h → h < length (network_of it).limits
 hosts_there it is j h l on =
@@ -51,11 +54,13 @@ hosts_there it is j h l on =
     All-from_recursion (IsServer it.sites (length it.hosts)) it.servers is.servers.each j no_server inside in
     rw (length-map it.hosts (λ (h : Host). h.limit)) (subst (λ o. IsHostOf (length it.hosts) o) host server.host)
 
+-- an instance has a network whose numbers fit
 pub is_network : (it : Instance) → IsInstance it → IsNetwork (network_of it)
 is_network it is =
     let arcs = all_within it is in
     record { sources = λ k d l. (arcs k d l).row; servers = λ k d l. (arcs k d l).server; hosts = hosts_there it is }
 
+-- no arc costs more than a million
 pub are_cheap : (it : Instance) → IsInstance it → All (λ a. a.cost ≤ 1000000) (network_of it).arcs
 are_cheap it is k d l = (all_within it is k d l).cost
 

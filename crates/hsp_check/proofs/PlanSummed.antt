@@ -21,6 +21,7 @@ pub record AreMade (lists : FlowLists) (loads : Loads) : Type 0 where
   pub hosts_many : length loads.hosts.items ≡ length lists.limits.now
   pub hosts_are : AreHosted lists.server_hosts.now loads.servers.items loads.hosts.items
 
+-- loads that were added up are those of the plan
 pub are_loads : (lists : FlowLists) (loads : Loads) → length lists.capacities.now ≡ length lists.server_hosts.now
     → AreMade lists loads →
     (x : Plan) → All (λ l. l.flow ≡ planned x l.arc) lists.arc_flows.now → AreLoads (network_in lists) x loads

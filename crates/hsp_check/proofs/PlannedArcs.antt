@@ -11,6 +11,7 @@ use Rattle.hsp_check.specs.Plan.{Plan}
 use Rattle.hsp_check.specs.Planned.{ArePlanned}
 use Rattle.hsp_check.proofs.FlowSums.{all_of_map}
 
+-- arcs with their flows are those of the instance and of the plan
 pub are_planned : (it : Instance) (x : Plan) (bare arc_flows : List ArcFlow) → IsNetwork (network_of it)
     → All (λ a. a.cost ≤ 1000000) (network_of it).arcs → length bare < 2 ^ 32 →
     map (λ l. l.arc) bare ≡ (network_of it).arcs → AreArcFlows (network_of it).arcs x arc_flows

@@ -9,6 +9,7 @@ use Rattle.hsp_cert.specs.declared.use_line.UseLine.{UseLine}
 use Rattle.hsp_cert.specs.Certificate.{is_use, is_price, is_before, ascends, ascends_from}
 use Rattle.hsp_check.specs.Prices.{ArePrices}
 
+-- prices that pass their test are within their limit
 pub prices_low : (prices : List ℕ) → list_all is_price prices ≡ true → ArePrices prices
 prices_low prices all k d l = leb-true _ _ (AllPass-from_list_all is_price prices all k d l)
 
@@ -19,6 +20,7 @@ record InRange (one : UseLine) : Type 0 where
   least : 1 ≤ one.count
   most : one.count ≤ 1000000
 
+-- a use that passes its test has a row and a site within their limits
 in_range : (one : UseLine) → is_use one ≡ true → InRange one
 in_range one test =
     let both =
@@ -32,6 +34,7 @@ in_range one test =
       most = leb-true _ _ counts.1;
     }
 
+-- uses that pass their test count a million at most
 pub counts_low : (uses : List UseLine) → list_all is_use uses ≡ true → All (λ u. u.count ≤ 1000000) uses
 counts_low uses all k d l = (in_range (slice_index_or uses k d) (AllPass-from_list_all is_use uses all k d l)).most
 
@@ -39,6 +42,7 @@ counts_low uses all k d l = (in_range (slice_index_or uses k d) (AllPass-from_li
 abbrev place_of : UseLine → ℕ
 place_of one = one.row * 32 + one.site
 
+-- of two uses in their order the later one has the later place
 later : (u v : UseLine) → InRange u → InRange v → is_before u v ≡ true → place_of u < place_of v
 later u v a b test = elim (cases_Bool (nat_lt u.row v.row)) [
   | inl less ↦ let l = ltb-true u.row v.row less in let s = a.site in omega arith
@@ -50,6 +54,7 @@ later u v a b test = elim (cases_Bool (nat_lt u.row v.row)) [
       omega arith
 ]
 
+-- uses in their order are no more than there are places
 few_after : (u : UseLine) (uses : List UseLine) → InRange u → list_all is_use uses ≡ true
     → ascends_from is_before (Some u) uses ≡ true → place_of u + length uses < 262144
 few_after u [] a all order = let r = a.row in let s = a.site in omega arith

@@ -10,15 +10,13 @@ use Rattle.hsp_check.specs.Reach.{network_in}
 use Rattle.hsp_check.specs.Short.{reaches, reached}
 use Rattle.hsp_check.proofs.FlowSums.{on_arcs}
 use Rattle.hsp_check.proofs.Shortages.{any_of_arcs, any_same}
+use Rattle.std.proofs.lemmas.List.{map-id}
 
-map_same : (xs : List ℕ) → map (λ k. k) xs ≡ xs
-map_same [] = refl
-map_same (x ∷ xs) = ap (λ ys. x ∷ ys) (map_same xs)
-
+-- of one number more, it is kept where it passes
 pub kept_more : (p : ℕ → Bool) (n : ℕ)
     → filter p (range_with_len 0 (n + 1)) ≡ filter p (range_with_len 0 n) ++ cond (p n) (n ∷ []) []
 kept_more p n =
-    rw (map_same (range_with_len 0 (n + 1)), map_same (range_with_len 0 n)) at
+    rw (map-id (range_with_len 0 (n + 1)), map-id (range_with_len 0 n)) at
     (filter_of_map_range_with_len_more p (λ k. k) 0 n n (omega arith))
 
 -- tests that agree below a number keep the same numbers below it

@@ -16,24 +16,29 @@ module _ (n : Network) where
   abbrev links : List NetworkArc → ℕ → List Link
   links arcs i = links_in site_of (transport n) arcs i
 
+  -- the links of two lists of arcs stand one after the other
   links_append : (xs ys : List NetworkArc) (i : ℕ) → links (xs ++ ys) i ≡ links xs i ++ links ys i
   links_append [] ys i = refl
   links_append (x ∷ xs) ys i = grind (arith, links_append xs ys i)
 
+  -- the links of a row's own arcs are those arcs
   own_links : (arcs : List Arc) (j : ℕ) → links (map (arc_of j) arcs) j ≡ map link arcs
   own_links [] j = refl
   own_links (a ∷ arcs) j = grind (arith, own_links arcs j, eq-eqb j j refl)
 
+  -- another row's arcs are no links of this row
   no_links : (arcs : List Arc) (j i : ℕ) → (j ≡ i → ⊥) → links (map (arc_of j) arcs) i ≡ []
   no_links [] j i ne = refl
   no_links (a ∷ arcs) j i ne = grind (arith, no_links arcs j i ne, ne_eqb j i ne)
 
+  -- rows behind a row have no links of it
   before_links : (lists : List (List Arc)) (j i : ℕ) → i < j → links (arcs_from j lists) i ≡ []
   before_links [] j i l = refl
   before_links (arcs ∷ lists) j i l =
       links_append (map (arc_of j) arcs) (arcs_from (j + 1) lists) i
       ∙ ap₂ (λ x y. x ++ y) (no_links arcs j i (λ e. omega arith)) (before_links lists (j + 1) i (omega arith))
 
+  -- the links of a row are its own list
   links_from : (lists : List (List Arc)) (j i : ℕ)
       → links (arcs_from j lists) (j + i) ≡ map link (slice_index_or lists i [])
   links_from [] j i = refl
@@ -54,6 +59,7 @@ module _ (n : Network) where
   links_of_row lists i =
       let e : 0 + i ≡ i = omega arith in ap (links (arcs_from 0 lists)) (sym e) ∙ links_from lists 0 i
 
+-- each arc is of a row that is there
 pub rows_below : (lists : List (List Arc)) (j most : ℕ) → j + length lists ≤ most
     → All (λ (a : NetworkArc). a.row < most) (arcs_from j lists)
 rows_below [] j most l = All-nil (λ (a : NetworkArc). a.row < most)

@@ -31,6 +31,7 @@ arcs_more i (suc k) (first ∷ rest) l =
     (append_assoc (map (arc_of i) first) (arcs_from (i + 1) (take k rest))
     (map (arc_of (i + suc k)) (slice_index_or rest k []))))
 
+-- an arc that stands for none
 no_row : Arc
 no_row = record { site = 0; server = 0; cost = 0 }
 
@@ -65,21 +66,26 @@ module _ (n : ℕ) (arc_flows : List ArcFlow) (starts : List ℕ) (arcs : List A
   abbrev ends : List ℕ
   ends = starts ++ length more ∷ []
 
+  -- there are as many arcs more as the row has
   many : length more ≡ length arc_flows + length arcs
   many = length-append arc_flows (map (bare_arc n) arcs) ∙ ap (λ k. length arc_flows + k) (length-map arcs (bare_arc n))
 
+  -- the arcs of earlier rows stay
   old_arc : (k : ℕ) → k < length arc_flows → slice_index_or more k no_arc ≡ slice_index_or arc_flows k no_arc
   old_arc k l = get_or_append_left arc_flows (map (bare_arc n) arcs) no_arc k l
 
+  -- behind them stand those of the row, without flow
   new_arc : (k : ℕ) → length arc_flows ≤ k → k < length more
       → slice_index_or more k no_arc ≡ bare_arc n (slice_index_or arcs (k - length arc_flows) no_row)
   new_arc k l m =
       get_or-append_right arc_flows (map (bare_arc n) arcs) (length arc_flows) k no_arc refl l
       ∙ get_or-map (bare_arc n) arcs (k - length arc_flows) no_row no_arc (omega (arith, many))
 
+  -- the runs of earlier rows stay
   old_start : (i : ℕ) → i ≤ n → slice_index ends i ≡ slice_index starts i
   old_start i l = get_or_append_left starts (length more ∷ []) 0 i (omega (arith, by.starts_many))
 
+  -- the run of the row ends with all arcs
   new_start : slice_index ends (n + 1) ≡ length more
   new_start =
       let at : n + 1 - (n + 1) ≡ 0 = omega arith in
@@ -97,24 +103,29 @@ module _ (n : ℕ) (arc_flows : List ArcFlow) (starts : List ℕ) (arcs : List A
         new_arc k new l in inr (new, ap (λ (a : ArcFlow). a.arc.row) e, ap (λ (a : ArcFlow). a.arc.site) e)
   ]
 
+  -- an arc that stays keeps its row
   row_of_old : (k : ℕ) → arc_at more k ≡ arc_at arc_flows k → (arc_at more k).row ≡ (arc_at arc_flows k).row
   row_of_old k e = ap (λ (a : NetworkArc). a.row) e
 
+  -- an arc that stays keeps its site
   site_of_old : (k : ℕ) → arc_at more k ≡ arc_at arc_flows k → (arc_at more k).site ≡ (arc_at arc_flows k).site
   site_of_old k e = ap (λ (a : NetworkArc). a.site) e
 
+  -- each run ends no earlier than it begins
   ordered : (i : ℕ) → i < n + 1 → slice_index ends i ≤ slice_index ends (i + 1)
   ordered i l = elim (cases_lt i n) [
     | inl less ↦ omega (arith, old_start i (omega arith), old_start (i + 1) (omega arith), by.ordered i less)
     | inr rest ↦ let e : i ≡ n = omega arith in rw e (omega (arith, old_start n (omega arith), new_start, last, many))
   ]
 
+  -- each run ends within the arcs
   within : (i : ℕ) → i < n + 1 → slice_index ends (i + 1) ≤ length more
   within i l = elim (cases_lt i n) [
     | inl less ↦ omega (arith, old_start (i + 1) (omega arith), by.within i less, many)
     | inr rest ↦ let e : i ≡ n = omega arith in rw e (omega (arith, new_start))
   ]
 
+  -- the arcs of a run are those of its row
   own : (i k : ℕ) → i < n + 1 → slice_index ends i ≤ k → k < slice_index ends (i + 1) → (arc_at more k).row ≡ i
   own i k l from upto = elim (cases_lt i n) [
     | inl less ↦
@@ -130,12 +141,14 @@ module _ (n : ℕ) (arc_flows : List ArcFlow) (starts : List ℕ) (arcs : List A
         (new_arc k (omega (arith, old_start n (omega arith), last)) (omega (arith, new_start))) ∙ sym e
   ]
 
+  -- each arc is of a row up to this one
   rows_in : (k : ℕ) → k < length more → (arc_at more k).row < n + 1
   rows_in k l = elim (which k l) [
     | inl old ↦ omega (arith, row_of_old k old.1, by.rows_in k old.0)
     | inr new ↦ omega (arith, new.1)
   ]
 
+  -- an arc stands no earlier than its row's run begins
   from : (k : ℕ) → k < length more → slice_index ends (arc_at more k).row ≤ k
   from k l = elim (which k l) [
     | inl old ↦
@@ -144,6 +157,7 @@ module _ (n : ℕ) (arc_flows : List ArcFlow) (starts : List ℕ) (arcs : List A
     | inr new ↦ rw new.1 (omega (arith, old_start n (omega arith), last, new.0))
   ]
 
+  -- an arc stands before its row's run ends
   upto : (k : ℕ) → k < length more → k < slice_index ends ((arc_at more k).row + 1)
   upto k l = elim (which k l) [
     | inl old ↦
@@ -152,6 +166,7 @@ module _ (n : ℕ) (arc_flows : List ArcFlow) (starts : List ℕ) (arcs : List A
     | inr new ↦ rw new.1 (omega (arith, new_start))
   ]
 
+  -- two arcs of a row lead to different sites
   apart : (k m : ℕ) → k < length more → m < length more → (arc_at more k).row ≡ (arc_at more m).row
       → (arc_at more k).site ≡ (arc_at more m).site → k ≡ m
   apart k m l j row site = elim (which k l) [
@@ -171,6 +186,7 @@ module _ (n : ℕ) (arc_flows : List ArcFlow) (starts : List ℕ) (arcs : List A
     ]
   ]
 
+  -- the arcs stand row by row, also with this one
   row_more : ByRow (n + 1) more ends
   row_more = record {
     starts_many = omega (arith, length-append starts (length more ∷ []), by.starts_many);
@@ -183,6 +199,7 @@ module _ (n : ℕ) (arc_flows : List ArcFlow) (starts : List ℕ) (arcs : List A
     apart = apart;
   }
 
+  -- no arc has flow yet
   bare_more : ((k : ℕ) → k < length arc_flows → flow_at arc_flows k ≡ 0) → (k : ℕ) → k < length more
       → flow_at more k ≡ 0
   bare_more bare k l = elim (cases_lt k (length arc_flows)) [

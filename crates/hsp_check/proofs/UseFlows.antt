@@ -14,6 +14,7 @@ use Rattle.hsp_check.specs.Uses.{table}
 abbrev pub with_more : List ArcFlow → ℕ → ℕ → List ArcFlow
 with_more arc_flows p n = slice_set arc_flows p (record { arc = arc_at arc_flows p; flow = flow_at arc_flows p + n })
 
+-- adding flow leaves the arcs as they are
 pub arc_kept : (arc_flows : List ArcFlow) (p n k : ℕ) → p < length arc_flows
     → arc_at (with_more arc_flows p n) k ≡ arc_at arc_flows k
 arc_kept arc_flows p n k l = elim (cases_eq p k) [
@@ -28,6 +29,7 @@ arc_kept arc_flows p n k l = elim (cases_eq p k) [
       apart)
 ]
 
+-- only the arc that is used has more flow
 pub flow_grown : (arc_flows : List ArcFlow) (p n k : ℕ) → p < length arc_flows
     → flow_at (with_more arc_flows p n) k ≡ flow_at arc_flows k + (if p == k then n else 0)
 flow_grown arc_flows p n k l = elim (cases_eq p k) [

@@ -20,6 +20,7 @@ pub written : {A : Type 0} (n : ℕ) (new old : List A) → length new ≡ lengt
     → take n (new ++ drop (length new) old) ≡ new
 written n new old same many = take-append-le n new (drop (length new) old) (omega arith) ∙ take_all n new (omega arith)
 
+-- the flow of each arc is what the uses give it
 pub arc_flows_made : (first arc_flows : List ArcFlow) (uses : List UseLine) → length arc_flows ≡ length first
     → ((k : ℕ) → k < length first → arc_at arc_flows k ≡ arc_at first k) →
     ((k : ℕ) → k < length first → flow_at arc_flows k ≡ table uses (arc_at first k).row (arc_at first k).site)
@@ -38,6 +39,7 @@ arc_flows_made first arc_flows uses many arcs flows = record {
       flows k inside ∙ ap (λ a. planned (table uses) a) (sym (arcs k inside)));
 }
 
+-- a use of an arc that is there passes the test
 arc_tested : (first : List ArcFlow) (one : UseLine) → HasArc first one → has_arc first one ≡ true
 arc_tested first one has =
     let inside : has.place < length (map (λ (l : ArcFlow). l.arc) first) =
@@ -47,6 +49,7 @@ arc_tested first one has =
     has.place no_arc.arc inside
     (rw there (and_from _ _ (eq-eqb _ _ has.row) (eq-eqb _ _ has.site)))
 
+-- a use that passes the test is of an arc that is there
 arc_found : (first : List ArcFlow) (one : UseLine) → has_arc first one ≡ true → HasArc first one
 arc_found first one test =
     let found =
@@ -63,12 +66,14 @@ arc_found first one test =
       site = ap (λ (a : NetworkArc). a.site) there ∙ eqb-true _ _ parts.1;
     }
 
+-- where each use has its arc, all pass
 pub all_tested : (first : List ArcFlow) (uses : List UseLine)
     → ((i : ℕ) → i < length uses → HasArc first (use_at uses i)) → All (λ u. has_arc first u ≡ true) uses
 all_tested first uses each =
     All-from_get_or (λ u. has_arc first u ≡ true) uses (record { row = 0; site = 0; count = 0 })
     (λ i l. arc_tested first (use_at uses i) (each i l))
 
+-- where one use has none, not all pass
 pub one_lost : (first : List ArcFlow) (uses : List UseLine) (i : ℕ) → i < length uses
     → (HasArc first (use_at uses i) → ⊥) → All (λ u. has_arc first u ≡ true) uses → ⊥
 one_lost first uses i l lost all =

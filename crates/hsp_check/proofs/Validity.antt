@@ -24,10 +24,7 @@ use Rattle.hsp_check.specs.Verdict.{IsVerdict, Meets, PlanMeets, SetMeets, is_on
 use Rattle.hsp_transport.proofs.Summing.{sum_by_same_all}
 use Rattle.hsp_check.proofs.Ranges.{prices_low}
 use Rattle.hsp_check.proofs.Duality.{prices_show_best, short_shows_none}
-
-nothing_used : (uses : List UseLine) → sum_by (λ _. 0) uses ≡ 0
-nothing_used [] = refl
-nothing_used (u ∷ uses) = omega (arith, sum_by-cons (λ (_ : UseLine). 0) u uses, nothing_used uses)
+use Rattle.hsp_transport.proofs.Rowwise.{sum_by_none}
 
 -- a plan is 0 where its uses may not go
 unused : (n : Network) (uses : List UseLine) → All (λ u. is_allowed n u.row u.site ≡ true) uses → (i s : ℕ)
@@ -37,7 +34,7 @@ unused n uses each i s never =
     (λ k d l.
     elsewhere (slice_index_or uses k d) (each k d l)
     (cases_Bool ((slice_index_or uses k d).row == i && (slice_index_or uses k d).site == s)))
-    ∙ nothing_used uses
+    ∙ sum_by_none uses
   where
     elsewhere : (u : UseLine) → is_allowed n u.row u.site ≡ true
         → ((u.row == i && u.site == s) ≡ true) ⊎ ((u.row == i && u.site == s) ≡ false)
@@ -50,6 +47,7 @@ unused n uses each i s never =
         absurd (let both : true ≡ false = sym there ∙ never in cc)
     elsewhere u may (inr away) = rw away refl
 
+-- a plan that meets every condition is valid
 plan_valid : (n : Network) (c : BestClaim) → IsBest c → ((r : Reason) → PlanMeets n c r) → IsValidPlan n c
 plan_valid n c ranges met =
     let shape = met Shape in
@@ -69,6 +67,7 @@ plan_valid n c ranges met =
       host_prices = (shape.2, prices_low c.host_prices ranges.host_prices);
     }
 
+-- a valid plan meets every condition
 valid_plan : (n : Network) (c : BestClaim) → IsValidPlan n c → (r : Reason) → PlanMeets n c r
 valid_plan n c valid Shape = (valid.row_prices.0, valid.server_prices.0, valid.host_prices.0)
 valid_plan n c valid NoSuchUse = valid.allowed
@@ -82,6 +81,7 @@ valid_plan n c valid DemandSum = tt
 valid_plan n c valid CapacitySum = tt
 valid_plan n c valid NotShort = tt
 
+-- a set that meets every condition is valid
 set_valid : (n : Network) (c : ShortClaim) → ((r : Reason) → SetMeets n c r) → IsValidSet n c
 set_valid n c met =
     let demand = met DemandSum in
@@ -89,6 +89,7 @@ set_valid n c met =
     let less = met NotShort in
     record { there = met Shape; is_short = omega arith; demand = demand; capacity = capacity }
 
+-- a valid set meets every condition
 valid_set : (n : Network) (c : ShortClaim) → IsValidSet n c → (r : Reason) → SetMeets n c r
 valid_set n c valid Shape = valid.there
 valid_set n c valid DemandSum = valid.demand
@@ -102,18 +103,22 @@ valid_set n c valid ArcPrice = tt
 valid_set n c valid UsedArcPrice = tt
 valid_set n c valid IdlePrice = tt
 
+-- a certificate that meets every condition is valid
 met_valid : (n : Network) (c : Claim) → IsCertificate c → ((r : Reason) → Meets n c r) → IsValid n c
 met_valid n (best c) ranges met = plan_valid n c ranges met
 met_valid n (short c) ranges met = set_valid n c met
 
+-- a valid certificate meets every condition
 valid_met : (n : Network) (c : Claim) → IsValid n c → (r : Reason) → Meets n c r
 valid_met n (best c) valid = valid_plan n c valid
 valid_met n (short c) valid = valid_set n c valid
 
+-- the verdict is yes just where the certificate is valid
 pub yes_valid : (n : Network) (c : Claim) (v : Verdict) → IsCertificate c → IsVerdict n c v → (v ≡ Yes) ↔ IsValid n c
 yes_valid n c Yes ranges is = (λ yes. met_valid n c ranges is, λ valid. refl)
 yes_valid n c (No r) ranges is = (λ yes. absurd (cc), λ valid. absurd (is.0 (valid_met n c valid r)))
 
+-- a valid plan is best, and its prices add up to its cost
 valid_best : (n : Network) (c : BestClaim) → IsNetwork n → IsValidPlan n c
     → Best n (table c.uses)
     × (times n.demands c.row_prices ≡ c.cost + times n.capacities c.server_prices + times n.limits c.host_prices)
@@ -134,6 +139,7 @@ pub record Says (n : Network) (c : Claim) (v : Verdict) : Type 0 where
   pub short_set : v ≡ Yes → IfSome (short_of c) (λ s. IsShort n (is_one_of s.rows))
   pub none : v ≡ Yes → IfSome (short_of c) (λ _. (x : Plan) → Feasible n x → ⊥)
 
+-- a verdict says of a certificate what its definition says
 pub says : (n : Network) (c : Claim) (v : Verdict) → IsNetwork n → IsCertificate c → IsVerdict n c v → Says n c v
 says n (best b) v is ranges verdict =
     let told = yes_valid n (best b) v ranges verdict in
@@ -161,10 +167,12 @@ pub is_best : (c : Claim) (b : BestClaim) → Some b ≡ best_of c → c ≡ bes
 is_best (best a) b same = cc
 is_best (short a) b same = absurd (cc)
 
+-- the certificate of a short set is that set
 pub is_short : (c : Claim) (s : ShortClaim) → Some s ≡ short_of c → c ≡ short s
 is_short (short a) s same = cc
 is_short (best a) s same = absurd (cc)
 
+-- what holds of a value holds as well of what follows from it
 pub where_ok : {A E : Type 0} (P Q : A → Type 0) (r : Result A E) → ((x : A) → P x → Q x) → IfOk r P → IfOk r Q
 where_ok P Q (Ok x) f p = f x p
 where_ok P Q (Err e) f p = tt

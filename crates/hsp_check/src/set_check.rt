@@ -8,7 +8,7 @@ ghost use Rattle.hsp_check.specs.Reach.{network_in};
 ghost use Rattle.hsp_check.specs.Verdict.{IsVerdict, SetMeets, is_one_of};
 
 use crate::lists::FlowLists;
-use crate::shortage::{reached_capacity, sum_flagged};
+use crate::shortage::{capacity_of_rows, sum_flagged};
 use crate::verdict::{Reason, Verdict};
 use hsp_cert::ShortRef;
 use std::alloc::{AllocError, Global};
@@ -70,7 +70,7 @@ fn meets_capacity(
     ensures { IfOk result (λ met.
         IsTrue met ↔ SetMeets (network_in lists.entry) set.now CapacitySum) }
 {
-    let capacity = reached_capacity(alloc, lists, flags)?;
+    let capacity = capacity_of_rows(alloc, lists, flags)?;
     Ok(u128::from(set.capacity()) == capacity)
 }
 

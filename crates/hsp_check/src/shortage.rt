@@ -119,7 +119,7 @@ fn rooms_of(alloc: Global, lists: FlowLists, rows: &[bool]) -> Result<Vec<u128>,
 }
 
 /// What all that the flagged rows can reach can take.
-pub(crate) fn reached_capacity(
+pub(crate) fn capacity_of_rows(
     alloc: Global,
     lists: FlowLists,
     rows: &[bool],

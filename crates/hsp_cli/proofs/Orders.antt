@@ -6,6 +6,7 @@ use Rattle.hsp_cli_orders.specs.declared.fault.CommandFault.{CommandFault}
 use Rattle.hsp_cli_orders.specs.declared.fault.CommandFault.TheVariants as fault
 use Rattle.hsp_cli.specs.Commands.{IsOrdered}
 
+-- words that give no order are ordered nothing
 pub refused : (words : List (List ℕ)) (it : CommandFault) → (it ≡ fault.Usage → IsUsage words)
     → IsOrdered words (Err it)
 refused words fault.Usage usage = usage refl

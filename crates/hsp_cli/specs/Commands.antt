@@ -6,8 +6,8 @@ use Rattle.hsp_cli_orders.specs.Orders.{IsOrderOf, IsUsage}
 use Rattle.hsp_cli_orders.specs.declared.fault.CommandFault.{CommandFault}
 use Rattle.hsp_cli_orders.specs.declared.fault.CommandFault.TheVariants as command_fault
 use Rattle.hsp_cli_orders.specs.declared.order.InputFiles.{InputFiles}
-use Rattle.hsp_cli_orders.specs.declared.order.Kind.{Kind}
-use Rattle.hsp_cli_orders.specs.declared.order.Kind.TheVariants as kind
+use Rattle.hsp_cli_orders.specs.declared.order.AskedReport.{AskedReport}
+use Rattle.hsp_cli_orders.specs.declared.order.AskedReport.TheVariants as kind
 use Rattle.hsp_cli_orders.specs.declared.order.Order.{Order}
 use Rattle.hsp_cli_orders.specs.declared.order.Order.TheVariants as order
 use Rattle.hsp_runs.specs.Locate.{AreLocated, placed}
@@ -78,12 +78,12 @@ AnswersCheck disk files plan answer =
     × IsAnswered verdict_reply (IsShownVerdict inputs octets) answer)
 
 -- the kind of report that is asked for
-abbrev pub kind_of_report : Kind → ReportKind
+abbrev pub kind_of_report : AskedReport → ReportKind
 kind_of_report kind.Load = Load
 kind_of_report kind.Region = Region
 kind_of_report kind.Shortage = Shortage
 
-abbrev pub AnswersReport : Disk → InputFiles → List ℕ → Kind → Result Answer Failure → Type 0
+abbrev pub AnswersReport : Disk → InputFiles → List ℕ → AskedReport → Result Answer Failure → Type 0
 AnswersReport disk files plan asked answer =
     LacksFile (OneFails disk files ⊎ disk.fails plan) answer
     ⊎ ((inputs : Inputs) × (octets : List ℕ) × AreHeld disk files inputs × disk.holds plan octets

@@ -15,7 +15,7 @@ use crate::failure::Failure;
 use crate::files::{FileSource, read_whole};
 use crate::inputs::{read_inputs, read_named};
 use crate::output::Output;
-use hsp_cli_orders::{InputFiles, Kind, Order, Word, read_command};
+use hsp_cli_orders::{AskedReport, InputFiles, Order, Word, read_command};
 use hsp_runs::{Locate, ReportKind};
 use std::alloc::Global;
 
@@ -92,13 +92,13 @@ fn check<S: FileSource>(
 }
 
 // The kind of report that is asked for.
-fn kind_of_report(kind: Kind) -> ReportKind
+fn kind_of_report(kind: AskedReport) -> ReportKind
     ensures { result ≡ kind_of_report kind }
 {
     match kind {
-        Kind::Load => ReportKind::Load,
-        Kind::Region => ReportKind::Region,
-        Kind::Shortage => ReportKind::Shortage,
+        AskedReport::Load => ReportKind::Load,
+        AskedReport::Region => ReportKind::Region,
+        AskedReport::Shortage => ReportKind::Shortage,
     }
 }
 
@@ -108,7 +108,7 @@ fn report<S: FileSource>(
     files: &S,
     named: &InputFiles<'_>,
     plan: &Word<'_>,
-    kind: Kind,
+    kind: AskedReport,
 ) -> Result<Answer, Failure>
     ensures { AnswersReport (S.disk files.now) named.now plan.now kind result }
 {

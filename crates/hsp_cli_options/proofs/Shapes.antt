@@ -9,14 +9,17 @@ pub is_simple-hsplan : is_simple hsplan_app ≡ true
 unfolding clap_on_literals
 is_simple-hsplan = refl
 
+-- the commands of hsplan are plain ones, and none of their names is one of clap's own
 pub is_free-hsplan : is_simple_and_free hsplan_app ≡ true
 unfolding clap_on_literals
 is_free-hsplan = refl
 
+-- the commands of hsplan-stream are plain ones
 pub is_simple-stream : is_simple stream_app ≡ true
 unfolding clap_on_literals
 is_simple-stream = refl
 
+-- none of their names is one of clap's own
 pub is_free-stream : is_simple_and_free stream_app ≡ true
 unfolding clap_on_literals
 is_free-stream = refl

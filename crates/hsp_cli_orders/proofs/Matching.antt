@@ -16,6 +16,7 @@ use Rattle.hsp_cli_orders.specs.declared.fault.CommandFault.{CommandFault}
 use Rattle.hsp_cli_orders.specs.declared.fault.CommandFault.TheVariants as command_fault
 use Rattle.hsp_cli_orders.specs.declared.stream_order.StreamOrder.{StreamOrder}
 
+-- the subcommand that was met has its name and its options
 met_is : {Z : Type 0} (o : Option (Box SubCommand Z)) (n : List ℕ) (rows : List Row)
     → Some n ≡ option_map (λ b. (out-SubCommand (box_value b)).name.now) o
     → Some rows ≡ option_map (λ p. p.1) (subcommand_rows o)
@@ -25,6 +26,7 @@ met_is (Some b) n rows p q =
     let x : n ≡ (out-SubCommand (box_value b)).name.now = cc in
     let y : rows ≡ rows_of (found_of (out-SubCommand (box_value b)).matches) = cc in rw (x, y) refl
 
+-- without a subcommand none was met
 none_is : {Z : Type 0} (o : Option (Box SubCommand Z))
     → None ≡ option_map (λ b. (out-SubCommand (box_value b)).name.now) o → subcommand_rows o ≡ None
 none_is None p = refl

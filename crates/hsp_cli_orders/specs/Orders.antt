@@ -5,8 +5,8 @@ use Rattle.hsp_cli_options.specs.Commands.{hsplan_app}
 use Rattle.hsp_cli_orders.specs.declared.order.Order.{Order}
 use Rattle.hsp_cli_orders.specs.declared.order.InputFiles.{InputFiles}
 use Rattle.hsp_cli_orders.specs.declared.order.Order.TheVariants as order
-use Rattle.hsp_cli_orders.specs.declared.order.Kind.{Kind}
-use Rattle.hsp_cli_orders.specs.declared.order.Kind.TheVariants.{Load, Region, Shortage}
+use Rattle.hsp_cli_orders.specs.declared.order.AskedReport.{AskedReport}
+use Rattle.hsp_cli_orders.specs.declared.order.AskedReport.TheVariants.{Load, Region, Shortage}
 
 -- the files of the inputs
 pub record HasInputs (rows : List Row) (inputs : InputFiles) : Type 0 where
@@ -17,10 +17,10 @@ pub record HasInputs (rows : List Row) (inputs : InputFiles) : Type 0 where
   pub capacity : first_of (codes "capacity") rows ≡ Some inputs.capacity
 
 -- the word for a kind of report
-abbrev pub kind_word : Kind → Text
-kind_word Load = codes "load"
-kind_word Region = codes "region"
-kind_word Shortage = codes "shortage"
+abbrev pub report_word : AskedReport → Text
+report_word Load = codes "load"
+report_word Region = codes "region"
+report_word Shortage = codes "shortage"
 
 -- the values of a subcommand are the order's
 abbrev pub IsOrderIn : Order → Text → List Row → Type 0
@@ -44,7 +44,7 @@ IsOrderIn (order.Dispatch inputs plan log fronts) name rows =
     × (first_of (codes "fronts") rows ≡ fronts)
 IsOrderIn (order.Report inputs plan kind) name rows =
     (name ≡ codes "report") × HasInputs rows inputs × (first_of (codes "plan") rows ≡ Some plan)
-    × (first_of (codes "kind") rows ≡ Some (kind_word kind))
+    × (first_of (codes "kind") rows ≡ Some (report_word kind))
 
 -- no value asks for a place
 abbrev pub HasNoPlace : List Row → Type 0

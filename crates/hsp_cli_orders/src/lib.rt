@@ -9,7 +9,7 @@ mod stream_reading;
 mod words;
 
 pub use fault::CommandFault;
-pub use order::{InputFiles, Kind, Order, Word};
+pub use order::{AskedReport, InputFiles, Order, Word};
 pub use reading::read_command;
 pub use stream_order::{FrontWords, StreamOrder};
 pub use stream_reading::read_stream_command;

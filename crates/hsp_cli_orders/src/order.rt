@@ -51,7 +51,7 @@ pub struct InputFiles<'a> {
 
 /// What a report shows.
 #[derive(Debug, Clone, Copy, PartialEq, Eq)]
-pub enum Kind {
+pub enum AskedReport {
     /// `load`: what each server takes by a plan.
     Load,
     /// `region`: what each region asks for, and what that costs by a plan.
@@ -100,6 +100,6 @@ pub enum Order<'a> {
     Report {
         inputs: InputFiles<'a>,
         plan: Word<'a>,
-        kind: Kind,
+        kind: AskedReport,
     },
 }

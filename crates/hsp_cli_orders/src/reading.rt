@@ -5,14 +5,14 @@ ghost use Rattle.std.specs.Prelude.{option_map, string_bytes};
 ghost use Rattle.clap.specs.Words.{fault_of, found_of, kind_of, rows_of, first_of, subcommand_of};
 ghost use Rattle.clap.specs.declared.error.kind.ErrorKind.TheVariants as kind;
 ghost use Rattle.hsp_cli_options.specs.Commands.{hsplan_app};
-ghost use Rattle.hsp_cli_orders.specs.Orders.{HasInputs, HasNoPlace, IsOrderIn, IsOrderOf, IsUsage, kind_word};
+ghost use Rattle.hsp_cli_orders.specs.Orders.{HasInputs, HasNoPlace, IsOrderIn, IsOrderOf, IsUsage, report_word};
 ghost use Rattle.hsp_cli_orders.specs.declared.fault.CommandFault.TheVariants as fault;
 ghost use Rattle.hsp_cli_orders.specs.declared.order.InputFiles.{InputFiles};
-ghost use Rattle.hsp_cli_orders.specs.declared.order.Kind.{Kind};
+ghost use Rattle.hsp_cli_orders.specs.declared.order.AskedReport.{AskedReport};
 ghost use Rattle.hsp_cli_orders.specs.declared.order.Order.{Order};
 
 use crate::fault::CommandFault;
-use crate::order::{InputFiles, Kind, Order, Word};
+use crate::order::{AskedReport, InputFiles, Order, Word};
 use clap::error::ErrorKind;
 use clap::{ArgMatches, Error};
 use hsp_cli_options::hsplan_command;
@@ -166,15 +166,15 @@ fn dispatch_of<'a>(matches: &ArgMatches<'a>) -> Option<Order<'a>>
     })
 }
 
-// The kind of report that has the word.
-fn kind_of(word: &str) -> Option<Kind>
-    ensures kind { IfSome result (λ kind. word.now ≡ kind_word kind) }
-    ensures none { IfNone result ((kind : Kind) → word.now ≡ kind_word kind → ⊥) }
+// The report that is asked for by the word.
+fn asked_report(word: &str) -> Option<AskedReport>
+    ensures kind { IfSome result (λ kind. word.now ≡ report_word kind) }
+    ensures none { IfNone result ((kind : AskedReport) → word.now ≡ report_word kind → ⊥) }
 {
     match word {
-        "load" => Some(Kind::Load),
-        "region" => Some(Kind::Region),
-        "shortage" => Some(Kind::Shortage),
+        "load" => Some(AskedReport::Load),
+        "region" => Some(AskedReport::Region),
+        "shortage" => Some(AskedReport::Shortage),
         _ => None,
     }
 }
@@ -189,7 +189,7 @@ fn report_of<'a>(matches: &ArgMatches<'a>) -> Option<Order<'a>>
     Some(Order::Report {
         inputs: inputs_of(matches)?,
         plan: word_of(matches, "plan")?,
-        kind: kind_of(text_of(matches, "kind")?)?,
+        kind: asked_report(text_of(matches, "kind")?)?,
     })
 }
 

@@ -11,6 +11,7 @@ use Rattle.hsp_csv.specs.Plain.{is_comma}
 abbrev IsPartedAt : List ℕ → ℕ → Type 0
 IsPartedAt x place = (x ≡ take place x ++ 44 ∷ drop (suc place) x) × (list_any is_comma (take place x) ≡ false)
 
+-- the octets before a comma at a place, the comma, and those behind it
 parted : (x : List ℕ) (place : ℕ) → place < length x → is_comma (get_or x place 0) ≡ true
     → ((k : ℕ) → k < place → is_comma (get_or x k 0) ≡ false) → IsPartedAt x place
 parted [] place less here before = absurd (omega arith)
@@ -34,10 +35,12 @@ by_first : (c : ℕ) (x : List ℕ) → (position_or_len is_comma (c ∷ x) < le
 by_first c x none rest true is = absurd (none (rw is (omega arith)))
 by_first c x none rest false is = rw is (rest (λ less. none (rw is (omega arith))))
 
+-- where no place has a comma, the line has none
 none_in : (x : List ℕ) → (position_or_len is_comma x < length x → ⊥) → list_any is_comma x ≡ false
 none_in [] none = refl
 none_in (c ∷ x) none = by_first c x none (none_in x) (is_comma c) refl
 
+-- a line in which no comma is found has none
 pub not_parted : (x : List ℕ) → position is_comma x ≡ None → list_any is_comma x ≡ false
 not_parted x e = by (ltb (position_or_len is_comma x) (length x)) refl e
   where

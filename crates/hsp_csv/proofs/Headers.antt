@@ -53,6 +53,7 @@ split_at header place d h =
     drop-map now place header ∙ ap (λ (names : List (Bor (List ℕ))). map now names) (drop-cons header place d h)
     ∙ ap (λ (names : Fields). (get_or header place d).now ∷ names) (sym (drop-map now (suc place) header))
 
+-- a field that is the name leaves the rest to compare
 pub goes_on : (fields : Fields) (header : List (Bor (List ℕ))) (place : ℕ) (d : Bor (List ℕ)) → place < length header
     → is_field fields place (get_or header place d).now ≡ true
     → same_fields (drop (place + 1) fields) (drop (place + 1) (names_in header))
@@ -60,6 +61,7 @@ pub goes_on : (fields : Fields) (header : List (Bor (List ℕ))) (place : ℕ) (
 goes_on fields header place d h same =
     rw add-one (sym (same_at fields (names_in header) place _ _ (split_at header place d h) same))
 
+-- a field that is not the name shows that the record is no header
 pub ends : (fields : Fields) (header : List (Bor (List ℕ))) (place : ℕ) (d : Bor (List ℕ)) → place < length header
     → is_field fields place (get_or header place d).now ≡ false
     → same_fields (drop place fields) (drop place (names_in header)) ≡ false
@@ -73,6 +75,7 @@ all_same fields header place many past =
     let names : length (names_in header) ≡ length header = length-map header (λ (name : Bor (List ℕ)). name.now) in
     rw (drop_all place fields (omega arith), drop_all place (names_in header) (omega arith)) refl
 
+-- a record of another number of fields is no header
 pub other_length : (fields : Fields) (header : List (Bor (List ℕ))) → length fields ≢ length header
     → same_fields fields (names_in header) ≡ false
 other_length fields header other =

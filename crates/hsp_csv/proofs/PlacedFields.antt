@@ -32,6 +32,7 @@ walk_is_bare walk (octet ∷ rest) = by_end (ends_record walk octet) (walk_is_ba
   where
     next : Option Read
     next = next_record default_config (walk_after walk octet).state (walk_after walk octet).fields (walk_after walk octet).field rest
+
     by_end : (ended : Bool) → option_map bare (walk_to_end (walk_after walk octet) rest) ≡ next
         → option_map bare (cond ended (Some (walk_after walk octet, rest)) (walk_to_end (walk_after walk octet) rest))
         ≡ cond ended (Some (bare (walk_after walk octet, rest))) next
@@ -82,7 +83,7 @@ walk_is_whole walk [] read is e = by_end (ends_at_end walk.state) e
     by_end false same = cc same
 walk_is_whole walk (octet ∷ rest) read is e =
     let after : length (walk_after walk octet).places ≡ length (walk_after walk octet).fields
-        = whole_by (step default_config walk.state octet).1 walk.fields walk.field walk.places _ is in
+    = whole_by (step default_config walk.state octet).1 walk.fields walk.field walk.places _ is in
     by_end (ends_record walk octet) after (walk_is_whole (walk_after walk octet) rest read after) e
   where
     by_end : (ended : Bool) → length (walk_after walk octet).places ≡ length (walk_after walk octet).fields

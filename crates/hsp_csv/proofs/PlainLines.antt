@@ -16,9 +16,11 @@ use Rattle.hsp_csv.specs.Row.Shape.{blank, one, two, other}
 first_of : (p : ℕ → Bool) (c : ℕ) (rest : List ℕ) → list_any p (c ∷ rest) ≡ false → p c ≡ false
 first_of p c rest e = (or_parts (p c) (list_any p rest) e).0
 
+-- what no octet of a line is, none of its rest is
 rest_of : (p : ℕ → Bool) (c : ℕ) (rest : List ℕ) → list_any p (c ∷ rest) ≡ false → list_any p rest ≡ false
 rest_of p c rest e = (or_parts (p c) (list_any p rest) e).1
 
+-- what no octet of two parts is, none of either part is
 halves : (p : ℕ → Bool) (a b : List ℕ) → list_any p (a ++ b) ≡ false → (list_any p a ≡ false) × (list_any p b ≡ false)
 halves p a b e = or_parts (list_any p a) (list_any p b) (sym (list_any-append p a b) ∙ e)
 
@@ -28,6 +30,7 @@ record IsPlain (c : ℕ) : Type 0 where
   back : (c == 13) ≡ false
   feed : (c == 10) ≡ false
 
+-- an octet without a meaning of its own is taken as it is
 plain : (c : ℕ) → is_mark c ≡ false → IsPlain c
 plain c e =
     let a = or_parts ((c == 34) || (c == 13)) (c == 10) e in
@@ -36,12 +39,14 @@ plain c e =
 
 -- ---- one octet
 
+-- such an octet is put behind its field
 joins : (fields : Fields) (field rest : List ℕ) (c : ℕ) → IsPlain c → is_comma c ≡ false
     → next_record default_config st.InField fields field (c ∷ rest)
     ≡ next_record default_config st.InField fields (field ++ c ∷ []) rest
 unfolding next_record
 joins fields field rest c is apart = rw (apart, is.back, is.feed) refl
 
+-- a comma ends its field
 parts : (fields : Fields) (field rest : List ℕ)
     → next_record default_config st.InField fields field (44 ∷ rest)
     ≡ next_record default_config st.StartField (fields ++ field ∷ []) [] rest
@@ -55,17 +60,20 @@ begins : (fields : Fields) (c : ℕ) (rest : List ℕ) → (c == 34) ≡ false
 unfolding next_record
 begins fields c rest e = rw e refl
 
+-- a first octet begins a field
 begins_record : (c : ℕ) (rest : List ℕ) → IsPlain c
     → next_record default_config st.StartRecord [] [] (c ∷ rest)
     ≡ next_record default_config st.StartField [] [] (c ∷ rest)
 unfolding next_record
 begins_record c rest is = rw (is.back, is.feed) refl
 
+-- the end of a line ends its last field
 ends : (fields : Fields) (field : List ℕ)
     → next_record default_config st.InField fields field [] ≡ Some (fields ++ field ∷ [], st.StartRecord, [])
 unfolding next_record
 ends fields field = refl
 
+-- behind a last comma stands an empty field
 ends_empty : (fields : Fields)
     → next_record default_config st.StartField fields [] [] ≡ Some (fields ++ [] ∷ [], st.StartRecord, [])
 unfolding next_record
@@ -105,12 +113,14 @@ last_field fields (c ∷ x) m e =
 abbrev HasMore : Fields → Option Read → Type 0
 HasMore fields read = (next : List ℕ) × (more : Fields) × (read ≡ Some (fields ++ next ∷ more, st.StartRecord, []))
 
+-- a field that begins goes on as any field
 starts : (fields : Fields) (x : List ℕ) → list_any is_mark x ≡ false
     → HasMore fields (next_record default_config st.InField fields [] x)
     → HasMore fields (next_record default_config st.StartField fields [] x)
 starts fields [] m has = ([], [], ends_empty fields)
 starts fields (c ∷ x) m has = (has.0, has.1, begins fields c x (plain c (first_of is_mark c x m)).quote ∙ has.2)
 
+-- a field goes on by its next octet, which is a comma or not
 by_octet : (fields : Fields) (field x : List ℕ) (c : ℕ) → list_any is_mark (c ∷ x) ≡ false
     → HasMore (fields ++ field ∷ []) (next_record default_config st.InField (fields ++ field ∷ []) [] x)
     → HasMore fields (next_record default_config st.InField fields (field ++ c ∷ []) x) → (b : Bool) → is_comma c ≡ b
@@ -126,6 +136,7 @@ by_octet fields field x c m after_comma within true is =
 by_octet fields field x c m after_comma within false apart =
     (within.0, within.1, joins fields field x c (plain c (first_of is_mark c x m)) apart ∙ within.2)
 
+-- a line without marks has at least one field more
 goes_on : (fields : Fields) (field x : List ℕ) → list_any is_mark x ≡ false
     → HasMore fields (next_record default_config st.InField fields field x)
 goes_on fields field [] m = (field, [], ends fields field)
@@ -133,12 +144,14 @@ goes_on fields field (c ∷ x) m =
     by_octet fields field x c m (goes_on (fields ++ field ∷ []) [] x (rest_of is_mark c x m))
     (goes_on fields (field ++ c ∷ []) x (rest_of is_mark c x m)) (is_comma c) refl
 
+-- so has one whose field begins
 some_more : (fields : Fields) (x : List ℕ) → list_any is_mark x ≡ false
     → HasMore fields (next_record default_config st.StartField fields [] x)
 some_more fields x m = starts fields x m (goes_on fields [] x m)
 
 -- ---- lines
 
+-- behind the end no record is left
 none_at_end : (steps : ℕ) → records_from default_config steps st.StartRecord [] ≡ []
 unfolding records_from next_record
 none_at_end zero = refl
@@ -151,27 +164,33 @@ one_record : (line : List ℕ) (fields : Fields)
 unfolding records_from
 one_record line fields e = rw (add-one (length line), e, none_at_end (length line)) refl
 
+-- a line with octets begins a record
 is_begun : (line : List ℕ) → list_any is_mark line ≡ false → (length line ≡ 0 → ⊥)
     → next_record default_config st.StartRecord [] [] line ≡ next_record default_config st.StartField [] [] line
 is_begun [] m some = absurd (some refl)
 is_begun (c ∷ x) m some = begins_record c x (plain c (first_of is_mark c x m))
 
+-- no octets have no record
 row_of_none : row_of [] ≡ blank
 unfolding records_from next_record
 row_of_none = refl
 
+-- an empty line has no record
 pub row_of_empty : (line : List ℕ) → length line ≡ 0 → row_of line ≡ blank
 row_of_empty [] e = row_of_none
 row_of_empty (c ∷ x) e = absurd (omega arith)
 
+-- a line without a comma is one field
 pub row_of_one : (line : List ℕ) → list_any is_mark line ≡ false → (length line ≡ 0 → ⊥)
     → list_any is_comma line ≡ false → row_of line ≡ one line
 row_of_one line m some e = ap shape_of (one_record line (line ∷ []) (is_begun line m some ∙ last_field [] line m e))
 
+-- a line with a comma is not empty
 not_empty : (x rest : List ℕ) → length (x ++ 44 ∷ rest) ≡ 0 → ⊥
 not_empty [] rest e = omega arith
 not_empty (c ∷ x) rest e = omega arith
 
+-- a line with one comma is two fields
 pub row_of_two : (line first second : List ℕ) → list_any is_mark line ≡ false → line ≡ first ++ 44 ∷ second
     → list_any is_comma first ≡ false → list_any is_comma second ≡ false → row_of line ≡ two first second
 row_of_two line first second m e e_first e_second =
@@ -183,6 +202,7 @@ row_of_two line first second m e e_first e_second =
     ∙ last_field (first ∷ []) second later e_second in
     ap row_of e ∙ ap shape_of (one_record (first ++ 44 ∷ second) (first ∷ second ∷ []) read)
 
+-- a line with more commas is another row
 pub row_of_more : (line first rest second third : List ℕ) → list_any is_mark line ≡ false → line ≡ first ++ 44 ∷ rest
     → list_any is_comma first ≡ false → rest ≡ second ++ 44 ∷ third → list_any is_comma second ≡ false
     → row_of line ≡ other

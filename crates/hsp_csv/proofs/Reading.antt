@@ -15,6 +15,7 @@ use Rattle.hsp_csv.specs.Records.{Fields, IsReading, TakesRecord, records_from_s
 abbrev IsNearerTheEnd : List ℕ → Read → Type 0
 IsNearerTheEnd octets read = (length read.2 < length octets) ⊎ ((read.1 ≡ state.StartRecord) × (read.2 ≡ []))
 
+-- a reading has one value
 same_read : (x y : Read) → Some x ≡ Some y → x ≡ y
 same_read x y e = cc
 
@@ -23,6 +24,7 @@ record_at_end : (begun : Bool) (x y : Read) → cond begun (Some x) None ≡ Som
 record_at_end true x y e = cc
 record_at_end false x y e = cc
 
+-- what is nearer to the end is nearer by one octet more
 nearer_by_one : (octet : ℕ) (octets : List ℕ) (read : Read) → IsNearerTheEnd octets read
     → IsNearerTheEnd (octet ∷ octets) read
 nearer_by_one octet octets read (inl fewer) = inl (omega arith)
@@ -98,6 +100,7 @@ Leaves s s2 before after true fields =
     (records_from_state s before ≡ fields ∷ records_from_state s2 after) × IsSome after
 Leaves s s2 before after false fields = records_from_state s before ≡ []
 
+-- the records that are left begin with the one that was read
 next_leaves : (s s2 : State) (before after : List ℕ) (found : Bool) (fields : Fields) (read : Option Read)
     → next_record default_config s [] [] before ≡ read → NextIs read found fields s2 after
     → Leaves s s2 (Some before) (Some after) found fields
@@ -107,6 +110,7 @@ next_leaves s s2 before after true fields (Some read) e next =
     (rw (next.1, next.2, next.3) (first_record s before read e), refl)
 next_leaves s s2 before after false fields (Some read) e next = cc next.0
 
+-- so they do where the octets are known
 read_leaves : (s s2 : State) (before after : Option (List ℕ)) (found : Bool) (fields : Fields) → IsSome before
     → ReadsNext default_config s before after found fields s2 → Leaves s s2 before after found fields
 read_leaves s s2 None after found fields known reads = absurd (false≢true known)

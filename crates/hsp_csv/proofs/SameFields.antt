@@ -6,6 +6,7 @@ use Rattle.std.specs.Str.{bytes_eq}
 use Rattle.hsp_csv.specs.Header.{same_fields}
 use Rattle.hsp_csv.specs.Records.{Fields}
 
+-- records whose fields are the same are one record
 pub same_fields_are : (one other : Fields) → same_fields one other ≡ true → one ≡ other
 same_fields_are [] [] same = refl
 same_fields_are [] (b ∷ bs) same = cc same
@@ -16,6 +17,7 @@ same_fields_are (a ∷ as') (b ∷ bs) same =
     let more = same_fields_are as' bs is.1 in
     cc (first, more)
 
+-- a record has its own fields
 pub are_same_fields : (fields : Fields) → same_fields fields fields ≡ true
 are_same_fields [] = refl
 are_same_fields (a ∷ as') = rw ((bytes_decides a a).1 refl, are_same_fields as') refl

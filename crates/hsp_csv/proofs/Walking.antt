@@ -65,7 +65,7 @@ steps_enough (suc n) (suc m) s at octets h k =
   where
     by_read : (read : Option Ended) → walk_to_end (fresh s at) octets ≡ read
         → ((s2 : State) (at2 : Place) (rest : List ℕ) → length rest < n → length rest < m
-            → placed_from n s2 at2 rest ≡ placed_from m s2 at2 rest)
+        → placed_from n s2 at2 rest ≡ placed_from m s2 at2 rest)
         → placed_next (placed_from n) read ≡ placed_next (placed_from m) read
     by_read None e later = refl
     by_read (Some read) e later =
@@ -109,7 +109,7 @@ pub takes_ended : (old left rest : Option (List ℕ)) (s : State) (at : Place) (
     → LeadOn old (fresh s at) left walk → GivesNext left rest (Some octet) → ends_record walk octet ≡ true
     → new ≡ walk_after walk octet
     → TakesPlaced (option_map (placed_behind s at) old) (option_map (placed_behind new.state new.at) rest) true
-        (placed_of_walk new)
+    (placed_of_walk new)
 unfolding walk_to_end
 takes_ended None left rest s at walk new octet leads next ends is = tt
 takes_ended (Some xs) None rest s at walk new octet leads next ends is = absurd leads
@@ -121,7 +121,7 @@ takes_ended (Some xs) (Some ys) (Some zs) s at walk new octet leads next ends is
 pub takes_last : (old left rest : Option (List ℕ)) (s : State) (at : Place) (walk new : Walk) (found : Bool)
     → LeadOn old (fresh s at) left walk → GivesNext left rest None → EndsText walk new found
     → TakesPlaced (option_map (placed_behind s at) old) (option_map (placed_behind new.state new.at) rest) found
-        (placed_of_walk new)
+    (placed_of_walk new)
 unfolding walk_to_end
 takes_last None left rest s at walk new found leads next ends = tt
 takes_last (Some xs) None rest s at walk new found leads next ends = absurd leads

@@ -5,3 +5,4 @@ pub mod Plain
 pub mod Places
 pub mod Scan
 pub mod Walks
+pub mod Found

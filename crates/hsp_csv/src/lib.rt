@@ -2,12 +2,14 @@
 // their fields begin; a row that is one line; a field that is written.
 //
 // The `csv` crate reads the records. Its own headers are off, a record may have any number of fields, and nothing is
-// trimmed; all its other settings are at their defaults. The octets `EF BB BF` at the start of a text are passed over once.
+// trimmed; all its other settings are at their defaults. The octets `EF BB BF` at the start of a text are passed over
+// once.
 #![tactic(auto)]
 
 mod counting;
 mod fault;
 mod fields;
+mod found;
 mod header;
 pub mod laws;
 mod place;
@@ -22,6 +24,7 @@ mod writing;
 
 pub use fault::RecordsFault;
 pub use fields::{three_fields, two_fields};
+pub use found::{Checked, Found};
 pub use header::{is_header, take_header};
 pub use place::Place;
 pub use placed::PlacedRecord;

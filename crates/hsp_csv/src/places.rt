@@ -103,10 +103,7 @@ pub struct PlacedReader<R: Read + Drop> {
 /// A reader that stands before the first record of a text, behind a byte order mark.
 ///
 /// Where the octets of the text are known, the records that it has left are those of the text.
-pub fn read_placed<R: Read + Drop>(
-    alloc: Global,
-    text: R,
-) -> Result<PlacedReader<R>, RecordsFault>
+pub fn read_placed<R: Read + Drop>(alloc: Global, text: R) -> Result<PlacedReader<R>, RecordsFault>
     ensures { IfOk result (λ reader. IfSome (R.remaining text) (λ octets.
         placed_left R.remaining reader ≡ Some (placed_of octets))) }
 {

@@ -60,7 +60,7 @@ fn start_record(octet: u8) -> (Stand, Move)
 }
 
 // An octet between quotes.
-fn in_quoted(octet: u8) -> (Stand, Move) 
+fn in_quoted(octet: u8) -> (Stand, Move)
     ensures { step default_config (state_of Stand.InQuoted) octet ≡ is_move result }
 {
     if octet == b'"' {

@@ -34,11 +34,13 @@ use Rattle.hsp_text.proofs.Lists.{all_push}
 
 -- ---- each site that is built has a server
 
+-- what came past a test was not refused by it
 passed : {A : Type 0} (test : Bool) (fault : BuildFault) (r : Result A BuildFault) (y : A)
     → cond test (Err fault) r ≡ Ok y → (test ≡ false) × (r ≡ Ok y)
 passed true fault r y e = cc e
 passed false fault r y e = (refl, e)
 
+-- a site that passed the checks has a server
 checked_has : (n before : ℕ) (given site : Site) → checked_site n before given ≡ Ok site → HasServer site
 checked_has n before given site e =
     let some = passed (length given.servers == 0) _ _ site e in
@@ -48,6 +50,7 @@ checked_has n before given site e =
     let not_none = eqb-false (length given.servers) 0 some.0 in
     rw (← same) (omega (arith, not_none))
 
+-- a site that was read has a server
 reading_has : (n before : ℕ) (name : List ℕ) (reading : Result records.Site RecordFault) (site : Site)
     → Ok site ≡ site_of_reading n before name reading → HasServer site
 reading_has n before name (Err fault) site e = absurd (cc)
@@ -63,11 +66,13 @@ reading_has n before name (Ok r) site e = by_option (option_of r.option) e
         checked_has n before (record { name = name; option = option; servers = map server_of_record r.servers }) site
         (sym e)
 
+-- a site of the settings has a server
 site_has : (n before : ℕ) (name : List ℕ) (octets : Result (List ℕ) BuildFault) (site : Site)
     → IsSiteOf n before name octets (Ok site) → HasServer site
 site_has n before name (Err fault) site e = absurd (cc)
 site_has n before name (Ok bytes) site (reading, is, e) = reading_has n before name reading site e
 
+-- all sites have a server
 sites_have : (values : Option (List HandleValue)) (earlier : List Site) (entries : List SiteEntry) (sites : List Site)
     → AllByRecursion HasServer earlier → AreSitesAfter values earlier entries (Ok sites)
     → AllByRecursion HasServer sites
@@ -81,6 +86,7 @@ sites_have values earlier (entry ∷ more) sites have (Err fault, is, e) = absur
 
 -- ---- the server of a row at a site
 
+-- a remainder is less than its divisor
 less : (x n : ℕ) → 0 < n → x % n < n
 less x n h = omega arith
 
@@ -118,6 +124,7 @@ by_arc inputs it entry row n built found allowed =
     let is : IsByHash it entry (assigned_to n (Some at.server)) = (site, site_at, by_handle, id) in
     subst (λ (server : Option Server). IsByHash it entry (assigned_to n server)) (sym to) is
 
+-- a query goes to the server that its site's hash names
 pub goes_by_hash : GoesByHash
 goes_by_hash inputs it x earlier entry built keeps = by_row (row_of it entry) refl
   where

@@ -17,6 +17,7 @@ use Rattle.hsp_dispatch.specs.declared.answer.Given.{Given}
 use Rattle.hsp_dispatch.specs.declared.answer.Given.TheVariants.{NoFront as IsNoFront, Server as ByServer}
 use Rattle.hsp_dispatch.specs.declared.answer.Given.TheVariants.{Spent as IsSpent, Unknown as IsUnknown}
 
+-- an answer more counts where it is of the kind
 one_more : (kind : FrontAnswer → Bool) (given : List FrontAnswer) (answer : FrontAnswer)
     → count_by kind (given ++ answer ∷ []) ≡ count_by kind given + cond (kind answer) 1 0
 one_more kind given answer = sum_by_push (λ (a : FrontAnswer). cond (kind a) 1 0) given answer
@@ -30,6 +31,7 @@ with_one sums answer = record {
   no_front = sums.no_front + cond (is_no_front answer) 1 0;
 }
 
+-- the sums of one answer more
 all_more : (given : List FrontAnswer) (answer : FrontAnswer)
     → front_sums_of (given ++ answer ∷ []) ≡ with_one (front_sums_of given) answer
 all_more given answer =
@@ -46,6 +48,7 @@ served : (sums : FrontSums) (server : Option Server) (number : ℕ) → server �
 served sums None number there = absurd (there refl)
 served sums (Some server) number there = rw (add-zero, add-zero, add-zero) refl
 
+-- counting how an answer was given counts the answer
 counted_one : (it : Instance) (how : Given) (sums : FrontSums) → IsAmong (length it.servers) how
     → counted sums how ≡ with_one sums (answer_of it how)
 counted_one it (ByServer number) sums among =
@@ -65,6 +68,7 @@ counted_more it how given sums among are =
 
 -- ---- answers of a dispatcher
 
+-- answers of a dispatcher are counted as those of fronts
 count_answered : (kind : Answer → Bool) (given : List Answer)
     → count_by (is_kind kind) (map Answered given) ≡ count_by kind given
 count_answered kind [] = refl
@@ -73,12 +77,14 @@ count_answered kind (answer ∷ given) =
     ∙ ap (λ (n : ℕ). cond (kind answer) 1 0 + n) (count_answered kind given)
     ∙ sym (sum_by-cons (λ (a : Answer). cond (kind a) 1 0) answer given)
 
+-- a dispatcher never answers that there is no such front
 no_fronts : (given : List Answer) → count_by is_no_front (map Answered given) ≡ 0
 no_fronts [] = refl
 no_fronts (answer ∷ given) =
     sum_by-cons (λ (a : FrontAnswer). cond (is_no_front a) 1 0) (Answered answer) (map Answered given)
     ∙ ap (λ (n : ℕ). 0 + n) (no_fronts given)
 
+-- the sums of a dispatcher's answers are those of fronts
 all_sums : (given : List Answer) → front_sums_of (map Answered given) ≡ all_of (sums_of given)
 all_sums given =
     rw

@@ -32,11 +32,13 @@ use Rattle.hsp_dispatch.proofs.Resting.{answer_after, answers_more, rest_more, r
 
 -- ---- lines
 
+-- the line of a server that is there states it
 at_number : (it : Instance) (server : Option Server) → server ≢ None
     → or_none (option_map (server_line it) server) ≡ line_of it (served_by server)
 at_number it None there = absurd (there refl)
 at_number it (Some server) there = refl
 
+-- the line that is written states the answer
 line_is : (it : Instance) (how : Given) → IsAmong (length it.servers) how
     → line_by (lines_of it) how ≡ front_line it (answer_of it how)
 line_is it (given.Server number) among =
@@ -49,10 +51,12 @@ line_is it given.NoFront among = refl
 
 -- ---- a dispatcher
 
+-- a desk of a dispatcher begins with no entries
 pub no_entries : (it : Instance) (x : Plan) → BeginsWithNone (AnswersEntries it x x)
 unfolding answers_after
 no_entries it x form = ([], tt, refl, refl, rest_none it x)
 
+-- a row of region and handle is the entry that it spells
 pub spells : (form : Form) (row : Fields) (region field : List ℕ) (entry : Entry) → row ≡ region ∷ field ∷ []
     → entry.region ≡ region → Gives form field entry.handle
     → handle_in entry.handle ≡ Ok entry.handle → IsEntryIn form row entry
@@ -82,6 +86,7 @@ entry_on it x middle left form rows lines sums row entry how is answer takes amo
       rest_more it x middle left entries entry so_far.4 takes,
     )
 
+-- one entry more is answered by what is left then
 pub entry_more : (old new : Held) (form : Form) (row : Fields) (entry : Entry) (how : Given) → IsEntryIn form row entry
     → Takes old entry new how
     → IsAmong (length old.instance.servers) how
@@ -93,6 +98,7 @@ entry_more old new form row entry how is takes among start rows lines sums same 
 
 -- ---- fronts
 
+-- a desk of fronts begins with no events
 pub no_events : (tables : Tables) → BeginsWithNone (AnswersEvents tables tables)
 unfolding event_answers_after
 no_events tables form = (
@@ -107,11 +113,13 @@ no_events tables form = (
   },
 )
 
+-- a row of front, region and handle is the event that it spells
 pub spells_event : (row : Fields) (front region handle : List ℕ) (event : Event) → row ≡ front ∷ region ∷ handle ∷ []
     → IsFront front event.front
     → event.entry.region ≡ region → event.entry.handle ≡ handle → handle_in handle ≡ Ok handle → IsEventIn row event
 spells_event row front region handle event is number same own good = rw is (number, same, own, good)
 
+-- one event more has one answer more
 answers_on : (it : Instance) (fronts : ℕ) (tables : ℕ → Plan) (before events : List Event) (event : Event)
     → event_answers_after it fronts tables before (events ++ event ∷ [])
     ≡ event_answers_after it fronts tables before events ++ event_answer it fronts tables (before ++ events) event
@@ -119,6 +127,7 @@ answers_on : (it : Instance) (fronts : ℕ) (tables : ℕ → Plan) (before even
 unfolding event_answers_after
 answers_on it fronts tables before events event = each_parts (event_answer it fronts tables) before events (event ∷ [])
 
+-- one event more is answered by what its front has left then
 pub event_more : (old new : Tables) (form : Form) (row : Fields) (event : Event) (how : Given) → IsEventIn row event
     → TakesAt event.front old event.entry new how
     → IsAmong (length old.instance.servers) how

@@ -16,6 +16,7 @@ use Rattle.hsp_dispatch.proofs.Lists.{none_from}
 use Rattle.hsp_dispatch.proofs.Resting.{answer_parts, assigned_is}
 use Rattle.hsp_dispatch.proofs.Spreads.{is_site, times, times_in, times_within}
 
+-- no site is assigned more than the plan gives it
 pub never_exceeds : NeverExceeds
 never_exceeds it x entries row site =
     let own = spread it x row in
@@ -29,6 +30,7 @@ not_spent : (site : ℕ) (server : Option Server) → assigned_to site server �
 not_spent site None e = cc
 not_spent site (Some server) e = cc
 
+-- a row is spent once all its queries were answered
 pub is_spent_after_all : IsSpentAfterAll
 is_spent_after_all it x earlier entry row site found spent inside =
     by_element (slice_get own k) refl (sym (ap (λ (own_row : Option ℕ). answer_in it x earlier own_row) found) ∙ spent)
@@ -49,6 +51,7 @@ is_spent_after_all it x earlier entry row site found spent inside =
         ∙ times_in (length it.sites) 0 site (x row) (omega arith) (omega arith)
     by_element (Some element) e spent = absurd (not_spent element (server_to it row element) spent)
 
+-- what comes later is answered by what is left
 pub goes_on : GoesOnWithTheRest
 unfolding answers_after
 goes_on it x a b =

@@ -16,6 +16,7 @@ each_parts {A} {B} answer before (one ∷ a) b =
 -- where another one answers as this one does after some questions
 module _ {A B : Type 0} (answer other : List A → A → B) (first : List A)
     (same : (earlier : List A) (one : A) → answer (first ++ earlier) one ≡ other earlier one) where
+  -- answers that agree after all questions before agree on the later ones
   pub each_same : (earlier more : List A) → each_after answer (first ++ earlier) more ≡ each_after other earlier more
   each_same earlier [] = refl
   each_same earlier (one ∷ more) =
@@ -31,6 +32,7 @@ module _ {A B : Type 0} (answer other : List A → A → B) (first : List A)
       ∙ ap (λ (later : List B). each_after answer [] first ++ later)
       (ap (λ (before : List A). each_after answer before more) (sym (append-nil first)) ∙ each_same [] more)
 
+-- answers that differ by a function give lists that differ by it
 pub each_map : {A B C : Type 0} (f : B → C) (answer : List A → A → B) (other : List A → A → C)
     → ((earlier : List A) (one : A) → other earlier one ≡ f (answer earlier one))
     → (earlier more : List A) → each_after other earlier more ≡ map f (each_after answer earlier more)

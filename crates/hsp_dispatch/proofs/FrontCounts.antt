@@ -22,15 +22,18 @@ use Rattle.hsp_dispatch.proofs.Each.{each_map}
 
 -- ---- the entries at a front
 
+-- the entries at a front in two lists of events stand one after the other
 pub entries_append : (front : ℕ) (a b : List Event)
     → entries_at front (a ++ b) ≡ entries_at front a ++ entries_at front b
 entries_append front [] b = refl
 entries_append front (event ∷ a) b = grind (arith, entries_append front a b)
 
+-- an event of the front adds its entry
 pub more_here : (front : ℕ) (events : List Event) (event : Event) → event.front ≡ front
     → entries_at front (events ++ event ∷ []) ≡ entries_at front events ++ event.entry ∷ []
 more_here front events event here = entries_append front events (event ∷ []) ∙ rw (eq-eqb event.front front here) refl
 
+-- an event of another front adds nothing
 pub more_elsewhere : (front : ℕ) (events : List Event) (event : Event) → event.front ≢ front
     → entries_at front (events ++ event ∷ []) ≡ entries_at front events
 more_elsewhere front events event other =
@@ -54,6 +57,7 @@ at_front it fronts tables front before (event ∷ events) =
     let later = at_front it fronts tables front (before ++ event ∷ []) events in
     grind (arith, later, more_here front before event, more_elsewhere front before event)
 
+-- each front answers as a dispatcher of its share
 pub as_dispatchers : AnswersAsDispatchers
 unfolding answers_after
 as_dispatchers it fronts x front events inside =
@@ -63,6 +67,7 @@ as_dispatchers it fronts x front events inside =
 
 -- ---- how many are assigned at a front
 
+-- what a dispatcher assigns is counted in the same way
 count_answered : (it : Instance) (row site : ℕ) (entries : List Entry) (given : List Answer)
     → count_in_fronts it row site entries (map Answered given) ≡ count_in it row site entries given
 count_answered it row site [] given = refl
@@ -109,6 +114,7 @@ module _ (it : Instance) (fronts : ℕ) (tables : ℕ → Plan) (row site : ℕ)
   abbrev own_count : ℕ → List Event → List FrontAnswer → ℕ
   own_count front events given = count_in_fronts it row site (entries_at front events) (answers_at front events given)
 
+  -- an event more adds what its front was given for it
   own_more : (front : ℕ) (event : Event) (events : List Event) (answer : FrontAnswer) (given : List FrontAnswer)
       → own_count front (event ∷ events) (answer ∷ given) ≡ (if event.front == front then hit event.entry answer else 0)
       + own_count front events given
@@ -139,6 +145,7 @@ module _ (it : Instance) (fronts : ℕ) (tables : ℕ → Plan) (row site : ℕ)
       (λ front. (if event.front == front then n else 0) + own_count front events later)
       (λ front l. own_more front event events answer later))
 
+-- all fronts assign what their own answers come to
 pub assigned_together : (it : Instance) (fronts : ℕ) (x : Plan) (events : List Event) (row site : ℕ)
     → assigned_by_all it fronts x events row site
     ≡ sum_below fronts (λ front. assigned_at it fronts x front events row site)

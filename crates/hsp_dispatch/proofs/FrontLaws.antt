@@ -27,6 +27,7 @@ use Rattle.hsp_dispatch.proofs.Spreads.{times, times_append}
 
 -- ---- fronts that answer one event after the other
 
+-- at first each front has its share of the plan
 pub begins : BeginsWithShares
 begins it x fronts tables are = record {
   instance = are.instance;
@@ -84,6 +85,7 @@ pub hold_rests : (it : Instance) (x : Plan) (fronts : ℕ) (events : List Event)
 hold_rests it x fronts events tables are front inside row site =
     are.each front inside row site ∙ rest_at_is it fronts x front events inside row site
 
+-- what each front has left is what its entries left of its share
 pub are_after : (it : Instance) (x : Plan) (fronts : ℕ) (events : List Event) (tables : Tables) → tables.instance ≡ it
     → fronts_of tables ≡ fronts
     → ((front : ℕ) → front < fronts
@@ -96,6 +98,7 @@ are_after it x fronts events tables instance many left = record {
       λ front inside row site. left front inside row site ∙ sym (rest_at_is it fronts x front events inside row site);
 }
 
+-- fronts answer by what is left of their shares
 pub answers_by_shares : AnswersByShares
 answers_by_shares it x fronts events event old new are taken =
     let left = hold_rests it x fronts events old are in (
@@ -106,6 +109,7 @@ answers_by_shares it x fronts events event old new are taken =
 
 -- ---- each front apart
 
+-- a front's answers depend on no other front
 pub by_its_entries : GoesByItsEntries
 by_its_entries it fronts x front a b same =
     let given : answers_at front a (front_answers it fronts x a) ≡ answers_at front b (front_answers it fronts x b) =
@@ -119,6 +123,7 @@ by_its_entries it fronts x front a b same =
           it row site entries answers) same given,
     )
 
+-- fronts end with the same whatever the order of events at different fronts
 pub in_the_same : EndsInTheSame
 in_the_same it fronts x a b same front = (by_its_entries it fronts x front a b (same front)).1
 
@@ -132,6 +137,7 @@ most_at it fronts x events row site front inside =
     (sym (assigned_at_is it fronts x front events row site inside))
     (never_exceeds it (share_of fronts front x) (entries_at front events) row site)
 
+-- together, fronts assign no more than the plan gives
 pub never_exceeds_together : NeverExceedsTogether
 never_exceeds_together it fronts x events row site some =
     let each : sum_below fronts (λ front. assigned_at it fronts x front events row site)
@@ -147,6 +153,7 @@ grows : (it : Instance) (x : Plan) (a b : List Entry) (row site : ℕ)
 grows it x a b row site =
     omega (arith, assigned_is it x a row site, assigned_is it x (a ++ b) row site, times_parts it x a b row site)
 
+-- two answers that are the same say the same
 inner : (a b : Answer) → Answered a ≡ Answered b → a ≡ b
 inner a b e = cc e
 
@@ -179,6 +186,7 @@ spent_at it fronts x events row site front there was inside =
     let most = most_at it fronts x events row site front there in
     omega (arith, all, same, least, most)
 
+-- together, fronts assign all that the plan gives
 pub is_spent_together : IsSpentTogether
 is_spent_together it fronts x events row site some was inside =
     assigned_together it fronts x events row site

@@ -41,6 +41,7 @@ shares_at tables front = (held_at tables front).shares
 
 -- ---- the cells that a front has left of a row
 
+-- the cells of a front and row go by the number that it has left
 from_at : (fronts front first : ℕ) (rows : List (List Cell)) (lefts : List ℕ) (row : ℕ)
     → cells_at (lefts_from fronts front first rows lefts) row
     ≡ left_among fronts front (slice_index lefts (place_of fronts front (first + row))) (cells_at rows row)
@@ -50,6 +51,7 @@ from_at fronts front first (cells ∷ rows) lefts (suc row) =
     let same : first + 1 + row ≡ first + suc row = omega arith in
     rw same at (from_at fronts front (first + 1) rows lefts row)
 
+-- each row has its cells
 from_long : (fronts front first : ℕ) (rows : List (List Cell)) (lefts : List ℕ)
     → length (lefts_from fronts front first rows lefts) ≡ length rows
 from_long fronts front first [] lefts = refl
@@ -71,6 +73,7 @@ front_here fronts rows lefts front inside =
     get_or-map own (range_with_len 0 fronts) front 0 [] (omega (arith, inside, length-range_with_len 0 fronts))
     ∙ ap own (get_or-range_with_len 0 fronts front 0 inside ∙ zero-add front)
 
+-- a front that is not there has nothing
 no_front : (fronts : ℕ) (rows : List (List Cell)) (lefts : List ℕ) (front : ℕ) → fronts ≤ front
     → slice_index_or (lefts_of fronts rows lefts) front [] ≡ []
 no_front fronts rows lefts front past =
@@ -119,6 +122,7 @@ module _ (it : Instance) (fronts : ℕ) (rows : List (List Cell)) (held : IsHeld
   abbrev first : Tables
   first = tables_by it fronts rows (all_sums fronts rows)
 
+  -- at first a front has its share of each cell
   first_cells : (front : ℕ) → front < fronts → (row : ℕ)
       → cells_at (shares_at first front) row ≡ shares_in fronts front (cells_at rows row)
   first_cells front inside row =
@@ -127,6 +131,7 @@ module _ (it : Instance) (fronts : ℕ) (rows : List (List Cell)) (held : IsHeld
         | inr past ↦ rw (get_or_past rows row [] past) refl
       ]
 
+  -- at first every front holds its share
   pub all_hold : AreHeld first
   all_hold = record {
     within = held.within;
@@ -140,6 +145,7 @@ module _ (it : Instance) (fronts : ℕ) (rows : List (List Cell)) (held : IsHeld
     };
   }
 
+  -- the shares of all fronts are the plan
   pub all_share : (x : Plan) → IsSame (left_of (holding it rows)) x → AreFrontsOf it x fronts first
   all_share x same = record {
     instance = refl;
@@ -170,6 +176,7 @@ row_of_place fronts one other front row inside there same = elim (cases_lt row o
   | inr most ↦ most
 ]
 
+-- each front and row has a place of its own
 one_place : (fronts one other front row : ℕ) → one < fronts → front < fronts
     → place_of fronts one other ≡ place_of fronts front row → (other ≡ row) × (one ≡ front)
 one_place fronts one other front row inside there same =
@@ -194,9 +201,11 @@ module _ (it : Instance) (fronts : ℕ) (rows : List (List Cell)) (lefts : List 
   abbrev new : Tables
   new = tables_by it fronts rows (set lefts place (left - 1))
 
+  -- that place is there
   there : place < length lefts
   there = slice_get_within lefts place left at
 
+  -- what a front has of a row goes by its number there
   own_cells : cells_at (shares_at old front) row ≡ left_among fronts front left (cells_at rows row)
   own_cells =
       cells_left_of it fronts rows lefts front inside row
@@ -211,6 +220,7 @@ module _ (it : Instance) (fronts : ℕ) (rows : List (List Cell)) (lefts : List 
       taken_by (held_at old front) row taken (are.each front inside)
       (is ∙ ap (λ (cells : List Cell). option_map (λ (cell : Cell). cell.server) (first_of cells)) (sym own_cells))
 
+  -- taking a query takes it from the front's own cells
   own_taken : IsTakenFrom (shares_at old front) row (shares_at new front)
   own_taken = record {
     many = long it fronts rows (set lefts place (left - 1)) front inside ∙ sym (long it fronts rows lefts front inside);
@@ -226,6 +236,7 @@ module _ (it : Instance) (fronts : ℕ) (rows : List (List Cell)) (lefts : List 
         ∙ sym (cells_left_of it fronts rows lefts front inside other);
   }
 
+  -- the other fronts keep what they have
   others_same : (other : ℕ) → other ≢ front → shares_at new other ≡ shares_at old other
   others_same other apart = elim (cases_lt other fronts) [
     | inl is ↦
@@ -239,6 +250,7 @@ module _ (it : Instance) (fronts : ℕ) (rows : List (List Cell)) (lefts : List 
         ∙ sym (no_front fronts rows lefts other past)
   ]
 
+  -- one number less is one query taken
   pub number_taken : IsTakenOf front row old new
   number_taken entry found = record {
     instance = refl;
@@ -251,6 +263,7 @@ module _ (it : Instance) (fronts : ℕ) (rows : List (List Cell)) (lefts : List 
         ap (λ (shares : List (List Cell)). left_of (holding it shares) place site) (others_same other apart);
   }
 
+  -- the numbers still say what each front has
   pub number_held : AreHeld new
   number_held = record {
     within = are.within;
@@ -271,10 +284,12 @@ pub answered_at : (tables : Tables) (front row : ℕ) (entry : Entry) (taken : O
 answered_at tables front row entry taken inside found first =
     rw (lt-ltb front tables.fronts inside, found) (ap Answered first)
 
+-- how an answer was given is that answer
 given_answer : (it : Instance) (taken : Option ℕ) → answer_of it (given_of taken) ≡ Answered (taken_answer it taken)
 given_answer it None = refl
 given_answer it (Some number) = refl
 
+-- the answer at a front is the first that is left to it
 pub given_at : (tables after : Tables) (front row : ℕ) (entry : Entry) (taken : Option ℕ) (given : Given)
     → front < tables.fronts
     → handle_in entry.handle ≡ Ok entry.handle → row_of tables.instance entry ≡ Some row → given ≡ given_of taken

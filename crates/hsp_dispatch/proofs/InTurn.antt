@@ -12,6 +12,7 @@ use Rattle.hsp_dispatch.specs.declared.form.Form.{Form}
 
 -- ---- the header
 
+-- the header was read, and the rows are left
 header_read_in : (header : Fields) (s t : State) (o p : Option (List ℕ))
     → (IsSome o → (records_from_state s o ≡ header ∷ records_from_state t p) × IsSome p)
     → IsRead header (records_in s o) [] (records_in t p)
@@ -19,6 +20,7 @@ header_read_in header s t None p takes = tt
 header_read_in header s t (Some octets) None takes = cc ((takes refl).1)
 header_read_in header s t (Some octets) (Some left) takes = (takes refl).0
 
+-- so it is where the octets are known
 pub header_read : {R : Type 0} (remaining : R → Option (List ℕ)) (old new : Reader R) (header : Fields)
     → TakesHeader remaining old new header
     → IsRead header (log_left remaining old) [] (log_left remaining new)
@@ -26,12 +28,14 @@ header_read remaining old new header takes =
     header_read_in header (reader_state old) (reader_state new) (source_of remaining old) (source_of remaining new)
     takes
 
+-- without a header nothing is read
 unheaded_in : (header : Form → Fields) (s : State) (o : Option (List ℕ))
     → (IsSome o → IsUnheaded header (Some (records_from_state s o)))
     → IsUnheaded header (records_in s o)
 unheaded_in header s None fails = tt
 unheaded_in header s (Some octets) fails = fails refl
 
+-- so it is where the octets are known
 pub unheaded : {R : Type 0} (remaining : R → Option (List ℕ)) (old : Reader R) (header : Form → Fields)
     → FailsHeader remaining old header fault.Header
     → IsUnheaded header (log_left remaining old)
@@ -39,11 +43,13 @@ unheaded remaining old header fails = unheaded_in header (reader_state old) (sou
 
 -- ---- the rows
 
+-- one row more of the records was read
 one_more : (header : Fields) (records : List Fields) (rows : List Fields) (row : Fields) (now left : List Fields)
     → Begins header (Some records) rows now
     → now ≡ row ∷ left → Begins header (Some records) (rows ++ row ∷ []) left
 one_more header records rows row now left begins next = rw (append_assoc rows (row ∷ []) left) (rw next at begins)
 
+-- the next row was read
 row_read_in : (header : Fields) (log : Option (List Fields)) (rows : List Fields) (row : Fields) (s t : State)
     (o p : Option (List ℕ))
     → IsRead header log rows (records_in s o)
@@ -64,6 +70,7 @@ row_read remaining old new header log rows row read takes =
     row_read_in header log rows row (reader_state old) (reader_state new) (source_of remaining old)
     (source_of remaining new) read takes
 
+-- the log was read to its end
 all_read_in : (header : Fields) (log : Option (List Fields)) (rows : List Fields) (s : State) (o : Option (List ℕ))
     → IsRead header log rows (records_in s o)
     → (IsSome o → records_from_state s o ≡ []) → Begins header log rows []
@@ -81,6 +88,7 @@ all_read remaining old new header log rows row read ends =
 
 -- ---- what is read begins the log
 
+-- what was read is how the log begins
 pub begins : (header : Fields) (log now : Option (List Fields)) (rows : List Fields) → IsRead header log rows now
     → (more : List Fields) × Begins header log rows more
 begins header None now rows read = ([], tt)
@@ -96,6 +104,7 @@ begins_before header (Some records) rows row more is = rw (append_assoc rows (ro
 
 -- ---- the records before the first read
 
+-- the records that are left are those of the octets that are
 left_in : (s : State) (text octets : Option (List ℕ)) → IfSome text (λ t. IsSome octets)
     → IfSome text (λ t. records_from_state s octets ≡ records_of t)
     → IfNone text (octets ≡ None) → records_in s octets ≡ option_map records_of text

@@ -5,6 +5,7 @@ use Rattle.std.specs.List.{AllByRecursion, AllZip, slice_get}
 use Rattle.std.proofs.lemmas.List.{take_more}
 use Rattle.std.proofs.lemmas.Option.{get_or_from_slice_get, same_Some, slice_get_within}
 
+-- one element more is taken
 pub take_next : {A : Type 0} (xs : List A) (k : ℕ) (x : A) → slice_get xs k ≡ Some x
     → take (k + 1) xs ≡ take k xs ++ x ∷ []
 take_next {A} xs k x e =
@@ -25,6 +26,7 @@ zip_push R [] (b ∷ ys) x y all is = absurd all
 zip_push R (a ∷ xs) [] x y all is = absurd all
 zip_push R (a ∷ xs) (b ∷ ys) x y all is = (all.0, zip_push R xs ys x y all.1 is)
 
+-- what holds of two lists side by side holds at each place
 pub zip_at : {A B : Type 0} (R : A → B → Type 0) (xs : List A) (ys : List B) (k : ℕ) (x : A) (y : B) → AllZip R xs ys
     → slice_get xs k ≡ Some x
     → slice_get ys k ≡ Some y → R x y
@@ -35,8 +37,3 @@ zip_at R (a ∷ xs) (b ∷ ys) zero x y all at there =
     let right : b ≡ y = same_Some b y there in
     rw (← left, ← right) all.0
 zip_at R (a ∷ xs) (b ∷ ys) (suc k) x y all at there = zip_at R xs ys k x y all.1 at there
-
-pub all_so : {A : Type 0} (P Q : A → Type 0) → ((x : A) → P x → Q x) → (xs : List A) → AllByRecursion P xs
-    → AllByRecursion Q xs
-all_so P Q so [] all = tt
-all_so P Q so (x ∷ xs) all = (so x all.0, all_so P Q so xs all.1)

@@ -29,6 +29,7 @@ same_answers it x y earlier entries same =
     each_same (answer_to it x) (answer_to it y) [] (λ before entry. answer_same it x y before entry same) earlier
     entries
 
+-- a dispatcher answers over several calls as in one
 pub dispatcher_goes_on : DispatcherGoesOn
 unfolding answers_after
 dispatcher_goes_on it x old new entries more held left = (
@@ -45,6 +46,7 @@ dispatcher_goes_on it x old new entries more held left = (
 -- what each front holds is what events leave of its table
 module _ (it : Instance) (fronts : ℕ) (tables held : ℕ → Plan) (events : List Event)
     (left : (front : ℕ) → front < fronts → IsSame (held front) (rest it (tables front) (entries_at front events))) where
+  -- an event is answered by what the earlier ones left
   later_event : (earlier : List Event) (event : Event)
       → event_answer it fronts tables (events ++ earlier) event ≡ event_answer it fronts held earlier event
   later_event earlier event = elim (cases_lt event.front fronts) [
@@ -69,6 +71,7 @@ module _ (it : Instance) (fronts : ℕ) (tables held : ℕ → Plan) (events : L
   unfolding event_answers_after
   in_one_list more = each_goes_on (event_answer it fronts tables) (event_answer it fronts held) events later_event more
 
+-- fronts answer over several calls as in one
 pub fronts_go_on : FrontsGoOn
 fronts_go_on it x fronts events more old new are left =
     let held = hold_rests it x fronts events old are in

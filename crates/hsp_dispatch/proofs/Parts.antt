@@ -44,11 +44,13 @@ parts_keep P keeps part (cell ∷ cells) all = elim (cases_eq (part cell.left) 0
       rw (ne_eqb (part cell.left) 0 some) (keeps cell (part cell.left) all.0, parts_keep P keeps part cells all.1)
 ]
 
+-- parts of later cells are of later sites
 parts_after : (part : ℕ → ℕ) (site : ℕ) (cells : List Cell) → AllByRecursion (λ (later : Cell). site < later.site) cells
     → AllByRecursion (λ (later : Cell). site < later.site) (parts_in part cells)
 parts_after part site cells after =
     parts_keep (λ (later : Cell). site < later.site) (λ cell left less. less) part cells after
 
+-- parts of cells are cells
 pub parts_are : (part : ℕ → ℕ) (cells : List Cell) → AreCells cells → AreCells (parts_in part cells)
 parts_are part [] are = tt
 parts_are part (cell ∷ cells) are = elim (cases_eq (part cell.left) 0) [

@@ -19,10 +19,12 @@ use Rattle.hsp_dispatch.proofs.Spreads.{same_spread, spread_left, times, times_a
 
 -- ---- how many entries are for a row
 
+-- an entry of the row counts once
 count_more : (it : Instance) (row : ℕ) (before : List Entry) (entry : Entry)
     → count_for it row (before ++ entry ∷ []) ≡ count_for it row before + cond (is_for it row entry) 1 0
 count_more it row before entry = sum_by_push (λ (e : Entry). cond (is_for it row e) 1 0) before entry
 
+-- the entries of a row in two lists add up
 count_append : (it : Instance) (row : ℕ) (a b : List Entry)
     → count_for it row (a ++ b) ≡ count_for it row a + count_for it row b
 count_append it row a b = sum_by-append (λ (e : Entry). cond (is_for it row e) 1 0) a b
@@ -34,6 +36,7 @@ at_site : (own site : ℕ) (server : Option Server) → is_at site (assigned_to 
 at_site own site None = refl
 at_site own site (Some server) = refl
 
+-- the next of a row's sites counts for its own site only
 hit : (it : Instance) (row site k : ℕ) (own : List ℕ) (given : Option ℕ) → given ≡ slice_get own k
     → (if is_at site (answer_at it row given) then 1 else 0) + times site (take k own) ≡ times site (take (k + 1) own)
 hit it row site k own None is =
@@ -57,6 +60,7 @@ hits it x row site earlier entry =
     let one = hit it row site (count_for it row earlier) own (slice_get own (count_for it row earlier)) refl in
     grind (arith, one, count_more it row earlier entry)
 
+-- what was answered, and what came before, is the beginning of the spread
 counted : (it : Instance) (x : Plan) (row site : ℕ) (earlier entries : List Entry)
     → count_in it row site entries (answers_after it x earlier entries)
     + times site (take (count_for it row earlier) (spread it x row))
@@ -75,12 +79,14 @@ pub assigned_is : (it : Instance) (x : Plan) (entries : List Entry) (row site : 
     → assigned_in it x entries row site ≡ times site (take (count_for it row entries) (spread it x row))
 assigned_is it x entries row site = omega (arith, counted it x row site [] entries)
 
+-- what is left of a site is what the plan gives less what was taken
 rest_is : (it : Instance) (x : Plan) (entries : List Entry) (row site : ℕ)
     → rest it x entries row site ≡ x row site - times site (take (count_for it row entries) (spread it x row))
 rest_is it x entries row site = ap (λ (n : ℕ). x row site - n) (assigned_is it x entries row site)
 
 -- ---- the spread of what is left
 
+-- the same plans are spread in the same way
 pub spread_same : (it : Instance) (x y : Plan) (row : ℕ) → IsSame x y → spread it x row ≡ spread it y row
 spread_same it x y row same = same_spread (length it.sites) 0 (x row) (y row) (λ t h. same row t)
 
@@ -92,11 +98,13 @@ spread_rest it x entries row =
     (λ t. x row t - times t (take (count_for it row entries) (spread it x row))) (λ t h. rest_is it x entries row t)
     ∙ spread_left (length it.sites) 0 (count_for it row entries) (x row)
 
+-- an element of what is left stands later in the whole
 get_left : (k m : ℕ) (xs : List ℕ) → slice_get (drop k xs) m ≡ slice_get xs (k + m)
 get_left zero m xs = rw (zero-add m) refl
 get_left (suc k) m [] = refl
 get_left (suc k) m (x ∷ xs) = rw (suc-add k m) (get_left k m xs)
 
+-- a longer beginning is a shorter one and some of the rest
 take_over : (k m : ℕ) (xs : List ℕ) → take (k + m) xs ≡ take k xs ++ take m (drop k xs)
 take_over k m xs =
     sym (take-append-drop k (take (k + m) xs))
@@ -105,6 +113,7 @@ take_over k m xs =
 
 -- ---- answers by what is left
 
+-- the same plans give the same answers
 pub answer_same : (it : Instance) (x y : Plan) (earlier : List Entry) (entry : Entry) → IsSame x y
     → answer_to it x earlier entry ≡ answer_to it y earlier entry
 answer_same it x y earlier entry same = by_row (row_of it entry)
@@ -128,6 +137,7 @@ answer_parts it x before earlier entry = by_row (row_of it entry)
         (get_left (count_for it row before) (count_for it row earlier) (spread it x row))
         ∙ ap (λ (k : ℕ). answer_at it row (slice_get (spread it x row) k)) (sym (count_append it row before earlier))
 
+-- an entry is answered by what is left as it is after those before
 pub answer_after : (it : Instance) (x y : Plan) (before : List Entry) (entry : Entry) → IsSame y (rest it x before)
     → answer_to it y [] entry ≡ answer_to it x before entry
 answer_after it x y before entry same =
@@ -136,9 +146,11 @@ answer_after it x y before entry same =
 
 -- ---- what is left after more entries
 
+-- no entries leave the whole plan
 pub rest_none : (it : Instance) (x : Plan) → IsSame x (rest it x [])
 rest_none it x row site = omega arith
 
+-- the same plans leave the same
 pub rest_same : (it : Instance) (x y : Plan) (entries : List Entry) → IsSame x y
     → IsSame (rest it x entries) (rest it y entries)
 rest_same it x y entries same row site =
@@ -172,6 +184,7 @@ rest_parts it x a b row site =
     minus : (all left whole a b c : ℕ) (n : ℕ) → all ≡ left - b → left ≡ n - a → whole ≡ n - c → c ≡ a + b → all ≡ whole
     minus all left whole a b c n e f g h = omega arith
 
+-- one entry more leaves what it leaves of the rest
 pub rest_more : (it : Instance) (x y z : Plan) (before : List Entry) (entry : Entry) → IsSame y (rest it x before)
     → IsSame z (rest it y (entry ∷ [])) → IsSame z (rest it x (before ++ entry ∷ []))
 rest_more it x y z before entry same next row site =
@@ -194,6 +207,7 @@ rest_here it x row site entry found =
     let one : count_for it row (entry ∷ []) ≡ 1 = count_more it row [] entry ∙ rw (found, eq-eqb row row refl) refl in
     rest_is it x (entry ∷ []) row site ∙ ap (λ (k : ℕ). x row site - times site (take k (spread it x row))) one
 
+-- an entry of one row leaves the other rows
 pub rest_other : (it : Instance) (x : Plan) (row other site : ℕ) (entry : Entry) → row_of it entry ≡ Some row
     → row ≢ other
     → rest it x (entry ∷ []) other site ≡ x other site
@@ -206,6 +220,7 @@ rest_other it x row other site entry found apart =
 
 -- ---- answers to one entry more
 
+-- one entry more has one answer more
 pub answers_more : (it : Instance) (x : Plan) (before entries : List Entry) (entry : Entry)
     → answers_after it x before (entries ++ entry ∷ []) ≡ answers_after it x before entries
     ++ answer_to it x (before ++ entries) entry ∷ []

@@ -39,6 +39,7 @@ pub record SoFar (desk : Desk) (run : Streams) (form : Form) (now : Option (List
   pub written : Appends run.before run.after (text_of lines)
   pub counted_all : count_all sums ≡ number
 
+-- all rows so far were answered
 pub answered : (desk : Desk) (run : Streams) (form : Form) (now : Option (List Fields)) (number : ℕ) (sums : FrontSums)
     (so_far : SoFar desk run form now number sums) → Answered desk run form so_far.rows sums
 answered desk run form now number sums so_far =
@@ -46,11 +47,13 @@ answered desk run form now number sums so_far =
 
 -- ---- one row more
 
+-- one line more is put behind the text
 text_more : (lines : List (List ℕ)) (line : List ℕ) → text_of (lines ++ line ∷ []) ≡ text_of lines ++ line
 text_more [] line = append-nil line
 text_more (first ∷ lines) line =
     ap (λ more. first ++ more) (text_more lines line) ∙ sym (append_assoc first (text_of lines) line)
 
+-- an answer more is one more in all
 count_more : (sums : FrontSums) (how : Given) → count_all (counted sums how) ≡ count_all sums + 1
 count_more sums (given.Server number) = omega arith
 count_more sums given.Spent = omega arith
@@ -68,9 +71,11 @@ module _ {S : Type 0} (instance : S → Instance) (Answers : S → S → RowAnsw
     (read : IsRead (header form) log (so_far.rows ++ row ∷ []) later) (same : instance old ≡ instance start)
     (on : GoesOn instance Answers old new form row line how)
     (is_line : text ≡ line) (below : number < MOST_LOG_ROWS) where
+  -- one row more was read
   many_more : length (so_far.rows ++ row ∷ []) ≡ number + 1
   many_more = length-append so_far.rows (row ∷ []) ∙ ap (λ n. n + 1) so_far.many
 
+  -- one row more was answered, and its line written
   pub row_more : Appends middle after text
       → SoFar (desk_of header (Answers start new) Refuses) (record { log = log; before = before; after = after }) form
       later (number + 1) (counted sums how)
@@ -87,6 +92,7 @@ module _ {S : Type 0} (instance : S → Instance) (Answers : S → S → RowAnsw
     counted_all = count_more sums how ∙ ap (λ n. n + 1) so_far.counted_all;
   }
 
+  -- a line that is cut off stops the run
   pub line_stops : IsCut middle after text
       → Stops (desk_of header (Answers start new) Refuses) (record { log = log; before = before; after = after })
       fault.WriteFailed
@@ -135,6 +141,7 @@ memory_stops desk run none written = (Handles, [], [], none_counted, inl refl, (
 
 module _ (desk : Desk) (run : Streams) (form : Form) (now : Option (List Fields)) (number : ℕ) (sums : FrontSums)
     (so_far : SoFar desk run form now number sums) where
+  -- the run stopped at some row
   somewhere : StopsSomewhere desk run
   somewhere =
       let begun = begins (desk.header form) run.log now so_far.rows so_far.read in
@@ -151,11 +158,13 @@ module _ (desk : Desk) (run : Streams) (form : Form) (now : Option (List Fields)
     abbrev more : List Fields
     more = (begins (desk.header form) run.log later (so_far.rows ++ row ∷ []) read).0
 
+    -- the row comes behind those that were answered
     before_row : Begins (desk.header form) run.log so_far.rows (row ∷ more)
     before_row =
         begins_before (desk.header form) run.log so_far.rows row more
         (begins (desk.header form) run.log later (so_far.rows ++ row ∷ []) read).1
 
+    -- a row past the limit stops the run
     pub too_long : number ≡ MOST_LOG_ROWS → Stops desk run fault.LogTooLong
     too_long last = (
       form,
@@ -169,6 +178,7 @@ module _ (desk : Desk) (run : Streams) (form : Form) (now : Option (List Fields)
       answered desk run form now number sums so_far,
     )
 
+    -- a refused row stops the run there
     at_row : number < MOST_LOG_ROWS → (n : ℕ) → n ≡ number → (e : LogFault) → desk.Refuses form row e
         → StopsAtRow desk run n e
     at_row below n is e refused = (
@@ -183,6 +193,7 @@ module _ (desk : Desk) (run : Streams) (form : Form) (now : Option (List Fields)
       answered desk run form now number sums so_far,
     )
 
+    -- so the run stops with the row's fault
     pub refused_stops : number < MOST_LOG_ROWS → (e : LogFault) → IsRefused desk.Refuses number form row e
         → Stops desk run e
     refused_stops below (fault.Fields n) refused = at_row below n refused.0 (fault.Fields n) refused.1

@@ -29,9 +29,10 @@ use Rattle.hsp_dispatch.specs.Standings.{AreBounded}
 use Rattle.hsp_dispatch.specs.declared.share.Cell.{Cell}
 use Rattle.hsp_dispatch.specs.declared.portion.Portion.{Portion}
 use Rattle.hsp_dispatch.proofs.Parts.{part_left, part_none, parts_are, parts_bounded, parts_more, parts_of_row}
-use Rattle.hsp_dispatch.proofs.Lists.{all_so, take_next}
+use Rattle.hsp_dispatch.proofs.Lists.{take_next}
 use Rattle.hsp_dispatch.proofs.Shares.{none_at}
 use Rattle.hsp_text.proofs.Lists.{all_take}
+use Rattle.hsp_instance.proofs.Lists.{all_so}
 
 -- ---- uses in order
 
@@ -40,9 +41,11 @@ pub record Before (u v : UseLine) : Type 0 where
   pub rows : u.row ≤ v.row
   pub sites : u.row ≡ v.row → u.site < v.site
 
+-- the test of two uses in order is that of their places
 before_is : (u v : UseLine) → is_before u v ≡ true → Before u v
 before_is u v test = record { rows = grind arith; sites = λ same. grind arith }
 
+-- a use before one is before those behind it
 before_both : (u v w : UseLine) → Before u v → Before v w → Before u w
 before_both u v w a b =
     let sites : u.row ≡ w.row → u.site < w.site = λ same. grind (arith, a.sites, b.sites, a.rows, b.rows) in
@@ -52,6 +55,7 @@ abbrev pub InOrder : List UseLine → Type 0
 InOrder [] = Unit {0}
 InOrder (one ∷ uses) = AllByRecursion (Before one) uses × InOrder uses
 
+-- uses that ascend from one are all behind it
 order_from : (one : UseLine) (uses : List UseLine) → ascends_from is_before (Some one) uses ≡ true
     → AllByRecursion (Before one) uses × InOrder uses
 order_from one [] order = (tt, tt)
@@ -59,10 +63,11 @@ order_from one (next ∷ uses) order =
     let parts = and_parts (is_before one next) (ascends_from is_before (Some next) uses) order in
     let first = before_is one next parts.0 in
     let rest = order_from next uses parts.1 in (
-      (first, all_so (Before next) (Before one) (λ later after. before_both one next later first after) uses rest.0),
+      (first, all_so (Before next) (Before one) uses (λ later after. before_both one next later first after) rest.0),
       rest,
     )
 
+-- uses that ascend are in order
 pub in_order : (uses : List UseLine) → ascends is_before uses ≡ true → InOrder uses
 in_order [] order = tt
 in_order (one ∷ uses) order = order_from one uses (and_parts true (ascends_from is_before (Some one) uses) order).1
@@ -71,15 +76,18 @@ in_order (one ∷ uses) order = order_from one uses (and_parts true (ascends_fro
 abbrev IsCounted : UseLine → Type 0
 IsCounted one = (0 < one.count) × (one.count ≤ GREATEST_COUNT)
 
+-- a use that passes its test has a count within its limit
 is_counted : (one : UseLine) → is_use one ≡ true → IsCounted one
 is_counted one is = (grind arith, grind arith)
 
+-- so has each use
 counted : (uses : List UseLine) → list_all is_use uses ≡ true → AllByRecursion IsCounted uses
 counted [] all = tt
 counted (one ∷ uses) all =
     let each = and_parts (is_use one) (list_all is_use uses) all in
     (is_counted one each.0, counted uses each.1)
 
+-- no use counts more than a row may
 pub count_within : (uses : List UseLine) (k : ℕ) (one : UseLine) → list_all is_use uses ≡ true
     → slice_get uses k ≡ Some one → one.count ≤ GREATEST_COUNT
 count_within uses k one all at = (all_at IsCounted uses k one (counted uses all) at).1
@@ -103,6 +111,7 @@ cells_after it first uses after =
     cells_so it first.row (Before first) (λ (cell : Cell). first.site < cell.site)
     (λ one here before. before.sites (sym here)) uses after
 
+-- the cells of a row's uses are in order, and none is empty
 are_cells : (it : Instance) (row : ℕ) (uses : List UseLine) → InOrder uses → AllByRecursion IsCounted uses
     → AreCells (cells_of it row uses)
 are_cells it row [] order counts = tt
@@ -139,6 +148,7 @@ pub record HasArcTo (site : ℕ) (arcs : Option (List Arc)) : Type 0 where
 abbrev goes : ℕ → ℕ → NetworkArc → Bool
 goes row site a = a.row == row && a.site == site
 
+-- an arc among those of a row leads to the site
 arc_among : (i row site : ℕ) (arcs : List Arc) → list_any (goes row site) (map (arc_of i) arcs) ≡ true
     → (i ≡ row) × HasArcTo site (Some arcs)
 arc_among i row site [] any = absurd (cc)
@@ -157,6 +167,7 @@ arc_among i row site (arc ∷ arcs) any =
           )
     ]
 
+-- an arc among those of all rows is of one row's list
 arc_from : (i row site : ℕ) (lists : List (List Arc)) → list_any (goes row site) (arcs_from i lists) ≡ true
     → (k : ℕ) × (row ≡ i + k) × HasArcTo site (slice_get lists k)
 arc_from i row site [] any = absurd (cc)
@@ -171,6 +182,7 @@ arc_from i row site (arcs ∷ lists) any =
           (suc rest.0, omega (arith, rest.1), rest.2)
     ]
 
+-- an allowed site has an arc of the row
 pub has_arc : (it : Instance) (row site : ℕ) → is_allowed (network_of it) row site ≡ true
     → HasArcTo site (slice_get it.arcs row)
 has_arc it row site allowed =
@@ -210,6 +222,7 @@ own_arc it row site arc is found = by_list (slice_get it.arcs row) refl found
     by_list (Some arcs) e found =
         found_so (IsArc it.servers) site arcs arc (all_at (AreArcs it.servers) it.arcs row arcs is.arcs e).each found
 
+-- the cell of a use has the server of its arc
 cell_is : (it : Instance) (one : UseLine) → IsInstance it → is_allowed (network_of it) one.row one.site ≡ true
     → IsCellOf it one.row (cell_of it one)
 cell_is it one is allowed =
@@ -232,6 +245,7 @@ cell_is it one is allowed =
 abbrev Goes : Instance → UseLine → Type 0
 Goes it one = is_allowed (network_of it) one.row one.site ≡ true
 
+-- so has each cell of a row
 each_is : (it : Instance) (row : ℕ) (uses : List UseLine) → IsInstance it → AllByRecursion (Goes it) uses
     → AllByRecursion (IsCellOf it row) (cells_of it row uses)
 each_is it row uses is goes =
@@ -241,6 +255,7 @@ each_is it row uses is goes =
 
 -- ---- one use after the other
 
+-- one use more is one cell more of its own row
 cells_more : (it : Instance) (row : ℕ) (uses : List UseLine) (one : UseLine)
     → cells_of it row (uses ++ one ∷ []) ≡ cells_of it row uses ++ (if one.row == row then cell_of it one ∷ [] else [])
 cells_more it row [] one = refl
@@ -252,11 +267,13 @@ record AreGiven (it : Instance) (uses : List UseLine) : Type 0 where
   counts : AllByRecursion IsCounted uses
   goes : AllByRecursion (Goes it) uses
 
+-- the first of uses in order are in order
 order_take : (n : ℕ) (uses : List UseLine) → InOrder uses → InOrder (take n uses)
 order_take zero uses order = tt
 order_take (suc n) [] order = tt
 order_take (suc n) (one ∷ uses) order = (all_take (Before one) n uses order.0, order_take n uses order.1)
 
+-- uses of a certificate keep to its rules
 are_given : (it : Instance) (uses : List UseLine) → AreUsesOf it uses → AreGiven it uses
 are_given it uses are =
     record {
@@ -273,6 +290,7 @@ use_there it uses k one is are e =
     let inside = row_there one.site one.row it.arcs (has_arc it one.row one.site goes) in
     omega (arith, is.one_list_a_row)
 
+-- the next use puts its cell behind those of its row
 own_more : (it : Instance) (uses : List UseLine) (k : ℕ) (one : UseLine) → slice_get uses k ≡ Some one
     → cells_of it one.row (take (k + 1) uses) ≡ cells_of it one.row (take k uses) ++ cell_of it one ∷ []
 own_more it uses k one e =
@@ -297,6 +315,7 @@ cells_stay part it uses k one are e =
     (are_cells it one.row (take (k + 1) uses) (order_take (k + 1) uses given.order)
     (all_take IsCounted (k + 1) uses given.counts)))
 
+-- at first no row has a cell
 pub shared_none : (part : ℕ → ℕ) (it : Instance) → AreSharesOf part it [] (replicate (length it.rows) [])
 shared_none part it = record { one_a_row = length-replicate (length it.rows) []; each = none_at_row (length it.rows) }
   where
@@ -332,6 +351,7 @@ shared_more part it uses k one shares cells e are inside new = record {
 
 module _ (portion : Portion) (it : Instance) (uses : List UseLine) (shares : List (List Cell)) (are : AreUsesOf it uses)
     (shared : AreSharesOf (part_of portion) it uses shares) where
+  -- the cells are held for the rows of the instance
   pub are_held : IsInstance it → IsHeld (holding it shares)
   are_held is =
       let given = are_given it uses are in
@@ -347,6 +367,7 @@ module _ (portion : Portion) (it : Instance) (uses : List UseLine) (shares : Lis
             }));
       }
 
+  -- what is held is the portion of the plan
   pub table_held : IsSame (left_of (holding it shares)) (portion_of portion (table uses))
   table_held row site =
       let given = are_given it uses are in

@@ -4,7 +4,7 @@ use Rattle.std.proofs.Common.{refl, sym, ap, eq-eqb}
 use Rattle.std.proofs.Common.{inl, inr}
 use Rattle.std.proofs.lemmas.Bool.{ne_eqb, cases_eq}
 use Rattle.std.specs.List.{AllByRecursion}
-use Rattle.hsp_dispatch.proofs.Lists.{all_so}
+use Rattle.hsp_instance.proofs.Lists.{all_so}
 use Rattle.hsp_dispatch.proofs.Spreads.{same_spread}
 use Rattle.hsp_dispatch.specs.Dispatch.{spread_from}
 use Rattle.hsp_instance.specs.Instance.{Instance}
@@ -32,8 +32,8 @@ within_behind n s cell (c ∷ cells) low behind within =
 pub sites_within : (it : Instance) (row : ℕ) (cells : List Cell) → AreCellsOf it row cells
     → Within (length it.sites) 0 cells
 sites_within it row cells are =
-    all_so (IsCellOf it row) (λ (cell : Cell). (0 ≤ cell.site) × (cell.site < 0 + length it.sites))
-    (λ cell is. (omega arith, omega (arith, is.site))) cells are.each
+    all_so (IsCellOf it row) (λ (cell : Cell). (0 ≤ cell.site) × (cell.site < 0 + length it.sites)) cells
+    (λ cell is. (omega arith, omega (arith, is.site))) are.each
 
 -- cells behind a site leave nothing at it
 pub none_at : (cells : List Cell) (s : ℕ) → AllByRecursion (λ (cell : Cell). s < cell.site) cells → left_at cells s ≡ 0
@@ -65,8 +65,8 @@ spread_is (suc n) s (cell ∷ cells) are within =
           let later : s < cell.site = omega (arith, other, within.0.0) in
           let none : left_at cells s ≡ 0 =
           none_at cells s
-          (all_so (λ (c : Cell). cell.site < c.site) (λ (c : Cell). s < c.site)
-          (λ c behind. omega (arith, behind, later)) cells are.1.0) in
+          (all_so (λ (c : Cell). cell.site < c.site) (λ (c : Cell). s < c.site) cells
+          (λ c behind. omega (arith, behind, later)) are.1.0) in
           rw (ne_eqb cell.site s other, none)
           (spread_is n (s + 1) (cell ∷ cells) are ((omega arith, omega (arith, within.0.1)), rest))
     ]

@@ -19,6 +19,7 @@ times site sites = count_by (λ (own : ℕ). own == site) sites
 abbrev pub is_site : ℕ → ℕ → ℕ
 is_site site own = cond (own == site) 1 0
 
+-- a site stands in two lists as often as in both together
 pub times_append : (site : ℕ) (xs ys : List ℕ) → times site (xs ++ ys) ≡ times site xs + times site ys
 times_append site xs ys = sum_by-append (is_site site) xs ys
 
@@ -26,6 +27,7 @@ times_append site xs ys = sum_by-append (is_site site) xs ys
 times_same : (k s : ℕ) → times s (replicate k s) ≡ k
 times_same k s = sum_by-replicate (λ (own : ℕ). cond (own == s) 1 0) k s ∙ rw (eq-eqb s s refl) (omega arith)
 
+-- a site does not stand among others
 times_other : (k s t : ℕ) → s ≢ t → times t (replicate k s) ≡ 0
 times_other k s t other = sum_by-replicate (λ (own : ℕ). cond (own == t) 1 0) k s ∙ rw (ne_eqb s t other) (omega arith)
 
@@ -51,6 +53,7 @@ times_in (suc n) s t x low high =
     let none = none_before n (s + 1) s x in
     grind (arith, both, times_same (x s) s, times_other (x s) s t, none, times_in n (s + 1) t x)
 
+-- a site stands in a spread no more often than the plan says
 pub times_within : (n s t : ℕ) (x : ℕ → ℕ) → times t (spread_from n s x) ≤ x t
 times_within zero s t x = omega arith
 times_within (suc n) s t x =
@@ -64,6 +67,7 @@ occurs [] k site e = absurd (cc)
 occurs (own ∷ xs) zero site e = grind (arith, sum_by-cons (is_site site) own xs)
 occurs (own ∷ xs) (suc k) site e = omega (arith, sum_by-cons (is_site site) own xs, occurs xs k site e)
 
+-- a site of a spread is one that the plan sends to
 pub is_sent : (n s k site : ℕ) (x : ℕ → ℕ) → slice_get (spread_from n s x) k ≡ Some site → 0 < x site
 is_sent n s k site x e = omega (arith, occurs (spread_from n s x) k site e, times_within n s site x)
 

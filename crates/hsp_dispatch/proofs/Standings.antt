@@ -41,10 +41,12 @@ sum_within fronts front (cell ∷ cells) some bounded =
       suc-mul (length cells) 1000000,
     )
 
+-- the shares of a row add up to 32 bits
 pub sum_fits : (fronts front : ℕ) (cells : List Cell) → 0 < fronts → AreBounded cells → length cells ≤ MOST_SITES
     → shares_sum fronts front cells ≤ 4294967295
 sum_fits fronts front cells some bounded few = omega (arith, sum_within fronts front cells some bounded, few)
 
+-- the shares from a cell on are its own and those behind it
 pub sum_from : (fronts front k : ℕ) (cells : List Cell) (cell : Cell) → slice_get cells k ≡ Some cell
     → shares_sum fronts front (drop k cells)
     ≡ share fronts front cell.left + shares_sum fronts front (drop (k + 1) cells)
@@ -56,6 +58,7 @@ left_none fronts front [] = refl
 left_none fronts front (cell ∷ cells) =
     rw (le-ltb (shares_sum fronts front cells) 0 (omega arith)) (left_none fronts front cells)
 
+-- a front with all its shares left has its shares
 pub left_whole : (fronts front left : ℕ) (cells : List Cell) → left ≡ shares_sum fronts front cells
     → left_among fronts front left cells ≡ shares_in fronts front cells
 left_whole fronts front left [] whole = refl
@@ -76,11 +79,13 @@ first_sole fronts front left server [] sole some = absurd sole
 first_sole fronts front left server (cell ∷ []) sole some = rw (lt-ltb 0 left (omega (arith, some))) (ap Some sole)
 first_sole fronts front left server (cell ∷ second ∷ more) sole some = absurd sole
 
+-- a front with none left has nothing
 pub none_left : (fronts front left : ℕ) (cells : List Cell) → left ≡ 0 → left_among fronts front left cells ≡ []
 none_left fronts front left cells none = rw none (left_none fronts front cells)
 
 -- ---- where a front stands
 
+-- the shares behind a cell are no more than all
 less_behind : (fronts front k : ℕ) (cells : List Cell)
     → shares_sum fronts front (drop k cells) ≤ shares_sum fronts front cells
 less_behind fronts front zero cells = omega arith
@@ -101,6 +106,7 @@ stands_at fronts front left here (suc k) (cell ∷ later) some all as_many =
     rw (le-ltb (shares_sum fronts front later) left (omega (arith, few, less_behind fronts front k later)))
     (stands_at fronts front left here k later some (rw next at all) (λ first. few))
 
+-- a front that stands at a cell has what is left there, and the shares behind it
 pub stands : (fronts front left here k : ℕ) (cells : List Cell) (standing : Standing) → (left ≢ 0 → here ≢ 0)
     → here + shares_sum fronts front (drop (k + 1) cells) ≡ left
     → (k ≢ 0 → left ≤ shares_sum fronts front (drop k cells))
@@ -121,12 +127,14 @@ place_within fronts front row many own inside =
     let next : suc row * fronts ≤ many * fronts = mul-le-mul_right fronts inside in
     omega (arith, own, next, suc-mul row fronts)
 
+-- each front has a sum
 sums_long : (fronts many : ℕ) (cells : List Cell) → length (sums_of fronts many cells) ≡ many
 sums_long fronts zero cells = refl
 sums_long fronts (suc many) cells =
     length-append (sums_of fronts many cells) (shares_sum fronts many cells ∷ [])
     ∙ omega (arith, sums_long fronts many cells)
 
+-- that sum is of its own shares
 sums_get : (fronts many front : ℕ) (cells : List Cell) → front < many
     → slice_index (sums_of fronts many cells) front ≡ shares_sum fronts front cells
 sums_get fronts zero front cells inside = absurd (omega (arith, inside))
@@ -158,6 +166,7 @@ sums_at fronts front (suc row) (cells ∷ rows) inside there =
     ∙ get_or-append-add (sums_of fronts fronts cells) (all_sums fronts rows) (row * fronts + front) 0
     ∙ sums_at fronts front row rows inside (omega (arith, there))
 
+-- each front has a sum of each row
 pub all_long : (fronts : ℕ) (rows : List (List Cell)) → length (all_sums fronts rows) ≡ length rows * fronts
 all_long fronts [] = omega arith
 all_long fronts (cells ∷ rows) =

@@ -81,6 +81,7 @@ left_after (cell ∷ cells) site are =
     let none = λ (at : cell.site ≡ site). none_at cells site (rw at at are.1.0) in
     rw first (grind (arith, none))
 
+-- the cells that are left are still of the row
 cells_after : (it : Instance) (row : ℕ) (cells : List Cell) → AreCellsOf it row cells
     → AreCellsOf it row (without_first cells)
 cells_after it row [] are = are
@@ -110,6 +111,7 @@ taken_one shares row cells inside is = record {
   others = λ other apart. get_or-set_other shares row other cells [] (λ same. apart (sym same));
 }
 
+-- what is left is still held for the rows of the instance
 pub held_after : (it : Instance) (old : List (List Cell)) (row : ℕ) (new : List (List Cell)) → IsHeld (holding it old)
     → IsTakenFrom old row new → IsHeld (holding it new)
 held_after it old row new is taken = record {
@@ -121,6 +123,7 @@ held_after it old row new is taken = record {
   ];
 }
 
+-- what is left is what the query left of the plan
 pub rest_after : (it : Instance) (old : List (List Cell)) (row : ℕ) (new : List (List Cell)) → IsHeld (holding it old)
     → IsTakenFrom old row new
     → IsRestOf (holding it old) row (holding it new)
@@ -153,6 +156,7 @@ row_found it region handle row found =
           (and_parts (bytes_eq region own.0.region) (bytes_eq handle own.0.handle) tested).1,
     )
 
+-- a row that was found by a handle has that handle
 pub row_handle : (it : Instance) (region handle : List ℕ) (row : ℕ) → IsInstance it
     → position (has_keys region handle) it.rows ≡ Some row → handle_in handle ≡ Ok handle
 row_handle it region handle row is found =

@@ -31,6 +31,7 @@ use Rattle.hsp_dispatch.proofs.SharedOut.{has_arc}
 abbrev given_to : Plan → ℕ → NetworkArc → ℕ
 given_to x row a = if a.row == row then x a.row a.site else 0
 
+-- what the arcs of a row are given, by their sites
 own_list : (x : Plan) (row : ℕ) (arcs : List Arc)
     → sum_by (given_to x row) (map (arc_of row) arcs) ≡ sum_by (λ (arc : Arc). x row arc.site) arcs
 own_list x row [] = refl
@@ -38,12 +39,14 @@ own_list x row (arc ∷ arcs) =
     let all = sum_by-cons (given_to x row) (arc_of row arc) (map (arc_of row) arcs) in
     grind (arith, all, own_list x row arcs, sum_by-cons (λ (a : Arc). x row a.site) arc arcs)
 
+-- the arcs of another row are given nothing of this one
 other_list : (x : Plan) (row i : ℕ) (arcs : List Arc) → i ≢ row → sum_by (given_to x row) (map (arc_of i) arcs) ≡ 0
 other_list x row i [] apart = refl
 other_list x row i (arc ∷ arcs) apart =
     let all = sum_by-cons (given_to x row) (arc_of i arc) (map (arc_of i) arcs) in
     grind (arith, apart, all, other_list x row i arcs apart)
 
+-- nor are those of all later rows
 later_lists : (x : Plan) (row i : ℕ) (lists : List (List Arc)) → row < i
     → sum_by (given_to x row) (arcs_from i lists) ≡ 0
 later_lists x row i [] before = refl
@@ -52,6 +55,7 @@ later_lists x row i (arcs ∷ lists) before =
     let own = other_list x row i arcs (λ same. omega (arith, same, before)) in
     omega (arith, all, own, later_lists x row (i + 1) lists (omega (arith, before)))
 
+-- of all arcs only the row's own are given what the plan sends of it
 over_own : (x : Plan) (row i k : ℕ) (lists : List (List Arc)) (own : List Arc) → row ≡ i + k
     → slice_get lists k ≡ Some own
     → sum_by (given_to x row) (arcs_from i lists) ≡ sum_by (λ (arc : Arc). x row arc.site) own
@@ -74,6 +78,7 @@ over_own x row i (suc k) (arcs ∷ lists) own is at =
 abbrev count_to : ℕ → List Arc → ℕ
 count_to site arcs = sum_by (λ (arc : Arc). if arc.site == site then 1 else 0) arcs
 
+-- arcs to later sites do not lead to this one
 none_to : (site : ℕ) (arcs : List Arc) → AllByRecursion (λ (later : Arc). site < later.site) arcs
     → count_to site arcs ≡ 0
 none_to site [] later = refl
@@ -81,6 +86,7 @@ none_to site (arc ∷ arcs) later =
     let all = sum_by-cons (λ (a : Arc). if a.site == site then 1 else 0) arc arcs in
     grind (arith, later.0, all, none_to site arcs later.1)
 
+-- one arc of a row leads to a site
 one_to : (site : ℕ) (arcs : List Arc) (arc : Arc) → IsAscending arcs → arc_to site (Some arcs) ≡ Some arc
     → count_to site arcs ≡ 1
 one_to site [] arc up found = absurd (cc)
@@ -91,6 +97,7 @@ one_to site (first ∷ arcs) arc up found =
 
 -- ---- the sum over all sites
 
+-- the sites of arcs are sites of the instance
 sites_inside : (it : Instance) (arcs : List Arc) → IsInstance it → AllByRecursion (IsArc it.servers) arcs
     → AllByRecursion (λ (arc : Arc). arc.site < length it.sites) arcs
 sites_inside it [] is each = tt
@@ -102,6 +109,7 @@ sites_inside it (arc ∷ arcs) is each =
       sites_inside it arcs is each.1,
     )
 
+-- what a row's arcs are given is what the plan sends of it to all sites
 by_sites : (it : Instance) (x : Plan) (row : ℕ) (arcs : List Arc) → IsInstance it → Feasible (network_of it) x
     → AreArcs it.servers arcs → slice_get it.arcs row ≡ Some arcs
     → sum_by (λ (arc : Arc). x row arc.site) arcs ≡ sum_below (length it.sites) (λ site. x row site)
@@ -136,12 +144,14 @@ whole_row it x row own is feasible at =
     sym (by_sites it x row list.0 is feasible are list.1)
     ∙ sym (over_own x row 0 row it.arcs list.0 (omega arith) list.1) ∙ met ∙ asked
 
+-- a row is served whole
 pub is_served_whole : IsServedWhole
 is_served_whole it x earlier entry row own is feasible at found spent =
     sum_below_same (length it.sites) (λ site. assigned_in it x earlier row site) (λ site. x row site)
     (λ site inside. is_spent_after_all it x earlier entry row site found spent inside)
     ∙ whole_row it x row own is feasible at
 
+-- fronts together serve a row whole
 pub is_served_together : IsServedTogether
 is_served_together it fronts x events row own is feasible some at was =
     sum_below_same (length it.sites) (λ site. assigned_by_all it fronts x events row site) (λ site. x row site)

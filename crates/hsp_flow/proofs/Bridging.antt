@@ -29,10 +29,12 @@ arc arcs k = slice_index_or arcs k no_arc
 abbrev pub leads : ℕ → ℕ → NetworkArc → Bool
 leads i s a = a.row == i && a.site == s
 
+-- a number is itself under a condition, either way
 same_twice : (b : Bool) (n : ℕ) → n ≡ (if b then n else n)
 same_twice true n = refl
 same_twice false n = refl
 
+-- the use of an arc gives its flow where the arc leads, and nothing elsewhere
 one_use : (a : NetworkArc) (flow i s : ℕ) → table (use_of a flow) i s ≡ (if leads i s a then flow else 0)
 one_use a flow i s = elim (cases_eq flow 0) [
   | inl none ↦ rw none (same_twice (leads i s a) 0)

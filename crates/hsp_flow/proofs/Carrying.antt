@@ -20,6 +20,7 @@ use Rattle.hsp_flow.proofs.Bridging.{arc, none_planned, planned_is}
 use Rattle.hsp_flow.proofs.Ordering.{no_arc}
 
 module _ (it : Instance) (demands : List ℕ) (arcs : List NetworkArc) where
+  -- each arc has a row
   many : length arcs ≡ length (map row_of arcs)
   many = sym (length-map arcs row_of)
 
@@ -29,12 +30,14 @@ module _ (it : Instance) (demands : List ℕ) (arcs : List NetworkArc) where
 
   -- a set of rows by the checker, and of sources by the planner
   module _ (s t : ℕ → Bool) (same : (i : ℕ) → s i ≡ t i) where
+    -- a set of rows has the same demand by numbers
     pub demand_is : demand_of (transport (network_over it demands arcs)) s
         ≡ demand_of (numbered (transport_over it demands arcs)) t
     demand_is =
         demand_alike (transport (network_over it demands arcs)) no_arc _ many _ _ _ (column row_of) (column server_of)
         (column cost_of) s t same
 
+    -- a set of rows has the same capacity by numbers
     pub capacity_is : capacity_of (transport (network_over it demands arcs)) s
         ≡ capacity_of (numbered (transport_over it demands arcs)) t
     capacity_is =
@@ -44,12 +47,14 @@ module _ (it : Instance) (demands : List ℕ) (arcs : List NetworkArc) where
   -- a plan that gives each arc its flow
   module _ (x : Plan) (flows : List ℕ)
       (flow_is : (k : ℕ) → k < length arcs → planned x (arc arcs k) ≡ slice_index flows k) where
+    -- a feasible plan is a feasible flow
     pub flow_feasible : Feasible (network_over it demands arcs) x
         → IsFeasible (numbered (transport_over it demands arcs)) (λ k. slice_index flows k)
     flow_feasible feasible =
         feasible_back (transport (network_over it demands arcs)) no_arc _ many _ _ _ (column row_of) (column server_of)
         (column cost_of) (planned x) _ flow_is feasible.flow
 
+    -- prices of a plan are prices of the flow
     pub flow_prices : (u p q : List ℕ) → Prices (network_over it demands arcs) x u p q
         → HasPrices (numbered (transport_over it demands arcs)) (λ k. slice_index flows k) u p q
     flow_prices u p q prices =
@@ -58,9 +63,11 @@ module _ (it : Instance) (demands : List ℕ) (arcs : List NetworkArc) where
 
   -- the plan of a flow
   module _ (ordered : AreOrdered arcs) (flows : List ℕ) (all : length flows ≡ length arcs) where
+    -- the uses give each arc what flows on it
     pub plan_is : (k : ℕ) → k < length arcs → planned (table (uses_of arcs flows)) (arc arcs k) ≡ slice_index flows k
     plan_is = planned_is arcs flows all ordered
 
+    -- a feasible flow is a feasible plan
     pub feasible_is : IsFeasible (numbered (transport_over it demands arcs)) (λ k. slice_index flows k)
         → Feasible (network_over it demands arcs) (table (uses_of arcs flows))
     feasible_is feasible = record {
@@ -71,6 +78,7 @@ module _ (it : Instance) (demands : List ℕ) (arcs : List NetworkArc) where
           feasible;
     }
 
+    -- prices of a flow are prices of the plan
     pub prices_are : (u p q : List ℕ)
         → HasPrices (numbered (transport_over it demands arcs)) (λ k. slice_index flows k) u p q
         → Prices (network_over it demands arcs) (table (uses_of arcs flows)) u p q

@@ -22,12 +22,14 @@ use Rattle.hsp_transport.specs.Sums.{sum_below}
 use Rattle.hsp_flow.proofs.Carrying.{cost_is as cost_by, feasible_is, prices_are}
 use Rattle.hsp_flow.specs.Ordered.{AreOrdered}
 use Rattle.hsp_flow.specs.Planning.{transport_of, uses_of, row_of}
-use Rattle.hsp_flow.proofs.Ordering.{no_arc, each_weaker, all_ordered}
+use Rattle.hsp_flow.proofs.Ordering.{no_arc, all_ordered}
 use Rattle.hsp_flow.proofs.Bridging.{arc, leads}
+use Rattle.hsp_instance.proofs.Lists.{all_so}
 
+-- the arcs of an instance stand in order
 pub instance_ordered : (it : Instance) → IsInstance it → AreOrdered (arcs_from 0 it.arcs)
 instance_ordered it is =
-    all_ordered 0 it.arcs (each_weaker (AreArcs it.servers) IsAscending it.arcs (λ arcs a. a.ascending) is.arcs)
+    all_ordered 0 it.arcs (all_so (AreArcs it.servers) IsAscending it.arcs (λ arcs a. a.ascending) is.arcs)
 
 -- each arc joins its row and its site
 pub allowed_at : (arcs : List NetworkArc) (k : ℕ) → k < length arcs
@@ -57,14 +59,17 @@ module _ (it : Instance) (is : IsInstance it) (plan : PricedFlow) (met : IsMet (
   abbrev pub plan_of_flow : Plan
   plan_of_flow = table (uses_of (arcs_from 0 it.arcs) plan.flows.items)
 
+  -- each arc has a flow
   all : length plan.flows.items ≡ length (arcs_from 0 it.arcs)
   all = met.many.flows ∙ length-map (arcs_from 0 it.arcs) row_of
 
+  -- the plan of the flow is feasible
   pub plan_feasible : Feasible (network_of it) plan_of_flow
   plan_feasible =
       feasible_is it (demands_in it) (arcs_from 0 it.arcs) (instance_ordered it is) plan.flows.items all
       met.balanced.feasible
 
+  -- the prices of the flow are prices of the plan
   plan_prices : Prices (network_of it) plan_of_flow plan.source_prices.items plan.server_prices.items
       plan.host_prices.items
   plan_prices =
@@ -77,6 +82,7 @@ module _ (it : Instance) (is : IsInstance it) (plan : PricedFlow) (met : IsMet (
       (λ k. slice_index (transport_of it).costs k * slice_index plan.flows.items k)
   cost_is = cost_by it (demands_in it) (arcs_from 0 it.arcs) (instance_ordered it is) plan.flows.items all
 
+  -- the plan, its cost and its prices make a valid certificate
   pub plan_valid : (most : ℕ) → most ≤ 1000000000000
       → HasLowPrices plan.source_prices.items plan.server_prices.items plan.host_prices.items most →
       (cost : ℕ)

@@ -27,15 +27,18 @@ use Rattle.hsp_flow.proofs.ShortRows.{set_valid}
 use Rattle.hsp_flow.proofs.Limits.{counts_low, small_ends, costs_low, total_low, network_is, few_arcs}
 
 module _ (it : Instance) (is : IsInstance it) (plan : PricedFlow) (met : IsMet (transport_of it) plan) where
+  -- the bound of prices by what the costs are
   limit : ℕ
   limit =
       (length (transport_of it).demands + length (transport_of it).capacities + length (transport_of it).limits
       + 1) * 1000000
 
+  -- the prices are within the bound
   bounded : HasLowPrices plan.source_prices.items plan.server_prices.items plan.host_prices.items limit
   unfolding limit
   bounded = met.low 1000000 (costs_low it is)
 
+  -- the bound is within that of a certificate
   limit_low : limit ≤ 1000000000000
   unfolding limit
   limit_low =
@@ -49,6 +52,7 @@ module _ (it : Instance) (is : IsInstance it) (plan : PricedFlow) (met : IsMet (
         is.hosts.few,
       )
 
+  -- no arc has more flow than a row can ask for
   flow_low : (k : ℕ) → k < length (arcs_from 0 it.arcs) → slice_index plan.flows.items k ≤ 1000000
   flow_low k l =
       let inside : k < length (transport_of it).sources = omega (arith, l, length-map (arcs_from 0 it.arcs) row_of) in
@@ -68,6 +72,7 @@ module _ (it : Instance) (is : IsInstance it) (plan : PricedFlow) (met : IsMet (
         counts_low it is i there,
       )
 
+  -- the cost is within that of a certificate
   pub cost_low : sum_below (length (arcs_from 0 it.arcs))
       (λ k. slice_index (transport_of it).costs k * slice_index plan.flows.items k) ≤ 8192000000000000
   cost_low =
@@ -89,9 +94,11 @@ module _ (it : Instance) (is : IsInstance it) (plan : PricedFlow) (met : IsMet (
           host_prices = plan.host_prices.items;
         }
 
+    -- the certificate is valid
     pub best_valid : IsValidPlan (network_of it) made
     best_valid = rw are (plan_valid it is plan met limit limit_low bounded cost sum)
 
+    -- its numbers are in their ranges
     pub best_is : IsBest made
     best_is = record {
       cost = omega (arith, sum, cost_low);
@@ -106,6 +113,7 @@ module _ (it : Instance) (is : IsInstance it) (plan : PricedFlow) (met : IsMet (
       host_prices = prices_fit plan.host_prices.items (λ i l. omega (arith, bounded.hosts i l, limit_low));
     }
 
+    -- its prices are within the bound
     pub best_low : HasLimitedPrices (network_of it) (best made)
     best_low most within =
         let bounds : BoundsCosts (transport_of it) most = λ k l.
@@ -136,9 +144,11 @@ module _ (it : Instance) (is : IsInstance it) (plan : PricedFlow) (met : IsMet (
 -- ---- the same of lists that are equal to those
 
 module _ (it : Instance) (is : IsInstance it) (costs : List ℕ) (same : costs ≡ map cost_of (arcs_from 0 it.arcs)) where
+  -- the costs are fewer than 2 ^ 32
   pub costs_few : length costs < 4294967296
   costs_few = rw same (omega (arith, length-map (arcs_from 0 it.arcs) cost_of, few_arcs it is))
 
+  -- no cost is above a million
   pub costs_cheap : (k : ℕ) → k < length costs → slice_index costs k ≤ 1000000
   costs_cheap =
       rw same
@@ -148,9 +158,11 @@ module _ (it : Instance) (is : IsInstance it) (costs : List ℕ) (same : costs �
 
   module _ (plan : PricedFlow) (met : IsMet (transport_of it) plan) (total : ℕ)
       (sum : total ≡ sum_below (length costs) (λ k. slice_index costs k * slice_index plan.flows.items k)) where
+    -- each arc has a cost
     many : length costs ≡ length (arcs_from 0 it.arcs)
     many = ap (λ (xs : List ℕ). length xs) same ∙ length-map (arcs_from 0 it.arcs) cost_of
 
+    -- the cost was added up arc by arc
     pub by_arcs : total
         ≡ sum_below (length (arcs_from 0 it.arcs))
         (λ k. slice_index (transport_of it).costs k * slice_index plan.flows.items k)
@@ -159,6 +171,7 @@ module _ (it : Instance) (is : IsInstance it) (costs : List ℕ) (same : costs �
         (λ (xs : List ℕ). sum_below (length (arcs_from 0 it.arcs))
         (λ k. slice_index xs k * slice_index plan.flows.items k)) same
 
+    -- that sum is within its limit
     pub total_small : total ≤ 8192000000000000
     total_small = omega (arith, by_arcs, cost_low it is plan met)
 
@@ -174,6 +187,7 @@ short_is it is set short demand capacity d c =
       capacity = c;
     }
 
+-- a short set makes a valid certificate
 pub short_valid : (it : Instance) (set : List Bool) → IsShortSet (transport_of it) set → (demand capacity : ℕ)
     → demand ≡ demand_of (numbered (transport_of it)) (flag_at set) →
     capacity ≡ capacity_of (numbered (transport_of it)) (flag_at set)

@@ -25,6 +25,7 @@ use Rattle.hsp_flow.proofs.Ordering.{each_at, no_arc}
 
 -- ---- ascending arcs lead to each site at most once
 
+-- arcs to later sites do not lead to this one
 none_later : (arcs : List Arc) (s : ℕ) → AllByRecursion (λ (a : Arc). s < a.site) arcs → links_to (map link arcs) s ≡ 0
 none_later [] s h = refl
 none_later (a ∷ arcs) s h =
@@ -32,6 +33,7 @@ none_later (a ∷ arcs) s h =
     let off = ne_eqb a.site s (λ e. omega (arith, h.0)) in
     grind (arith, first, off, none_later arcs s h.1)
 
+-- at most one arc of a row leads to a site
 pub one_link : (arcs : List Arc) (s : ℕ) → IsAscending arcs → links_to (map link arcs) s ≤ 1
 one_link [] s up = omega arith
 one_link (a ∷ arcs) s up =
@@ -46,6 +48,7 @@ module _ (it : Instance) (groups : Groups) (is : IsInstance it) (are : AreGroups
   pub group_is : (i : ℕ) → i < length it.rows → slice_get groups.of_rows i ≡ Some (group_of groups i)
   group_is i l = slice_get-get_or groups.of_rows i groups.count (omega (arith, l, are.one_a_row))
 
+  -- each row is of a group that is there
   pub group_below : (i : ℕ) → i < length it.rows → group_of groups i < groups.count
   group_below i l =
       each_at (λ group. group < groups.count) groups.of_rows i groups.count (omega (arith, l, are.one_a_row)) are.below
@@ -64,9 +67,11 @@ module _ (it : Instance) (groups : Groups) (is : IsInstance it) (are : AreGroups
       sym (unwrap_or-slice_get it.arcs a []) ∙ ap (λ arcs. unwrap_or arcs []) alike.arcs
       ∙ unwrap_or-slice_get it.arcs b []
 
+  -- each group has a demand
   pub demands_many : length (demands_by it groups) ≡ groups.count
   demands_many = length-map (range_with_len 0 groups.count) (asked_by it groups) ∙ length-range_with_len 0 groups.count
 
+  -- the demand of a group is what its rows ask for
   pub demand_at : (k : ℕ) → k < groups.count → slice_index (demands_by it groups) k ≡ asked_by it groups k
   demand_at k l =
       let there : k < length (range_with_len 0 groups.count) = omega (arith, l, length-range_with_len 0 groups.count) in
@@ -75,6 +80,7 @@ module _ (it : Instance) (groups : Groups) (is : IsInstance it) (are : AreGroups
       get_or-map (asked_by it groups) (range_with_len 0 groups.count) k 0 0 there ∙ ap (asked_by it groups) number
 
   module _ (rows : List ℕ) (own : AreRowsOfGroups it groups rows) where
+    -- each group has a list of arcs
     lists_many : length (lists_of it rows) ≡ groups.count
     lists_many = length-map rows (arcs_at it) ∙ own.many
 
@@ -91,6 +97,7 @@ module _ (it : Instance) (groups : Groups) (is : IsInstance it) (are : AreGroups
         let inside : k < length rows = omega (arith, below, own.many) in
         list_at k below ∙ arcs_alike (slice_index rows k) i (own.there k inside) l (own.own k inside)
 
+    -- groups are kinds of the rows
     pub are_kinds : AreKinds site_of (transport (network_of it)) (transport (grouped it groups rows)) (group_of groups)
     are_kinds = record {
       inside = λ i l. omega (arith, group_below i (in_rows i l), demands_many);
@@ -122,6 +129,7 @@ module _ (it : Instance) (groups : Groups) (is : IsInstance it) (are : AreGroups
           each_row rows (λ k l. there (suc k) (omega arith)),
         )
 
+    -- the groups have a network whose numbers fit
     pub grouped_is : IsNetwork (transport (grouped it groups rows))
     grouped_is = record {
       sources =
@@ -137,6 +145,7 @@ module _ (it : Instance) (groups : Groups) (is : IsInstance it) (are : AreGroups
       hosts = (is_network it is).hosts;
     }
 
+    -- each group has at most one arc to a site
     pub grouped_one : HasOneArcASite site_of (transport (grouped it groups rows))
     grouped_one k s l =
         let inside : k < length (lists_of it rows) = omega (arith, l, demands_many, lists_many) in
@@ -144,5 +153,6 @@ module _ (it : Instance) (groups : Groups) (is : IsInstance it) (are : AreGroups
         subst (λ links. links_to links s ≤ 1) (sym (links_of_row (grouped it groups rows) (lists_of it rows) k))
         (one_link (slice_index_or (lists_of it rows) k []) s up)
 
+-- the groups of an instance are kinds of its rows
 pub groups_are_kinds : GroupsAreKinds
 groups_are_kinds it groups rows is are own = are_kinds it groups is are rows own

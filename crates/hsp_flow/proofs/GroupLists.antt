@@ -144,6 +144,7 @@ module _ (it : Instance) (groups : Groups) where
       → asked_so_far k (row + 1) ≡ asked_so_far k row + (if group_of groups row == k then count else 0)
   asked_more k row count is = rw add-one (ap (λ v. asked_so_far k row + (if group_of groups row == k then v else 0)) is)
 
+  -- what groups ask for, with a row more
   pub asked_after : (asked : List ℕ) (row group count : ℕ) → slice_get groups.of_rows row ≡ Some group
       → slice_index (demands_in it) row ≡ count → group < length asked →
       (k : ℕ) → slice_index asked group ≡ asked_so_far group row → slice_index asked k ≡ asked_so_far k row →
@@ -186,12 +187,15 @@ module _ (it : Instance) (groups : Groups) where
 
 module _ (it : Instance) (groups : Groups) (is : IsInstance it) (are : AreGroups it groups) (rows : List ℕ)
     (own : AreRowsOfGroups it groups rows) where
+  -- each group has a list and a demand
   many : length (demands_by it groups) ≡ length (lists_of it rows)
   many = demands_many it groups is are ∙ sym own.many ∙ sym (length-map rows (arcs_at it))
 
+  -- the lists make a network whose numbers fit
   pub by_is : IsNetwork (transport_by it groups rows)
   by_is = over_is it is (lists_of it rows) (lists_are it groups is are rows own) (demands_by it groups) many
 
+  -- its costs and demands are small
   pub by_small : IsSmall (transport_by it groups rows)
   by_small =
       over_small it is (lists_of it rows) (lists_are it groups is are rows own) (demands_by it groups) many
@@ -237,6 +241,7 @@ list_read it rows k arcs l read =
 
 -- ---- what is laid, one flow a turn
 
+-- one flow more is laid down, and what is left to lay is that of later arcs
 pub lay_one : (flows all xs : List ℕ) (k skip need skipped own : ℕ) → k < length xs
     → skipped ≡ min skip (slice_index xs k) → own ≡ min need (slice_index xs k - skipped) →
     flows ++ laid skip need (drop k xs) ≡ all

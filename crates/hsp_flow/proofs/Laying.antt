@@ -35,6 +35,7 @@ uses_append (x ∷ xs) ys (f ∷ fs) gs l =
 module _ (row : ℕ) (arcs : List Arc) (flows : List ℕ) (k : ℕ) (l : k < length arcs) (m : k < length flows)
     (uses all : List UseLine)
     (so_far : uses ++ uses_of (map (arc_of row) (drop k arcs)) (drop k flows) ≡ all) where
+  -- the use of one arc more is put down
   step : uses
       ++ (use_of (arc_of row (slice_index_or arcs k no_own)) (slice_index flows k)
       ++ uses_of (map (arc_of row) (drop (k + 1) arcs)) (drop (k + 1) flows)) ≡ all
@@ -97,6 +98,7 @@ rows_done lists k past uses all flows so_far =
 
 module _ (flags : List Bool) (k : ℕ) (l : k < length flags) (rows all : List ℕ)
     (so_far : rows ++ flagged_from k (drop k flags) ≡ all) where
+  -- one flagged row more is put down
   flag_step : rows
       ++ ((if slice_index_or flags k false then k ∷ [] else []) ++ flagged_from (k + 1) (drop (k + 1) flags)) ≡ all
   flag_step = rw (drop_at flags k false l) at so_far

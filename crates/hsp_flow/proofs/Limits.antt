@@ -24,19 +24,23 @@ use Rattle.hsp_network.specs.Network.{IsNetwork, host_of, numbered}
 use Rattle.hsp_transport.specs.Cut.{demand_of}
 use Rattle.hsp_flow.specs.Nodes.{nodes_by}
 use Rattle.hsp_flow.specs.Planning.{transport_of, transport_over, row_of, server_of, cost_of}
-use Rattle.hsp_flow.proofs.Ordering.{no_arc, each_weaker, each_at, all_ordered, rows_between, rows_ordered, arcs_many}
+use Rattle.hsp_flow.proofs.Ordering.{no_arc, each_at, all_ordered, rows_between, rows_ordered, arcs_many}
 use Rattle.hsp_flow.proofs.Bridging.{arc}
 use Rattle.hsp_shortest_paths.proofs.Sums.{sum_below_low}
 use Rattle.hsp_text.proofs.Lists.{all_append}
+use Rattle.hsp_instance.proofs.Lists.{all_so}
 
+-- two facts of each element are facts of all
 pub each_both : {A : Type 0} (P Q : A → Type 0) (xs : List A) → AllByRecursion P xs → AllByRecursion Q xs
     → AllByRecursion (λ x. P x × Q x) xs
 each_both P Q [] h k = tt
 each_both P Q (x ∷ xs) h k = ((h.0, k.0), each_both P Q xs h.1 k.1)
 
+-- a row that stands for none
 no_row : Row
 no_row = record { region = []; handle = []; count = 0 }
 
+-- a server that stands for none
 no_server : Server
 no_server = record { site = 0; place = 0; id = 0; capacity = 0; host = None }
 
@@ -47,6 +51,7 @@ pub record Fits (it : Instance) (a : NetworkArc) : Type 0 where
   pub cost : a.cost ≤ 1000000
 
 module _ (it : Instance) (is : IsInstance it) where
+  -- no row asks for more than a million
   pub counts_low : (i : ℕ) → i < length (transport_of it).demands → slice_index (transport_of it).demands i ≤ 1000000
   counts_low i l =
       let inside : i < length it.rows = omega (arith, l, length-map it.rows (λ (r : Row). r.count)) in
@@ -54,6 +59,7 @@ module _ (it : Instance) (is : IsInstance it) where
       get_or-map (λ (r : Row). r.count) it.rows i no_row 0 inside in
       omega (arith, at, each_at IsCounted it.rows i no_row inside is.rows.each)
 
+  -- an arc of a row leads to a server of its site, at a cost within the limit
   fits_one : (i : ℕ) (a : Arc) → IsArc it.servers a → Fits it (arc_of i a)
   fits_one i a h =
       let own = all_at (IsServer it.sites (length it.hosts)) it.servers a.server h.server is.servers.each h.is_server in
@@ -64,11 +70,13 @@ module _ (it : Instance) (is : IsInstance it) where
         cost = h.cost;
       }
 
+  -- so does each arc of a row
   fits_row : (i : ℕ) (arcs : List Arc) → AllByRecursion (IsArc it.servers) arcs
       → AllByRecursion (Fits it) (map (arc_of i) arcs)
   fits_row i [] h = tt
   fits_row i (a ∷ arcs) h = (fits_one i a h.0, fits_row i arcs h.1)
 
+  -- so does each arc of all rows
   fits_all : (i : ℕ) (lists : List (List Arc)) → AllByRecursion (AreArcs it.servers) lists
       → AllByRecursion (Fits it) (arcs_from i lists)
   fits_all i [] h = tt
@@ -76,14 +84,16 @@ module _ (it : Instance) (is : IsInstance it) where
       all_append (Fits it) (map (arc_of i) arcs) (arcs_from (i + 1) rest) (fits_row i arcs h.0.each)
       (fits_all (i + 1) rest h.1)
 
+  -- rows and sites are within the limits of uses
   pub small_ends : AllByRecursion (λ (a : NetworkArc). (a.row ≤ 8191) × (a.site ≤ 31)) (arcs_from 0 it.arcs)
   small_ends =
-      each_weaker (λ (a : NetworkArc). Fits it a × ((0 ≤ a.row) × (a.row < 0 + length it.arcs)))
+      all_so (λ (a : NetworkArc). Fits it a × ((0 ≤ a.row) × (a.row < 0 + length it.arcs)))
       (λ (a : NetworkArc). (a.row ≤ 8191) × (a.site ≤ 31)) (arcs_from 0 it.arcs)
       (λ a h. (omega (arith, h.1.1, is.one_list_a_row, is.rows.few), h.0.site))
       (each_both (Fits it) (λ (a : NetworkArc). (0 ≤ a.row) × (a.row < 0 + length it.arcs)) (arcs_from 0 it.arcs)
       (fits_all 0 it.arcs is.arcs) (rows_between 0 it.arcs))
 
+  -- each server stands on a listed host or on none
   host_there : HostsAreBelow (length (transport_of it).limits) (transport_of it).hosts
   host_there = hosts_below (length (transport_of it).limits) (transport_of it).hosts (λ j h l e.
       let inside : j < length it.servers = omega (arith, l, length-map it.servers (λ (s : Server). s.host)) in
@@ -96,9 +106,11 @@ module _ (it : Instance) (is : IsInstance it) where
 
 module _ (it : Instance) (is : IsInstance it) (lists : List (List Arc))
     (each : AllByRecursion (AreArcs it.servers) lists) where
+  -- so does the arc of each number
   pub fits_at : (k : ℕ) → k < length (arcs_from 0 lists) → Fits it (arc (arcs_from 0 lists) k)
   fits_at k l = each_at (Fits it) (arcs_from 0 lists) k no_arc l (fits_all it is 0 lists each)
 
+  -- the arc of each number is of a row that is there
   pub row_at : (k : ℕ) → k < length (arcs_from 0 lists) → (arc (arcs_from 0 lists) k).row < length lists
   row_at k l =
       omega (
@@ -107,10 +119,12 @@ module _ (it : Instance) (is : IsInstance it) (lists : List (List Arc))
             (rows_between 0 lists)).1,
       )
 
+  -- there are at most 32 arcs a row
   few_over : length (arcs_from 0 lists) ≤ 32 * length lists
   few_over =
-      arcs_many 0 lists (each_weaker (AreArcs it.servers) (λ arcs. length arcs ≤ 32) lists (λ arcs h. h.few) each)
+      arcs_many 0 lists (all_so (AreArcs it.servers) (λ arcs. length arcs ≤ 32) lists (λ arcs h. h.few) each)
 
+  -- the number of a row's arc is that of an arc
   inside : (k : ℕ) → k < length (map row_of (arcs_from 0 lists)) → k < length (arcs_from 0 lists)
   inside k l = omega (arith, length-map (arcs_from 0 lists) row_of)
 
@@ -119,11 +133,13 @@ module _ (it : Instance) (is : IsInstance it) (lists : List (List Arc))
       → slice_index (map part (arcs_from 0 lists)) k ≡ part (arc (arcs_from 0 lists) k)
   at part k l = get_or-map part (arcs_from 0 lists) k no_arc 0 (inside k l)
 
+  -- no arc costs more than a million
   cost_low : (k : ℕ) → k < length (map row_of (arcs_from 0 lists))
       → slice_index (map cost_of (arcs_from 0 lists)) k ≤ 1000000
   cost_low k l = omega (arith, at cost_of k l, (fits_at k (inside k l)).cost)
 
   module _ (demands : List ℕ) (many : length demands ≡ length lists) where
+    -- the arcs make a network whose numbers fit
     pub over_is : IsNetwork (transport_over it demands (arcs_from 0 lists))
     over_is = record {
       hosts_many =
@@ -151,7 +167,7 @@ module _ (it : Instance) (is : IsInstance it) (lists : List (List Arc))
     }
       where
         ascending : AllByRecursion IsAscending lists
-        ascending = each_weaker (AreArcs it.servers) IsAscending lists (λ arcs h. h.ascending) each
+        ascending = all_so (AreArcs it.servers) IsAscending lists (λ arcs h. h.ascending) each
 
     -- the solver's numbers have room for it
     pub over_small : length lists ≤ 8192 → ((i : ℕ) → i < length demands → slice_index demands i ≤ 8192000000)
@@ -175,18 +191,23 @@ module _ (it : Instance) (is : IsInstance it) (lists : List (List Arc))
         }
 
 module _ (it : Instance) (is : IsInstance it) where
+  -- each row has a demand
   rows_many : length (transport_of it).demands ≡ length it.rows
   rows_many = length-map it.rows (λ (r : Row). r.count)
 
+  -- there are no more arcs than 8,192 rows and 32 sites make
   pub few_arcs : length (arcs_from 0 it.arcs) ≤ 262144
   few_arcs = omega (arith, few_over it is it.arcs is.arcs, is.one_list_a_row, is.rows.few)
 
+  -- no source has an arc above a million
   pub costs_low : (k : ℕ) → k < length (transport_of it).sources → slice_index (transport_of it).costs k ≤ 1000000
   costs_low = cost_low it is it.arcs is.arcs
 
+  -- an instance has a network whose numbers fit
   pub network_is : IsNetwork (transport_of it)
   network_is = over_is it is it.arcs is.arcs (transport_of it).demands (rows_many ∙ sym is.one_list_a_row)
 
+  -- its costs and demands are small
   pub small_is : IsSmall (transport_of it)
   small_is =
       over_small it is it.arcs is.arcs (transport_of it).demands (rows_many ∙ sym is.one_list_a_row)

@@ -13,16 +13,13 @@ use Rattle.hsp_check.specs.Instance.{arc_of, arcs_from}
 use Rattle.hsp_check.proofs.RowLists.{arcs_more}
 use Rattle.hsp_flow.specs.Ordered.{IsLater, AreOrdered}
 use Rattle.hsp_text.proofs.Lists.{all_append}
+use Rattle.hsp_instance.proofs.Lists.{all_so}
 
 -- what stands past the end of arcs
 abbrev pub no_arc : NetworkArc
 no_arc = record { row = 0; site = 0; server = 0; cost = 0 }
 
-pub each_weaker : {A : Type 0} (P Q : A → Type 0) (xs : List A) → ((x : A) → P x → Q x) → AllByRecursion P xs
-    → AllByRecursion Q xs
-each_weaker P Q [] weaker h = tt
-each_weaker P Q (x ∷ xs) weaker h = (weaker x h.0, each_weaker P Q xs weaker h.1)
-
+-- what holds of all holds of the element at a place
 pub each_at : {A : Type 0} (P : A → Type 0) (xs : List A) (k : ℕ) (d : A) → k < length xs → AllByRecursion P xs
     → P (slice_index_or xs k d)
 each_at P [] k d l h = absurd (omega arith)
@@ -40,20 +37,23 @@ pub rows_between : (i : ℕ) (lists : List (List Arc))
 rows_between i [] = tt
 rows_between i (arcs ∷ rest) =
     all_append (λ a. (i ≤ a.row) × (a.row < i + suc (length rest))) (map (arc_of i) arcs) (arcs_from (i + 1) rest)
-    (each_weaker (λ a. a.row ≡ i) _ (map (arc_of i) arcs) (λ a e. (omega arith, omega arith)) (of_row i arcs))
-    (each_weaker _ _ (arcs_from (i + 1) rest) (λ a b. (omega (arith, b.0), omega (arith, b.1)))
+    (all_so (λ a. a.row ≡ i) _ (map (arc_of i) arcs) (λ a e. (omega arith, omega arith)) (of_row i arcs))
+    (all_so _ _ (arcs_from (i + 1) rest) (λ a b. (omega (arith, b.0), omega (arith, b.1)))
     (rows_between (i + 1) rest))
 
+-- ordered arcs behind ordered arcs are ordered, if all come later
 ordered_append : (xs ys : List NetworkArc) → AreOrdered xs → AreOrdered ys
     → AllByRecursion (λ x. AllByRecursion (IsLater x) ys) xs → AreOrdered (xs ++ ys)
 ordered_append [] ys h k across = k
 ordered_append (x ∷ xs) ys h k across = (all_append (IsLater x) xs ys h.0 across.0, ordered_append xs ys h.1 k across.1)
 
+-- arcs to later sites come later in their row
 later_sites : (i : ℕ) (a : Arc) (arcs : List Arc) → AllByRecursion (λ (later : Arc). a.site < later.site) arcs
     → AllByRecursion (IsLater (arc_of i a)) (map (arc_of i) arcs)
 later_sites i a [] h = tt
 later_sites i a (b ∷ arcs) h = (inr (refl, h.0), later_sites i a arcs h.1)
 
+-- the arcs of a row are in order
 row_ordered : (i : ℕ) (arcs : List Arc) → IsAscending arcs → AreOrdered (map (arc_of i) arcs)
 row_ordered i [] up = tt
 row_ordered i (a ∷ arcs) up = (later_sites i a arcs up.0, row_ordered i arcs up.1)
@@ -64,11 +64,12 @@ all_ordered i [] up = tt
 all_ordered i (arcs ∷ rest) up =
     ordered_append (map (arc_of i) arcs) (arcs_from (i + 1) rest) (row_ordered i arcs up.0)
     (all_ordered (i + 1) rest up.1)
-    (each_weaker (λ a. a.row ≡ i) _ (map (arc_of i) arcs)
+    (all_so (λ a. a.row ≡ i) _ (map (arc_of i) arcs)
     (λ a e.
-    each_weaker _ (IsLater a) (arcs_from (i + 1) rest) (λ b between. inl (omega (arith, between.0)))
+    all_so _ (IsLater a) (arcs_from (i + 1) rest) (λ b between. inl (omega (arith, between.0)))
     (rows_between (i + 1) rest)) (of_row i arcs))
 
+-- of two places the later one has the later arc
 pub later_at : (arcs : List NetworkArc) → AreOrdered arcs → (j k : ℕ) → j < k → k < length arcs
     → IsLater (slice_index_or arcs j no_arc) (slice_index_or arcs k no_arc)
 later_at [] h j k less l = absurd (omega arith)

@@ -15,7 +15,7 @@ use Rattle.hsp_transport.specs.Cut.{IsShort, capacity_of, demand_of}
 use Rattle.hsp_transport.specs.Lists.{flag_at}
 use Rattle.hsp_flow.specs.Planning.{transport_of, flagged_from}
 use Rattle.hsp_flow.proofs.Carrying.{capacity_is, demand_is}
-use Rattle.hsp_flow.proofs.Ordering.{each_weaker}
+use Rattle.hsp_instance.proofs.Lists.{all_so}
 
 -- whether a number is among the flagged ones, by the first flag
 in_flags : (i k : ℕ) (flag : Bool) (flags : List Bool) →
@@ -24,14 +24,17 @@ in_flags : (i k : ℕ) (flag : Bool) (flags : List Bool) →
 in_flags i k true flags = refl
 in_flags i k false flags = refl
 
+-- a row that is not asked for changes nothing
 no_flag : (flag rest : Bool) → ((flag && false) || rest) ≡ rest
 no_flag true rest = refl
 no_flag false rest = refl
 
+-- a row is flagged by its own flag
 own_flag : (flag : Bool) → ((flag && true) || false) ≡ flag
 own_flag true = refl
 own_flag false = refl
 
+-- rows from a number on are not those before it
 not_later : (k : ℕ) (flags : List Bool) (i : ℕ) → i < k → list_any (λ r. r == i) (flagged_from k flags) ≡ false
 not_later k [] i l = refl
 not_later k (flag ∷ flags) i l =
@@ -54,11 +57,12 @@ flagged_is j (flag ∷ flags) (suc i) =
     ∙ no_flag flag rest ∙ ap (λ n. list_any (λ r. r == n) (flagged_from (j + 1) flags)) same
     ∙ flagged_is (j + 1) flags i
 
+-- flagged rows are rows that are there
 flags_within : (j : ℕ) (flags : List Bool) → AllByRecursion (λ r. r < j + length flags) (flagged_from j flags)
 flags_within j [] = tt
 flags_within j (flag ∷ flags) =
     let more : AllByRecursion (λ r. r < j + suc (length flags)) (flagged_from (j + 1) flags) =
-    each_weaker (λ r. r < j + 1 + length flags) _ (flagged_from (j + 1) flags) (λ r l. omega arith)
+    all_so (λ r. r < j + 1 + length flags) _ (flagged_from (j + 1) flags) (λ r l. omega arith)
     (flags_within (j + 1) flags) in
     elim (cases_Bool flag) [
       | inl set ↦ rw set (omega arith, more)
@@ -66,16 +70,18 @@ flags_within j (flag ∷ flags) =
     ]
 
 module _ (it : Instance) (set : List Bool) (many : length set ≡ length it.rows) where
+  -- a row is chosen just where it is flagged
   chosen_is : (i : ℕ) → is_one_of (flagged_from 0 set) i ≡ flag_at set i
   chosen_is i = rw (zero-add i) at (flagged_is 0 set i)
 
+  -- the flagged rows make a valid short set
   pub set_valid : (demand capacity : ℕ) → demand ≡ demand_of (numbered (transport_of it)) (flag_at set)
       → capacity ≡ capacity_of (numbered (transport_of it)) (flag_at set) →
       IsShort (numbered (transport_of it)) (flag_at set)
       → IsValidSet (network_of it) (record { rows = flagged_from 0 set; demand = demand; capacity = capacity })
   set_valid demand capacity d c short = record {
     there = All-from_recursion (λ r. r < length (transport_of it).demands) (flagged_from 0 set)
-        (each_weaker (λ r. r < 0 + length set) (λ r. r < length (transport_of it).demands) (flagged_from 0 set)
+        (all_so (λ r. r < 0 + length set) (λ r. r < length (transport_of it).demands) (flagged_from 0 set)
         (λ r l. omega (arith, l, many, length-map it.rows (λ (x : Row). x.count))) (flags_within 0 set));
     is_short =
         rw (

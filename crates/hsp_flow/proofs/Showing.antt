@@ -16,6 +16,7 @@ record Shows (it : Instance) (claim : Claim) : Type 0 where
   pub prices : HasEqualSums (network_of it) claim
   pub none : HasNoPlan (network_of it) claim
 
+-- a valid certificate shows what its definition says of the instance
 valid_shows : (it : Instance) → IsInstance it → (claim : Claim) → IsValid (network_of it) claim → Shows it claim
 valid_shows it is (best c) valid =
     let shown =
@@ -30,15 +31,18 @@ valid_shows it is (short c) valid =
     }
 
 module _ {E : Type 0} (it : Instance) (is : IsInstance it) where
+  -- a plan that was made is best
   pub has_best : (made : Result Claim E) → IfOk made (IsValid (network_of it)) → IfOk made (HasBestPlan (network_of it))
   has_best (Ok claim) valid = (valid_shows it is claim valid).best
   has_best (Err e) valid = tt
 
+  -- its prices add up to its cost
   pub has_sums : (made : Result Claim E) → IfOk made (IsValid (network_of it))
       → IfOk made (HasEqualSums (network_of it))
   has_sums (Ok claim) valid = (valid_shows it is claim valid).prices
   has_sums (Err e) valid = tt
 
+  -- a short set that was made shows that there is no plan
   pub has_none : (made : Result Claim E) → IfOk made (IsValid (network_of it)) → IfOk made (HasNoPlan (network_of it))
   has_none (Ok claim) valid = (valid_shows it is claim valid).none
   has_none (Err e) valid = tt

@@ -43,15 +43,19 @@ own_value it groups of_groups each are d i l =
 
 module _ (it : Instance) (groups : Groups) (is : IsInstance it) (are : AreGroups it groups) (rows : List ℕ)
     (own : AreRowsOfGroups it groups rows) where
+  -- each row has a demand
   rows_many : length (demands_in it) ≡ length it.rows
   rows_many = length-map it.rows (λ (r : Row). r.count)
 
+  -- the groups are kinds of the rows
   kinds : AreKinds site_of (transport (network_of it)) (transport (grouped it groups rows)) (group_of groups)
   kinds = are_kinds it groups is are rows own
 
+  -- the network of rows has numbers that fit
   of-rows : IsNetwork (transport (network_of it))
   of-rows = is_network it is
 
+  -- the network of groups has numbers that fit
   of-groups : IsNetwork (transport (grouped it groups rows))
   of-groups = grouped_is it groups is are rows own
 
@@ -60,6 +64,7 @@ module _ (it : Instance) (groups : Groups) (is : IsInstance it) (are : AreGroups
   abbrev Below : ℕ → ℕ → Link → Type 0
   Below most i l = l.cost ≤ most
 
+  -- a bound of the rows' costs is one of the groups' costs
   bounds_kept : (most : ℕ) → BoundsCosts (transport_of it) most → BoundsCosts (transport_by it groups rows) most
   bounds_kept most bounds k l =
       let arcs = arcs_from 0 it.arcs in
@@ -85,23 +90,28 @@ module _ (it : Instance) (groups : Groups) (is : IsInstance it) (are : AreGroups
   -- ---- a flow that meets the groups
 
   module _ (plan : PricedFlow) (met : IsMet (transport_by it groups rows) plan) where
+    -- the groups' arcs stand in order
     ordered : AreOrdered (arcs_from 0 (lists_of it rows))
     ordered = all_ordered 0 (lists_of it rows) (lists_ordered it groups is are rows own)
 
+    -- each of the groups' arcs has a flow
     pub all : length plan.flows.items ≡ length (arcs_from 0 (lists_of it rows))
     all = met.many.flows ∙ length-map (arcs_from 0 (lists_of it rows)) row_of
 
+    -- the groups' plan is feasible
     pub group_feasible : Feasible (grouped it groups rows) (plan_by it rows plan.flows.items)
     group_feasible =
         feasible_is it (demands_by it groups) (arcs_from 0 (lists_of it rows)) ordered plan.flows.items all
         met.balanced.feasible
 
+    -- the groups' prices are prices of their plan
     group_prices : Prices (grouped it groups rows) (plan_by it rows plan.flows.items) plan.source_prices.items
         plan.server_prices.items plan.host_prices.items
     group_prices =
         prices_are it (demands_by it groups) (arcs_from 0 (lists_of it rows)) ordered plan.flows.items all _ _ _
         met.balanced.prices
 
+    -- the plan is spread over the rows of each group
     spread-is : IsSpread site_of (transport (network_of it)) (transport (grouped it groups rows)) (group_of groups)
         (plan_by it rows plan.flows.items) (spread_by it groups rows plan.flows.items)
     spread-is =
@@ -113,6 +123,7 @@ module _ (it : Instance) (groups : Groups) (is : IsInstance it) (are : AreGroups
         (prices : AreOfGroups it groups plan.source_prices.items made.source_prices.items)
         (servers : made.server_prices.items ≡ plan.server_prices.items)
         (hosts : made.host_prices.items ≡ plan.host_prices.items) where
+      -- the flow of each row's arc is that of the spread plan
       flow_is : (k : ℕ) → k < length (arcs_from 0 it.arcs)
           → planned (spread_by it groups rows plan.flows.items) (arc (arcs_from 0 it.arcs) k)
           ≡ slice_index made.flows.items k
@@ -121,11 +132,13 @@ module _ (it : Instance) (groups : Groups) (is : IsInstance it) (are : AreGroups
           (ap (λ (xs : List ℕ). slice_index xs k) flows
           ∙ get_or-map (planned (spread_by it groups rows plan.flows.items)) (arcs_from 0 it.arcs) k no_arc 0 l)
 
+      -- each row has the price of its group
       own_prices : ArePricesOfKinds (transport (network_of it)) (group_of groups) made.source_prices.items
           plan.source_prices.items
       own_prices i l =
           own_value it groups plan.source_prices.items made.source_prices.items prices 0 i (omega (arith, l, rows_many))
 
+      -- those are prices of the spread plan
       row_prices : Prices (network_of it) (spread_by it groups rows plan.flows.items) made.source_prices.items
           made.server_prices.items made.host_prices.items
       row_prices =
@@ -135,6 +148,7 @@ module _ (it : Instance) (groups : Groups) (is : IsInstance it) (are : AreGroups
           (plan_by it rows plan.flows.items) spread-is.pooled made.source_prices.items plan.source_prices.items
           plan.server_prices.items plan.host_prices.items own_prices group_prices)
 
+      -- the prices stay within the bound
       bounded : HasBoundedPrices (transport_of it) made
       bounded most bounds =
           let low = met.low most (bounds_kept most bounds) in
@@ -158,6 +172,7 @@ module _ (it : Instance) (groups : Groups) (is : IsInstance it) (are : AreGroups
               ≤ length (demands_in it) + length (transport_of it).capacities + length (transport_of it).limits + 1
           few_in l = omega arith
 
+      -- a plan of the groups, spread, answers the rows' network
       pub met_spread : IsMet (transport_of it) made
       met_spread = record {
         many = record {
@@ -182,6 +197,7 @@ module _ (it : Instance) (groups : Groups) (is : IsInstance it) (are : AreGroups
 
   -- ---- groups that are short
 
+  -- the rows of a short set of groups are a short set
   pub short_spread : (of_groups each : List Bool) → IsShortSet (transport_by it groups rows) of_groups
       → AreOfGroups it groups of_groups each → IsShortSet (transport_of it) each
   short_spread of_groups each short flags =

@@ -24,7 +24,8 @@ use Rattle.hsp_flow.proofs.Bridging.{arc}
 use Rattle.hsp_flow.proofs.Carrying.{plan_is}
 use Rattle.hsp_flow.proofs.GroupKinds.{group_below, list_of_row, lists_are}
 use Rattle.hsp_flow.proofs.Laying.{no_own}
-use Rattle.hsp_flow.proofs.Ordering.{all_ordered, arcs_read, each_at, each_weaker, no_arc}
+use Rattle.hsp_flow.proofs.Ordering.{all_ordered, arcs_read, each_at, no_arc}
+use Rattle.hsp_instance.proofs.Lists.{all_so}
 
 -- ---- what is laid is what lies beside
 
@@ -51,6 +52,7 @@ abbrev pub NoneTo : ℕ → List Arc → Type 0
 NoneTo s arcs = AllByRecursion (λ (arc : Arc). arc.site ≡ s → ⊥) arcs
 
 module _ (y : ℕ → ℕ) (a b : ℕ) (l : a ≤ b) where
+  -- from a site on, the shares that are laid down are those between two marks
   laid_from : (arcs : List Arc) (flows : List ℕ) (from : ℕ) → IsAscending arcs
       → AllByRecursion (λ (arc : Arc). from ≤ arc.site) arcs → length flows ≡ length arcs →
       ((p : ℕ) → p < length arcs → slice_index flows p ≡ y (slice_index_or arcs p no_own).site)
@@ -67,7 +69,7 @@ module _ (y : ℕ → ℕ) (a b : ℕ) (l : a ≤ b) where
       (λ s m n.
       none s m (
         (λ e. omega arith),
-        each_weaker (λ later. arc.site < later.site) _ arcs (λ later more e. omega arith) up.0,
+        all_so (λ later. arc.site < later.site) _ arcs (λ later more e. omega arith) up.0,
       )) in
       let next : sum_below (arc.site + 1) y ≡ c + f = rw (add-one arc.site) (omega (arith, here, own)) in
       let skip : a - (c + f) ≡ (a - c) - f = omega arith in
@@ -76,12 +78,13 @@ module _ (y : ℕ → ℕ) (a b : ℕ) (l : a ≤ b) where
       let first : min ((b - c) - (a - c)) (f - (a - c)) ≡ beside a b c (c + f) = omega (arith, l) in
       let rest =
       laid_from arcs flows (arc.site + 1) up.1
-      (each_weaker (λ later. arc.site < later.site) _ arcs (λ later more. omega arith) up.0) (omega arith)
+      (all_so (λ later. arc.site < later.site) _ arcs (λ later more. omega arith) up.0) (omega arith)
       (λ p m. flow (suc p) (omega arith)) (λ s m off. none s (omega (arith, past.0)) ((λ e. omega arith), off)) in
       ap₂ (λ x xs. x ∷ xs) (first ∙ ap₂ (λ v w. beside a b v (v + w)) (sym here) own)
       (ap₂ (λ v w. laid v w flows) (sym skip) (sym need) ∙ ap (λ v. laid (a - v) ((b - v) - (a - v)) flows) (sym next)
       ∙ rest)
 
+  -- a row's flows are what lies between its two marks
   pub laid_is : (arcs : List Arc) (flows : List ℕ) → IsAscending arcs → length flows ≡ length arcs →
       ((p : ℕ) → p < length arcs → slice_index flows p ≡ y (slice_index_or arcs p no_own).site)
       → ((s : ℕ) → NoneTo s arcs → y s ≡ 0) →
@@ -98,6 +101,7 @@ module _ (y : ℕ → ℕ) (a b : ℕ) (l : a ≤ b) where
 
 -- ---- an arc of a group among the arcs of all
 
+-- the arcs of a group stand together, in its own order
 in_group : (lists : List (List Arc)) (j g p : ℕ) → g < length lists → p < length (slice_index_or lists g []) →
     slice_index_or (arcs_from j lists) (length (arcs_from j (take g lists)) + p) no_arc
     ≡ arc_of (j + g) (slice_index_or (slice_index_or lists g []) p no_own)
@@ -119,6 +123,7 @@ in_group (arcs ∷ lists) j (suc g) p l m =
     ∙ in_group lists (j + 1) g p (omega arith) m
     ∙ ap (λ i. arc_of i (slice_index_or (slice_index_or lists g []) p no_own)) e
 
+-- the arcs of a group are among all arcs
 group_fits : (lists : List (List Arc)) (j g : ℕ) → g < length lists
     → length (arcs_from j (take g lists)) + length (slice_index_or lists g []) ≤ length (arcs_from j lists)
 group_fits [] j g l = absurd (omega arith)
@@ -139,11 +144,13 @@ no_link s (a ∷ arcs) off = rw (ne_eqb a.site s off.0) (no_link s arcs off.1)
 
 module _ (it : Instance) (groups : Groups) (is : IsInstance it) (are : AreGroups it groups) (rows : List ℕ)
     (own : AreRowsOfGroups it groups rows) where
+  -- the arcs of each group ascend by their sites
   pub lists_ordered : AllByRecursion IsAscending (lists_of it rows)
   lists_ordered =
-      each_weaker (AreArcs it.servers) IsAscending (lists_of it rows) (λ arcs h. h.ascending)
+      all_so (AreArcs it.servers) IsAscending (lists_of it rows) (λ arcs h. h.ascending)
       (lists_are it groups is are rows own)
 
+  -- each group has a list of arcs
   lists_many : length (lists_of it rows) ≡ groups.count
   lists_many = length-map rows _ ∙ own.many
 

@@ -12,7 +12,7 @@ ghost use Rattle.hsp_flow.specs.Planning.{HasLimitedPrices, flagged_from, transp
 
 use hsp_cert::Certificate;
 use hsp_instance::Instance;
-use hsp_network::{Network, reached_capacity, sum_flagged};
+use hsp_network::{Network, capacity_of_set, sum_flagged};
 use std::alloc::{AllocError, Global};
 
 // The numbers of the flagged sources.
@@ -52,6 +52,6 @@ pub(crate) fn short_certificate(
 {
     let rows = flagged(alloc, set)?;
     let demand = sum_flagged(network.demands, set);
-    let capacity = reached_capacity(alloc, network, set)?;
+    let capacity = capacity_of_set(alloc, network, set)?;
     Ok(certificate_of(rows, demand as u64, capacity as u64))
 }

@@ -5,10 +5,12 @@ use std::alloc::{AllocError, Global};
 use std::process::Abort;
 
 const PLAN: &[u8] =
-    b"HSPLAN 1\nPLAN\ncost 17\nuse 0 0 5\nuse 1 0 4\nuse 2 0 1\nuse 2 1 2\nrow 0 2\nrow 1 1\nrow 2 3\nserver 0 0\nserver 1 1\nserver 2 0\nserver 3 0\nserver 4 0\nEND\n";
+    b"HSPLAN 1\nPLAN\ncost 17\nuse 0 0 5\nuse 1 0 4\nuse 2 0 1\nuse 2 1 2\nrow 0 2\nrow 1 1\nrow 2 3\nserver 0 0\n\
+    server 1 1\nserver 2 0\nserver 3 0\nserver 4 0\nEND\n";
 
 const PLAN_WITH_A_HOST: &[u8] =
-    b"HSPLAN 2\nPLAN\ncost 23\nuse 0 0 5\nuse 1 0 2\nuse 1 1 2\nuse 2 0 1\nuse 2 1 2\nrow 0 4\nrow 1 4\nrow 2 5\nserver 0 0\nserver 1 0\nserver 2 2\nserver 3 0\nserver 4 0\nhost 0 3\nEND\n";
+    b"HSPLAN 2\nPLAN\ncost 23\nuse 0 0 5\nuse 1 0 2\nuse 1 1 2\nuse 2 0 1\nuse 2 1 2\nrow 0 4\nrow 1 4\nrow 2 5\n\
+    server 0 0\nserver 1 0\nserver 2 2\nserver 3 0\nserver 4 0\nhost 0 3\nEND\n";
 
 const SHORTAGE: &[u8] = b"HSPLAN 1\nSHORTAGE\ndemand 9\ncapacity 8\nrow 2\nEND\n";
 
@@ -68,7 +70,8 @@ fn texts_are_read_and_written_back(rt: HostRuntime) {
     let no_use: &[u8] = b"HSPLAN 1\nPLAN\ncost 0\nEND\n";
     let no_row: &[u8] = b"HSPLAN 1\nSHORTAGE\ndemand 0\ncapacity 0\nEND\n";
     let greatest: &[u8] =
-        b"HSPLAN 2\nPLAN\ncost 10000000000000000\nuse 8191 31 1000000\nrow 0 1000000000000\nserver 0 1000000000000\nhost 0 1000000000000\nEND\n";
+        b"HSPLAN 2\nPLAN\ncost 10000000000000000\nuse 8191 31 1000000\nrow 0 1000000000000\nserver 0 1000000000000\n\
+        host 0 1000000000000\nEND\n";
     let last_row: &[u8] =
         b"HSPLAN 1\nSHORTAGE\ndemand 10000000000000000\ncapacity 10000000000000000\nrow 0\nrow 8191\nEND\n";
     for text in [
@@ -255,10 +258,12 @@ fn words_and_numbers_have_one_spelling(rt: HostRuntime) {
 #[test]
 fn the_version_decides_whether_hosts_have_prices(rt: HostRuntime) {
     let none: &[u8] =
-        b"HSPLAN 2\nPLAN\ncost 17\nuse 0 0 5\nuse 1 0 4\nuse 2 0 1\nuse 2 1 2\nrow 0 2\nrow 1 1\nrow 2 3\nserver 0 0\nserver 1 1\nserver 2 0\nserver 3 0\nserver 4 0\nEND\n";
+        b"HSPLAN 2\nPLAN\ncost 17\nuse 0 0 5\nuse 1 0 4\nuse 2 0 1\nuse 2 1 2\nrow 0 2\nrow 1 1\nrow 2 3\nserver 0 0\n\
+        server 1 1\nserver 2 0\nserver 3 0\nserver 4 0\nEND\n";
     is_bad_line(&rt, none, fault_of(rt.alloc(), none), 16);
     let some: &[u8] =
-        b"HSPLAN 1\nPLAN\ncost 23\nuse 0 0 5\nuse 1 0 2\nuse 1 1 2\nuse 2 0 1\nuse 2 1 2\nrow 0 4\nrow 1 4\nrow 2 5\nserver 0 0\nserver 1 0\nserver 2 2\nserver 3 0\nserver 4 0\nhost 0 3\nEND\n";
+        b"HSPLAN 1\nPLAN\ncost 23\nuse 0 0 5\nuse 1 0 2\nuse 1 1 2\nuse 2 0 1\nuse 2 1 2\nrow 0 4\nrow 1 4\nrow 2 5\n\
+        server 0 0\nserver 1 0\nserver 2 2\nserver 3 0\nserver 4 0\nhost 0 3\nEND\n";
     is_bad_line(&rt, some, fault_of(rt.alloc(), some), 17);
 }
 

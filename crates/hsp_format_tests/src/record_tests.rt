@@ -21,11 +21,13 @@ const TWO_SERVERS: [u8; 76] = [
 
 /// A site with a filter, an attribute, a key and an interface.
 const FULL_SITE: &[u8] =
-    b"\0\x04\x02\x01\0\x05\x06\x02\0\0\0\x01f\0\0\0\x01\0\0\0\x01a\0\0\0\x02bc\0\0\0\x01\0\0\0\x09addressofserver9\0\0\0\x03key\0\0\0\x01\x01\x02\0\0\x0a\x51";
+    b"\0\x04\x02\x01\0\x05\x06\x02\0\0\0\x01f\0\0\0\x01\0\0\0\x01a\0\0\0\x02bc\0\0\0\x01\0\0\0\x09addressofserver9\0\0\
+    \0\x03key\0\0\0\x01\x01\x02\0\0\x0a\x51";
 
 /// A list of one value of index 1 without data, with a reference to index 2 of `10/3`.
 const REFERRING: &[u8] =
-    b"\0\0\0\x01\0\0\0\x01\0\0\0\x07HS_SITE\0\0\0\0\x0e\x01\0\0\x0e\x10\0\0\0\0\x65\x53\xf1\0\0\0\0\x01\0\0\0\x0410/3\0\0\0\x02";
+    b"\0\0\0\x01\0\0\0\x01\0\0\0\x07HS_SITE\0\0\0\0\x0e\x01\0\0\x0e\x10\0\0\0\0\x65\x53\xf1\0\0\0\0\x01\0\0\0\x0410/3\
+    \0\0\0\x02";
 
 /// The body of a request for the value of index 1 and of type `HS_SITE` of `10/3`.
 const BODY: &[u8] = b"\0\0\0\x0410/3\0\0\0\x01\0\0\0\x01\0\0\0\x01\0\0\0\x07HS_SITE";

@@ -258,7 +258,8 @@ fn faults_of_settings(rt: HostRuntime) {
 #[test]
 fn long_texts_that_are_no_toml(rt: HostRuntime) {
     let text =
-        b"[[site]]\nname = \"E\"\nindex = 1\n[[site]]\nname = \"F\"\nindex = 2\n[[site]]\nname = \"G\"\nindex = 3\n[[site]]\nname = \"H\"\nindex = 4\n[[site\n";
+        b"[[site]]\nname = \"E\"\nindex = 1\n[[site]]\nname = \"F\"\nindex = 2\n[[site]]\nname = \"G\"\nindex = 3\n\
+        [[site]]\nname = \"H\"\nindex = 4\n[[site\n";
     let answer = settings_of(rt.alloc(), text).err();
     is_fault(&rt, text, answer, Some(TableFault::NotToml));
 }
@@ -297,7 +298,8 @@ fn faults_of_hosts(rt: HostRuntime) {
             bad,
         ),
         (
-            b"[[host]]\naddress = \"aaaaaaaaaaaaaaaaaaaaaaaaaaaaaaaa\"\nlimit = 1\n[[host]]\naddress = \"AAAAAAAAAAAAAAAAAAAAAAAAAAAAAAAA\"\nlimit = 1\n",
+            b"[[host]]\naddress = \"aaaaaaaaaaaaaaaaaaaaaaaaaaaaaaaa\"\nlimit = 1\n[[host]]\n\
+            address = \"AAAAAAAAAAAAAAAAAAAAAAAAAAAAAAAA\"\nlimit = 1\n",
             twice,
         ),
     ];
@@ -320,7 +322,8 @@ fn are_the_numbers(rt: &impl Abort, settings: &Settings) {
 #[test]
 fn numbers_of_settings(rt: HostRuntime) {
     let text =
-        b"[[site]]\nname = \"E\"\nindex = 0x10\n[[host]]\naddress = \"0123456789abcdefABCDEF0123456789\"\nlimit = 1_000_000_000_000\n";
+        b"[[site]]\nname = \"E\"\nindex = 0x10\n[[host]]\naddress = \"0123456789abcdefABCDEF0123456789\"\n\
+        limit = 1_000_000_000_000\n";
     let settings = settings_of(rt.alloc(), text).expect(&rt, "the settings are read");
     are_the_numbers(&rt, &settings);
 }

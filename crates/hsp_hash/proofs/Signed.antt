@@ -10,12 +10,14 @@ use Rattle.std.proofs.lemmas.List.{take_all}
 use Rattle.std.proofs.lemmas.List.{get_or-drop}
 use Rattle.hsp_hash.specs.Place.{absolute_value, place_of_digest}
 
+-- the absolute value of a word, read with its sign
 pub absolute : (v : ℕ) → v < 2 ^ 32 → unsigned_abs (to_z w32 v) ≡ absolute_value v
 absolute v h = elim (cases_lt v (2 ^ 31)) [
   | inl below ↦ rw (lt-ltb v (2 ^ 31) below) refl
   | inr above ↦ rw (le-ltb v (2 ^ 31) above) (omega arith)
 ]
 
+-- a word that is read with its sign and written again has the same absolute value
 absolute_again : (v : ℕ) → v < 2 ^ 32 → unsigned_abs (to_z w32 (of_z w32 (to_z w32 v))) ≡ absolute_value v
 absolute_again v h = rw (of_z-to_z w32 v h) (absolute v h)
 

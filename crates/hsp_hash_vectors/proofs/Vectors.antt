@@ -13,6 +13,7 @@ use Rattle.hsp_hash_vectors.proofs.Two as two
 use Rattle.hsp_hash_vectors.proofs.UpperA as upper_a
 use Rattle.hsp_hash_vectors.proofs.Zero as zero
 
+-- the digests of RFC 1321's own texts
 pub standard_vectors : StandardVectors
 standard_vectors = record {
   empty = empty.digits;
@@ -22,6 +23,7 @@ standard_vectors = record {
   letters = letters.digits;
 }
 
+-- the digests and values of the parts of handles
 pub part_vectors : PartVectors
 part_vectors = record {
   empty = (empty.digits, empty.value);

@@ -15,6 +15,7 @@ use Rattle.hsp_text.specs.declared.limits.TheConstants.{MOST_REGIONS}
 use Rattle.hsp_tables.specs.Table.{first_seen}
 use Rattle.hsp_headline.specs.Stated.{AreFew}
 
+-- names that pass the test are the same
 same : (a b : List ℕ) → bytes_eq a b ≡ true → a ≡ b
 same a b e = same_text a b (sym e)
 
@@ -43,6 +44,7 @@ seen_all : (q : List ℕ) (names seen : List (List ℕ))
 seen_all q [] seen = grind arith
 seen_all q (name ∷ names) seen = grind (arith, seen_all q names (with_name seen name), seen_one q name seen)
 
+-- names that are seen in turn stay different
 all_distinct : (names seen : List (List ℕ)) → IsDistinct bytes_eq seen → IsDistinct bytes_eq (fold with_name seen names)
 all_distinct [] seen apart = apart
 all_distinct (name ∷ names) seen apart =
@@ -50,10 +52,12 @@ all_distinct (name ∷ names) seen apart =
     (cond_both (list_any (bytes_eq name) seen) seen (seen ++ name ∷ []) (IsDistinct bytes_eq) (λ there. apart)
     (IsDistinct-push nat_list_eq_equiv seen name apart))
 
+-- no names are different
 none_distinct : IsDistinct bytes_eq []
 unfolding IsDistinct
 none_distinct = tt
 
+-- names that are few in first-seen order are few
 pub few_names : (regions : List (List ℕ)) → length (first_seen regions) ≤ MOST_REGIONS → AreFew regions
 few_names regions few =
     let seen = first_seen regions in
@@ -66,6 +70,7 @@ few_names regions few =
           (All-weaker (Contains regions) (Contains seen) has regions (All-contains_itself regions)),
     )
 
+-- few names are few in first-seen order
 pub few_seen : (regions : List (List ℕ)) → AreFew regions → length (first_seen regions) ≤ MOST_REGIONS
 few_seen regions (names, few, are) =
     let less =

@@ -11,6 +11,7 @@ use Rattle.hsp_instance.proofs.Lists.{all_at}
 pub place_of : {A : Type 0} (xs : List A) (x : A) → Contains xs x → (i : ℕ) × (slice_get xs i ≡ Some x)
 place_of xs x is = (is.0, slice_get-get_or xs is.0 x is.1 ∙ ap (λ y. Some y) is.2)
 
+-- an element at a place is in the list
 pub is_at_place : {A : Type 0} (xs : List A) (x : A) (i : ℕ) → slice_get xs i ≡ Some x → Contains xs x
 is_at_place xs x i at = (i, slice_get_within xs i x at, get_or_from_slice_get xs i x x at)
 
@@ -24,6 +25,7 @@ pub first_or_later : {A : Type 0} (y : A) (xs : List A) (x : A) (i : ℕ) → sl
 first_or_later y xs x zero at other = let same : y ≡ x = cc (at) in absurd (other same)
 first_or_later y xs x (suc i) at other = (i, at)
 
+-- what a test finds passes it
 passes : {A : Type 0} (test : A → Bool) (xs : List A) (x : A) → find test xs ≡ Some x → test x ≡ true
 passes test [] x e = grind arith
 passes test (y ∷ xs) x e = grind (arith, passes test xs x)
@@ -33,6 +35,7 @@ pub found : {A : Type 0} (test : A → Bool) (xs : List A) (x : A) → find test
     → Contains xs x × (test x ≡ true)
 found test xs x e = (is_at_place xs x (position_or_len test xs) (sym (find_at test xs) ∙ e), passes test xs x e)
 
+-- the one element that passes is found
 finds_at : {A : Type 0} (same : A → A → Bool) (test : A → Bool)
     → ((a b : A) → test a ≡ true → test b ≡ true → same a b ≡ true)
     → (xs : List A) (i : ℕ) (x : A) → IsDistinct same xs → slice_get xs i ≡ Some x → test x ≡ true

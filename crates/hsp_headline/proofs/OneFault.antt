@@ -14,18 +14,22 @@ use Rattle.hsp_headline.specs.Readings.{AreListed, ReadsSettings, ReadsValues, s
 use Rattle.hsp_faults.specs.declared.fault.Fault.TheVariants.{Build, Values}
 use Rattle.hsp_headline.proofs.PageRead.{accepts_the_defined}
 
+-- values have one list, or one fault
 listed_one : formats.HasOneAnswer values_format → (octets : List ℕ) → IsOne (AreListed octets)
 listed_one one octets a b is also =
     is.3 ∙ ap (λ t. fault_as Values t) (one octets is.0 also.0 is.2 also.2 is.1 also.1) ∙ sym also.3
 
+-- so have values that may be left out
 values_one : formats.HasOneAnswer values_format → (given : Option (List ℕ)) → IsOne (ReadsValues given)
 values_one one None a b is also = is ∙ sym also
 values_one one (Some octets) a b is also =
     is.2 ∙ ap some_list (listed_one one octets is.0 also.0 is.1 also.1) ∙ sym also.2
 
+-- what is read builds one instance, or has one fault
 built_one : building.HasOneAnswer → (read : building.Inputs) → IsOne (BuildsInstance read)
 built_one once read a b is also = is.2 ∙ ap (λ t. fault_as Build t) (once read is.0 also.0 is.1 also.1) ∙ sym also.2
 
+-- inputs give one instance, or one first fault
 pub gives_one_answer : formats.HasOneAnswer values_format → building.HasOneAnswer → GivesOneAnswer
 gives_one_answer one once inputs =
     then_one (ReadsSettings inputs.settings.items) (ReadsValuesOn inputs) (λ a b is also. is ∙ sym also) (λ settings.
@@ -43,6 +47,7 @@ gives_one_answer one once inputs =
     built_one once
     (record { settings = settings; values = values; demand = demand; costs = costs; capacities = capacities }))))))
 
+-- inputs that define an instance give nothing else
 pub gives_nothing_else : ReadingsAreHandles → GivesOneAnswer → GivesNothingElse
 gives_nothing_else handles once inputs it answer page other =
     once inputs answer (Ok it) other (accepts_the_defined handles inputs it page)

@@ -55,6 +55,7 @@ pub record Holds (inputs : Inputs) (read : building.Inputs) : Type 0 where
 
 -- ---- names
 
+-- sites whose entries have different names are different
 apart_by_names : (entries : List SiteEntry) (sites : List Site)
     → map (λ (entry : SiteEntry). entry.name) entries ≡ map (λ (site : Site). site.name) sites
     → IsDistinct settings.same_name entries → IsDistinct same_name sites
@@ -63,6 +64,7 @@ apart_by_names entries sites named apart =
     distinct_map settings.same_name bytes_eq (λ (entry : SiteEntry). entry.name) entries (λ x y. refl) apart in
     distinct_before same_name bytes_eq (λ (site : Site). site.name) (λ x y. refl) sites (rw named at names)
 
+-- entries whose sites have different names are different
 entries_apart : (entries : List SiteEntry) (sites : List Site)
     → map (λ (entry : SiteEntry). entry.name) entries ≡ map (λ (site : Site). site.name) sites
     → IsDistinct same_name sites → IsDistinct settings.same_name entries
@@ -71,6 +73,7 @@ entries_apart entries sites named apart =
     distinct_before settings.same_name bytes_eq (λ (entry : SiteEntry). entry.name) (λ x y. refl) entries
     (rw (← named) at names)
 
+-- there are as many entries as sites
 as_many : (entries : List SiteEntry) (sites : List Site)
     → map (λ (entry : SiteEntry). entry.name) entries ≡ map (λ (site : Site). site.name) sites
     → length entries ≡ length sites
@@ -81,6 +84,7 @@ as_many entries sites named =
 -- ---- tables
 
 module _ (handles : ReadingsAreHandles) where
+  -- a row that is read is a row of the page
   demand_row : (row : DemandEntry) → IsDemandEntry row → IsDemand (row_of row)
   demand_row row is = (
     is.region,
@@ -92,6 +96,7 @@ module _ (handles : ReadingsAreHandles) where
     is.count,
   )
 
+  -- demand that is read is the page's
   demand_are : (text : List ℕ) (rows : List DemandEntry) → table_of demand_table (records_of text) ≡ Ok rows
       → AreDemand text (map row_of rows)
   demand_are text rows e =
@@ -109,6 +114,7 @@ module _ (handles : ReadingsAreHandles) where
             (rw (map_twice row_of (λ (row : Row). row.region) rows) are.regions),
       )
 
+-- costs that are read are the page's
 costs_are : (sites : List Site) (text : List ℕ) (rows : List CostEntry) → building.cost_fault sites 0 rows ≡ None
     → table_of cost_table (records_of text) ≡ Ok rows → AreCosts sites text rows
 costs_are sites text rows none e =
@@ -122,6 +128,7 @@ costs_are sites text rows none e =
       few_names (map (λ (row : CostEntry). row.region) rows) are.regions,
     )
 
+-- capacities that are read are the page's
 capacities_are : (sites : List Site) (text : List ℕ) (rows : List CapacityEntry)
     → building.capacity_fault sites 0 rows ≡ None → table_of capacity_table (records_of text) ≡ Ok rows
     → AreCapacities sites text rows
@@ -136,6 +143,7 @@ capacities_are sites text rows none e =
 
 -- ---- what is built is of the page
 
+-- settings that are read are the page's
 settings_of_page : (values : Option (List HandleValue)) (text : List ℕ) (read : SettingsEntries) (sites : List Site)
     → settings_of text ≡ Ok read
     → building.AreSitesOf read values (Ok sites) → AreSettings values text sites (map host_of_entry read.hosts)
@@ -167,6 +175,7 @@ settings_of_page values text read sites e are =
     }
 
 module _ (handles : ReadingsAreHandles) where
+  -- inputs that are read and built define the instance
   pub is_defined : (inputs : Inputs) (read : building.Inputs) (it : Instance) → Holds inputs read → IsBuilt read (Ok it)
       → Defines inputs it
   is_defined inputs read it holds built =
@@ -197,6 +206,7 @@ host_entry host = record { address = host.address; limit = host.limit }
 abbrev demand_entry : Row → DemandEntry
 demand_entry row = record { region = row.region; handle = row.handle; count = row.count }
 
+-- values of the page are a list within its limits
 values_are : (given : Option (List ℕ)) (values : Option (List HandleValue)) → AreValues given values → AreListed values
 values_are None None are = tt
 values_are None (Some values) are = absurd are
@@ -211,6 +221,7 @@ pub record AreReadAs (values : Option (List HandleValue)) (text : List ℕ) (sit
   pub built : building.AreSitesOf read values (Ok sites)
   pub same_hosts : map host_of_entry read.hosts ≡ hosts
 
+-- settings of the page are read
 settings_read : (values : Option (List HandleValue)) (text : List ℕ) (sites : List Site) (hosts : List Host)
     → AreListed values → AreSettings values text sites hosts
     → AreReadAs values text sites hosts
@@ -244,6 +255,7 @@ settings_read values text sites hosts listed are =
     }
 
 module _ (handles : ReadingsAreHandles) where
+  -- demand of the page is read as its rows
   demand_is_read_as : (text : List ℕ) (rows : List Row) → AreDemand text rows
       → table_of demand_table (records_of text) ≡ Ok (map demand_entry rows)
   demand_is_read_as text rows are =
@@ -264,6 +276,7 @@ module _ (handles : ReadingsAreHandles) where
         },
       )
 
+-- costs of the page are read as its rows
 costs_are_read_as : (sites : List Site) (text : List ℕ) (rows : List CostEntry) → AllByRecursion IsSite sites
     → AreCosts sites text rows → table_of cost_table (records_of text) ≡ Ok rows
 costs_are_read_as sites text rows of are =
@@ -272,6 +285,7 @@ costs_are_read_as sites text rows of are =
     (table_rows.costs_are (records_of text) rows).1
     (are.0.records, record { keyed = keyed; regions = few_seen (map (λ (row : CostEntry). row.region) rows) are.1 })
 
+-- capacities of the page are read as its rows
 capacities_are_read_as : (sites : List Site) (text : List ℕ) (rows : List CapacityEntry) → AllByRecursion IsSite sites
     → AreCapacities sites text rows
     → table_of capacity_table (records_of text) ≡ Ok rows
@@ -291,6 +305,7 @@ have_capacities capacities it apart are =
     (one.0, number_is_found (capacity_rows site.name own.id) capacities one.0 apart one.3)))
 
 module _ (handles : ReadingsAreHandles) where
+  -- inputs that define an instance are read and built
   pub is_read : (inputs : Inputs) (it : Instance) → Defines inputs it
       → (read : building.Inputs) × Holds inputs read × IsBuilt read (Ok it)
   is_read inputs it page =
@@ -354,6 +369,7 @@ module _ (handles : ReadingsAreHandles) where
 
 -- ---- what is built is within its limits
 
+-- each site of the page has a server
 have_servers : (values : Option (List HandleValue)) (items : Items) (sites : List Site)
     → EachStates (StatesSite values) items sites → AllByRecursion HasServer sites
 have_servers values toml.no_items [] tell = tt
@@ -362,6 +378,7 @@ have_servers values (toml.item value items) [] tell = absurd tell
 have_servers values (toml.item value items) (site ∷ sites) tell =
     (tell.2.spelled.some, have_servers values items sites tell.3)
 
+-- an instance of the page is within its limits
 pub is_within : (inputs : Inputs) (read : building.Inputs) (it : Instance) → Holds inputs read → IsBuilt read (Ok it)
     → Defines inputs it → IsInstance it
 is_within inputs read it holds built page =

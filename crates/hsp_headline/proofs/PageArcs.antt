@@ -19,6 +19,7 @@ use Rattle.hsp_headline.proofs.PageServers.{capacity_rows, cost_rows, number_of,
 
 -- ---- servers
 
+-- servers of the same parts are the same
 same_server : (n place id c d : ℕ) (g h : Option ℕ) → c ≡ d → g ≡ h
     → ◌≡◌ {A = Option Server} (Some (record { site = n; place = place; id = id; capacity = c; host = g }))
     (Some (record { site = n; place = place; id = id; capacity = d; host = h }))
@@ -57,18 +58,22 @@ servers_alone capacities a b rows_apart hosts_apart sites hosts p q =
 abbrev SameMembers : List Arc → List Arc → Type 0
 SameMembers xs ys = (arc : Arc) → (Contains xs arc → Contains ys arc) × (Contains ys arc → Contains xs arc)
 
+-- no arc is in an empty list
 none_in : (arc : Arc) → Contains [] arc → ⊥
 none_in arc is = absurd (omega (arith, is.1))
 
+-- an arc that is not the first is in the rest
 in_rest : (x : Arc) (xs : List Arc) (arc : Arc) → Contains (x ∷ xs) arc → (◌≡◌ x arc → ⊥) → Contains xs arc
 in_rest x xs arc is other =
     let at = place_of (x ∷ xs) arc is in
     let later = first_or_later x xs arc at.0 at.1 other in
     is_at_place xs arc later.0 later.1
 
+-- an arc of the rest is in the list
 in_more : (x : Arc) (xs : List Arc) (arc : Arc) → Contains xs arc → Contains (x ∷ xs) arc
 in_more x xs arc is = let at = place_of xs arc is in is_at_place (x ∷ xs) arc (suc at.0) at.1
 
+-- a later arc leads to a later site
 after : (x : Arc) (xs : List Arc) (arc : Arc) → IsAscending (x ∷ xs) → Contains xs arc → x.site < arc.site
 after x xs arc ascends is = all_of (λ (later : Arc). x.site < later.site) xs arc ascends.0 is
 
@@ -82,6 +87,7 @@ first_is x xs y (suc i) (suc j) ys p q a b =
     let above = all_at (λ (later : Arc). x.site < later.site) xs j y p.0 b in
     absurd (omega arith)
 
+-- ascending lists of the same arcs are one list
 arcs_same : (xs ys : List Arc) → IsAscending xs → IsAscending ys → SameMembers xs ys → xs ≡ ys
 arcs_same [] [] p q same = refl
 arcs_same [] (y ∷ ys) p q same = absurd (none_in y ((same y).1 (is_at_place (y ∷ ys) y 0 refl)))

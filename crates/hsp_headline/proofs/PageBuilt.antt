@@ -22,6 +22,7 @@ use Rattle.hsp_headline.proofs.Finding.{all_of, found, finds}
 
 -- ---- the parts of what is built
 
+-- parts that were built make the instance
 pub is_built : (inputs : Inputs) (it : Instance) → BuiltOf inputs it → IsBuilt inputs (Ok it)
 is_built inputs it built = (
   Ok it.sites,
@@ -31,9 +32,11 @@ is_built inputs it built = (
 
 -- ---- rows of costs and capacities
 
+-- a site that is found by a name has it
 named : (name : List ℕ) (site : Site) → is_named name site ≡ true → site.name ≡ name
 named name site e = sym ((bytes_eq-Decides name site.name).0 e)
 
+-- costs without a fault are of known sites
 pub costs_known : (sites : List Site) (n : ℕ) (rows : List CostEntry) → cost_fault sites n rows ≡ None
     → AllByRecursion IsCostEntry rows → AllByRecursion (IsCost sites) rows
 costs_known sites n [] e all = tt
@@ -54,6 +57,7 @@ site_found sites name site apart is same =
     (named name a p ∙ sym (named name b q)) in
     finds same_name (is_named name) alike sites site apart is ((bytes_eq-Decides name site.name).1 (sym same))
 
+-- costs of known sites have no fault
 pub costs_have_no_fault : (sites : List Site) (n : ℕ) (rows : List CostEntry) → IsDistinct same_name sites
     → AllByRecursion (IsCost sites) rows → cost_fault sites n rows ≡ None
 costs_have_no_fault sites n [] apart all = refl
@@ -61,6 +65,7 @@ costs_have_no_fault sites n (row ∷ rows) apart all =
     let site = all.0.1 in
     rw (site_found sites row.site site.0 apart site.1 site.2, costs_have_no_fault sites (n + 1) rows apart all.1) refl
 
+-- capacities without a fault are of known servers
 pub capacities_known : (sites : List Site) (n : ℕ) (rows : List CapacityEntry) → capacity_fault sites n rows ≡ None
     → AllByRecursion IsCapacityEntry rows
     → AllByRecursion (IsCapacity sites) rows
@@ -84,6 +89,7 @@ capacities_known sites n (row ∷ rows) e all =
       capacities_known sites (n + 1) rows more all.1,
     )
 
+-- capacities of known servers have no fault
 pub capacities_have_no_fault : (sites : List Site) (n : ℕ) (rows : List CapacityEntry) → IsDistinct same_name sites
     → AllByRecursion (IsCapacity sites) rows
     → capacity_fault sites n rows ≡ None
@@ -99,6 +105,7 @@ capacities_have_no_fault sites n (row ∷ rows) apart all =
 
 -- ---- sites
 
+-- sites that are stated keep to the rules of a site
 pub sites_of_instance : (values : Option (List HandleValue)) (items : Items) (sites : List Site)
     → EachStates (StatesSite values) items sites → AllByRecursion IsSite sites
 sites_of_instance values toml.no_items [] tell = tt
@@ -122,6 +129,7 @@ cost_entries sites (row ∷ rows) are all =
     let is = all_of IsSite sites site.0 are site.1 in
     (record { region = all.0.0; site = rw site.2 at is.name; cost = all.0.2 }, cost_entries sites rows are all.1)
 
+-- capacities of known servers keep to their limits
 pub capacity_entries : (sites : List Site) (rows : List CapacityEntry) → AllByRecursion IsSite sites
     → AllByRecursion (IsCapacity sites) rows → AllByRecursion IsCapacityEntry rows
 capacity_entries sites [] are all = tt
@@ -138,6 +146,7 @@ capacity_entries sites (row ∷ rows) are all =
 abbrev pub HasCapacity : List CapacityEntry → List ℕ → SiteServer → Type 0
 HasCapacity rows name own = (c : ℕ) × (capacity_of rows name own.id ≡ Some c)
 
+-- servers that have a capacity are built, site by site
 own_built : (rows : List CapacityEntry) (hosts : List Host) (n : ℕ) (name : List ℕ) (place : ℕ) (earlier : List Server)
     (owns : List SiteServer)
     → AllByRecursion (HasCapacity rows name) owns
@@ -146,6 +155,7 @@ own_built rows hosts n name place earlier [] all = (earlier, refl)
 own_built rows hosts n name place earlier (own ∷ owns) all =
     rw all.0.1 (own_built rows hosts n name (place + 1) _ owns all.1)
 
+-- where each server has a capacity, all are built
 pub servers_built : (rows : List CapacityEntry) (hosts : List Host) (n : ℕ) (earlier : List Server) (sites : List Site)
     → AllByRecursion (λ (site : Site). AllByRecursion (HasCapacity rows site.name) site.servers) sites
     → (servers : List Server) × (servers_from rows hosts n earlier sites ≡ Ok servers)

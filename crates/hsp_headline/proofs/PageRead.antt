@@ -21,10 +21,12 @@ use Rattle.hsp_headline.proofs.Page.{Holds, is_defined, is_read, is_within}
 pub stated_well : {A E : Type 0} (part : E → Fault) (r : Result A E) (x : A) → Ok x ≡ fault_as part r → r ≡ Ok x
 stated_well part r x e = grind arith
 
+-- a list that was read is what its octets mean
 pub listed : (octets : List ℕ) (values : List HandleValue) → AreListed octets (Ok values)
     → Means values_format octets (Ok values)
 listed octets values are = let same = stated_well Values are.0 values are.3 in rw same at are.1
 
+-- values that were read are the page's
 values_are : (given : Option (List ℕ)) (values : Option (List HandleValue)) → ReadsValues given (Ok values)
     → stated.AreValues given values
 values_are None values are = let none : values ≡ None = cc (are) in rw none tt
@@ -32,6 +34,7 @@ values_are (Some octets) values (Ok own, is, e) =
     let same : values ≡ Some own = cc (e) in rw same (listed octets own is)
 values_are (Some octets) values (Err fault, is, e) = cc (e)
 
+-- values of the page are read
 values_are_read : (given : Option (List ℕ)) (values : Option (List HandleValue)) → stated.AreValues given values
     → ReadsValues given (Ok values)
 values_are_read None None are = refl
@@ -67,10 +70,12 @@ hold inputs it is =
       built_so read it capacities.2.0 capacities.2.1 capacities.2.2,
     )
 
+-- the instance that is given is the one that inputs define
 pub gives_the_defined : ReadingsAreHandles → GivesTheDefined
 gives_the_defined handles inputs it is =
     let read = hold inputs it is in is_defined handles inputs read.0 it read.1 read.2
 
+-- the instance that inputs define is given
 pub accepts_the_defined : ReadingsAreHandles → AcceptsTheDefined
 accepts_the_defined handles inputs it page =
     let (read, holds, built) = is_read handles inputs it page in

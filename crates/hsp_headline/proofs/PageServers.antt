@@ -16,14 +16,17 @@ use Rattle.hsp_instance.proofs.Lists.{all_at, one_place, there}
 use Rattle.hsp_headline.specs.Headline.{AreServers, StandsOn}
 use Rattle.hsp_headline.proofs.Finding.{AreOf, number_is}
 
+-- a text equals itself
 are_same : (a : List ℕ) → bytes_eq a a ≡ true
 are_same a = (bytes_eq-Decides a a).1 refl
 
+-- a number equals itself
 are_equal : (a : ℕ) → (a == a) ≡ true
 are_equal a = (Decides-eqb a a).1 refl
 
 -- ---- capacities and costs
 
+-- rows of capacity go by site and server
 pub capacity_rows : (name : List ℕ) (id : ℕ)
     → AreOf (is_capacity_of name id) same_capacity (λ row. row.capacity)
     (λ c. record { site = name; server_id = id; capacity = c })
@@ -36,6 +39,7 @@ capacity_rows name id = record {
   alike = λ m n. rw (are_same name, are_equal id) refl;
 }
 
+-- rows of cost go by region and site
 pub cost_rows : (region name : List ℕ)
     → AreOf (is_cost_of region name) same_cost (λ row. row.cost)
     (λ c. record { region = region; site = name; cost = c })
@@ -61,6 +65,7 @@ stands_from address n (host ∷ hosts) m e =
           stands_from address (n + 1) hosts m (rw other at e) in (suc later.0, omega (arith, later.1), later.2)
     ]
 
+-- an address that is not found is that of no host
 none_from : (address : List ℕ) (n : ℕ) (hosts : List Host) → position_from (is_at address) n hosts ≡ None
     → AllByRecursion (λ (host : Host). host.address ≢ address) hosts
 none_from address n [] e = tt
@@ -71,6 +76,7 @@ none_from address n (host ∷ hosts) e =
       none_from address (n + 1) hosts other.1,
     )
 
+-- a server stands on the host of its address
 pub stands : (hosts : List Host) (address : List ℕ) (host : Option ℕ) → position_from (is_at address) 0 hosts ≡ host
     → StandsOn hosts address host
 stands hosts address None e = none_from address 0 hosts e
@@ -93,10 +99,12 @@ one_host hosts address (Some n) (Some m) apart p q = ap (λ k. Some k)
 
 -- ---- servers
 
+-- a server is its parts
 by_parts : (server : Server) (n place id : ℕ) → server.site ≡ n → server.place ≡ place → server.id ≡ id
     → server ≡ record { site = n; place = place; id = id; capacity = server.capacity; host = server.host }
 by_parts server n place id site at own = rw (← site, ← at, ← own) refl
 
+-- the servers that are built are the page's
 pub servers_are : (inputs : Inputs) (it : Instance) → HasPartsOf inputs it → AreServers inputs.capacities it
 servers_are inputs it has = record {
   count = has.server_count;

@@ -13,20 +13,24 @@ use Rattle.hsp_headline.specs.Stated.{EachStates, StatesHost}
 
 -- ---- keys
 
+-- tests that agree on each key agree on all
 same_tests : (f g : List ℕ → Bool) → ((key : List ℕ) → f key ≡ g key) → (keys : List (List ℕ))
     → list_all f keys ≡ list_all g keys
 same_tests f g same keys = ap (λ test. list_all test keys) (λ i key. same key i)
 
+-- the keys of a site are those of the page
 pub site_keys : (members : Members)
     → list_all (λ key. list_any (bytes_eq key) (codes "name" ∷ codes "record" ∷ codes "index" ∷ [])) (keys_in members)
     ≡ list_all is_site_key (keys_in members)
 site_keys members = same_tests _ is_site_key (λ key. grind arith) (keys_in members)
 
+-- the keys of a host are those of the page
 host_keys : (members : Members)
     → list_all (λ key. list_any (bytes_eq key) (codes "address" ∷ codes "limit" ∷ [])) (keys_in members)
     ≡ list_all is_host_key (keys_in members)
 host_keys members = same_tests _ is_host_key (λ key. grind arith) (keys_in members)
 
+-- the keys of a document are those of the page
 pub root_keys : (members : Members)
     → list_all (λ key. list_any (bytes_eq key) (codes "site" ∷ codes "host" ∷ [])) (keys_in members)
     ≡ list_all is_root_key (keys_in members)
@@ -34,6 +38,7 @@ root_keys members = same_tests _ is_root_key (λ key. grind arith) (keys_in memb
 
 -- ---- hosts
 
+-- a host that was read is stated by its table
 pub host_is : (n : ℕ) (value : Data) (host : HostEntry) → host_at n value ≡ Ok host
     → (members : Members) × (value ≡ toml.table members) × StatesHost members (host_of_entry host)
 host_is n value host e =
@@ -50,6 +55,7 @@ host_is n value host e =
       },
     )
 
+-- a host that is stated is read
 pub host_is_read : (n : ℕ) (members : Members) (host : HostEntry) → StatesHost members (host_of_entry host)
     → host_at n (toml.table members) ≡ Ok host
 host_is_read n ms host tells = lists.host_is_read n ms host
@@ -66,6 +72,7 @@ host_is_read n ms host tells = lists.host_is_read n ms host
 
 module _ {Row Own : Type 0} (row_in : ℕ → Data → Result Row TableFault) (own : Row → Own)
     (States : Members → Own → Type 0) where
+  -- rows that elements spell are stated by their tables, one by one
   pub told : ((n : ℕ) (value : Data) (row : Row) → row_in n value ≡ Ok row
       → (members : Members) × (value ≡ toml.table members) × States members (own row))
       → (n : ℕ) (items : Items) (rows : List Row) → SpellInTurn row_in n (elements_in items) rows
@@ -77,6 +84,7 @@ module _ {Row Own : Type 0} (row_in : ℕ → Data → Result Row TableFault) (o
       let one = is n value row spelled.0 in
       (one.0, one.1, one.2, told is (n + 1) items rows spelled.1)
 
+  -- rows that tables state are spelled by the elements
   pub spelled : ((n : ℕ) (members : Members) (row : Row) → States members (own row)
       → row_in n (toml.table members) ≡ Ok row)
       → (n : ℕ) (items : Items) (rows : List Row) → EachStates States items (map own rows)

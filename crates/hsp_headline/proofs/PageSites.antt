@@ -27,6 +27,7 @@ use Rattle.hsp_headline.proofs.PageSettings.{site_keys}
 
 -- ---- octets
 
+-- elements are different where what a function gives of them is
 pub distinct_before : {A B : Type 0} (same : A → A → Bool) (alike : B → B → Bool) (f : A → B)
     → ((x y : A) → alike (f x) (f y) ≡ same x y) → (xs : List A)
     → IsDistinct alike (map f xs) → IsDistinct same xs
@@ -40,6 +41,7 @@ distinct_before {A} {B} same alike f tells (x ∷ xs) apart =
     each x [] all = tt
     each x (y ∷ ys) all = (sym (tells x y) ∙ all.0, each x ys all.1)
 
+-- the value of an index is the data with that index
 site_value_is : (n : ℕ) (values : List HandleValue) (i : ℕ) (bytes : List ℕ)
     → site_value n (find (λ v. v.index == i) values) ≡ Ok bytes → IsData (Some values) i bytes
 site_value_is n values i bytes e =
@@ -53,6 +55,7 @@ site_value_is n values i bytes e =
       read.3,
     )
 
+-- the octets of a source are what its key states
 octets_are : (values : Option (List HandleValue)) (n : ℕ) (hexadecimal number : Option Data) (source : SiteSource)
     (bytes : List ℕ)
     → IsStatedBy hexadecimal number source → site_octets values n source ≡ Ok bytes
@@ -88,6 +91,7 @@ abbrev pub AreListed : Option (List HandleValue) → Type 0
 AreListed None = Unit {0}
 AreListed (Some values) = IsValueList values
 
+-- octets that are stated are those of a source
 octets_are_stated : (values : Option (List HandleValue)) (n : ℕ) (hexadecimal number : Option Data) (bytes : List ℕ)
     → AreListed values → IsSource values hexadecimal number bytes
     → (source : SiteSource) × IsStatedBy hexadecimal number source × (site_octets values n source ≡ Ok bytes)
@@ -123,6 +127,7 @@ no_other : (id : ℕ) (servers : List SiteServer)
 no_other id [] all = refl
 no_other id (server ∷ servers) all = rw (all.0, no_other id servers all.1) refl
 
+-- servers of different numbers have none twice
 never_twice : (servers : List SiteServer) → IsDistinct same_id servers → has_id_twice servers ≡ false
 unfolding IsDistinct
 never_twice [] apart = refl
@@ -155,6 +160,7 @@ pub record AreNext (values : Option (List HandleValue)) (earlier : List Site) (i
   pub named : map (λ (entry : SiteEntry). entry.name) entries ≡ map (λ (site : Site). site.name) sites
   pub few : servers_of all ≤ MOST_SERVERS
 
+-- a site that was read is stated, and its servers are within the limit
 one_site : (values : Option (List HandleValue)) (earlier : List Site) (members : Members) (entry : SiteEntry)
     (site : Site) → StatesSiteEntry members entry
     → IsNextSite values earlier entry (Ok site) → (site.name ≡ entry.name) × StatesSite values members site
@@ -177,6 +183,7 @@ one_site values earlier ms entry site tells next =
           (of.0, states_site, of.2)
     ]
 
+-- sites that were read are stated one by one
 pub sites_are : (values : Option (List HandleValue)) (earlier : List Site) (items : Items) (entries : List SiteEntry)
     (all : List Site)
     → servers_of earlier ≤ MOST_SERVERS → EachStates StatesSiteEntry items entries
@@ -209,6 +216,7 @@ pub record AreReadFrom (values : Option (List HandleValue)) (earlier : List Site
   pub named : map (λ (entry : SiteEntry). entry.name) entries ≡ map (λ (site : Site). site.name) sites
   pub read : AreSitesAfter values earlier entries (Ok (earlier ++ sites))
 
+-- sites that are stated are read
 pub sites_are_read : (values : Option (List HandleValue)) (earlier : List Site) (items : Items) (sites : List Site)
     → AreListed values
     → servers_of (earlier ++ sites) ≤ MOST_SERVERS → EachStates (StatesSite values) items sites

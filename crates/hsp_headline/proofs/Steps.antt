@@ -13,6 +13,7 @@ pub went_on : {A B E : Type 0} (First : Result A E → Type 0) (Next : A → Res
 went_on First Next b (Ok a, first, next) = (a, first, next)
 went_on First Next b (Err e, first, same) = absurd (cc same)
 
+-- an instance that was passed on is the one that was built
 pub built_so : (read : Inputs) (it : Instance) (built : Result Instance BuildFault) → IsBuilt read built
     → Ok it ≡ fault_as Build built → IsBuilt read (Ok it)
 built_so read it (Ok other) is same = let one : it ≡ other = cc same in rw one is

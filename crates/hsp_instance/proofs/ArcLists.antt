@@ -32,6 +32,7 @@ module _ (table : List CostEntry) (row : Row) where
   few_to n first site arcs m None less = omega arith
   few_to n first site arcs m (Some cost) less = omega arith
 
+  -- a row has no more arcs than there are sites
   pub arcs_few : (n first : ℕ) (sites : List Site) → length (arcs_from table row n first sites) ≤ length sites
   arcs_few n first [] = omega arith
   arcs_few n first (site ∷ more) =
@@ -44,6 +45,7 @@ module _ (table : List CostEntry) (row : Row) where
   after_to m n first site None less = tt
   after_to m n first site (Some cost) less = (less, tt)
 
+  -- the arcs to later sites have later numbers
   arcs_after : (m n first : ℕ) (sites : List Site) → m < n
       → AllByRecursion (λ (later : Arc). m < later.site) (arcs_from table row n first sites)
   arcs_after m n first [] less = tt
@@ -53,12 +55,14 @@ module _ (table : List CostEntry) (row : Row) where
       (after_to m n first site (cost_of table row.region site.name) less)
       (arcs_after m (n + 1) (first + length site.servers) more (omega arith))
 
+  -- an arc to an earlier site may stand before ascending arcs
   ascending_to : (n first : ℕ) (site : Site) (arcs : List Arc) (cost : Option ℕ)
       → AllByRecursion (λ (later : Arc). n < later.site) arcs → IsAscending arcs
       → IsAscending (arc_to row.handle n first site cost ++ arcs)
   ascending_to n first site arcs None after ascending = ascending
   ascending_to n first site arcs (Some cost) after ascending = (after, ascending)
 
+  -- the arcs of a row ascend by their sites
   pub arcs_ascending : (n first : ℕ) (sites : List Site) → IsAscending (arcs_from table row n first sites)
   arcs_ascending n first [] = tt
   arcs_ascending n first (site ∷ more) =

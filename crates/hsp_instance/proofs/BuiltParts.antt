@@ -71,6 +71,7 @@ parts inputs sites servers = record {
   arcs = map (λ row. arcs_from inputs.costs row 0 0 sites) (map row_of inputs.demand);
 }
 
+-- the parts of an instance that was put together are those of its inputs
 parts_are : (inputs : Inputs) (sites : List Site) (servers : List Server)
     → AreSitesOf inputs.settings inputs.values (Ok sites)
     → servers_from inputs.capacities (map host_of_entry inputs.settings.hosts) 0 [] sites ≡ Ok servers
@@ -111,6 +112,7 @@ pub record BuiltOf (inputs : Inputs) (it : Instance) : Type 0 where
   pub servers : servers_from inputs.capacities it.hosts 0 [] it.sites ≡ Ok it.servers
   pub arcs : it.arcs ≡ map (λ row. arcs_from inputs.costs row 0 0 it.sites) it.rows
 
+-- an instance that was built has parts that were read in turn
 pub built_of : (inputs : Inputs) (it : Instance) → IsBuilt inputs (Ok it) → BuiltOf inputs it
 built_of inputs it (Err fault, are, e) = cc (e)
 built_of inputs it (Ok sites, are, e) =
@@ -133,6 +135,7 @@ built_of inputs it (Ok sites, are, e) =
         → (servers : List Server) × (a ≡ None) × (b ≡ None) × (r ≡ Ok servers) × (parts inputs sites servers ≡ it)
     in_steps a b r e = grind arith
 
+-- an instance that was built has the parts of its definition
 pub built_has_its_parts : BuiltHasItsParts
 built_has_its_parts inputs it built =
     let of = built_of inputs it built in

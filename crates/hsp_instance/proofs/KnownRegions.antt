@@ -18,6 +18,7 @@ abbrev pub is_name : List ℕ → Vec ℕ Global → Bool
 is_name name key = bytes_eq name key.items
 
 module _ (table : List CostEntry) (sites : List Site) (name : List ℕ) where
+  -- the entry of a region's name has its costs
   costs_here : (e : KnownRegion) → HasCosts table sites e → is_name name e.0 ≡ true
       → costs_of_entry e ≡ costs_at table name sites
   costs_here e has is = has ∙ ap (λ region. costs_at table region sites) (sym ((bytes_decides name e.0.items).0 is))

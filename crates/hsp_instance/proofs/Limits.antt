@@ -56,6 +56,7 @@ servers_are rows hosts each sites servers are from = record {
 -- each arc goes to a server of its site
 module _ (servers : List Server) (capacities : List CapacityEntry) (hosts : List Host) (table : List CostEntry)
     (each : AllByRecursion IsCostEntry table) (row : Row) where
+  -- the arcs of a row lead to servers of their sites
   arcs_are : (n first : ℕ) (sites : List Site) (mine : List Server) → AllByRecursion HasServer sites
       → AreFrom capacities hosts n sites mine
       → ((k : ℕ) → slice_get servers (first + k) ≡ slice_get mine k)

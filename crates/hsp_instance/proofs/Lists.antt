@@ -36,6 +36,12 @@ map_take_next f xs i x e =
 pub take_whole : {A : Type 0} (xs : List A) → take (length xs) xs ≡ xs
 take_whole = take-length
 
+-- what follows of each from what holds of all
+pub all_so : {A : Type 0} (P Q : A → Type 0) (xs : List A) → ((x : A) → P x → Q x) → AllByRecursion P xs
+    → AllByRecursion Q xs
+all_so P Q [] so all = tt
+all_so P Q (x ∷ xs) so all = (so x all.0, all_so P Q xs so all.1)
+
 -- what holds of all that a function gives
 pub all_map : {A B : Type 0} (P : A → Type 0) (Q : B → Type 0) (f : A → B) (xs : List A) → ((x : A) → P x → Q (f x))
     → AllByRecursion P xs → AllByRecursion Q (map f xs)
@@ -48,6 +54,7 @@ front_at [] ys i x e = grind arith
 front_at (y ∷ xs) ys zero x e = e
 front_at (y ∷ xs) ys (suc i) x e = front_at xs ys i x e
 
+-- an element of the second of two lists in a row, by its place behind the first
 pub back_at : {A : Type 0} (xs ys : List A) (i : ℕ) → slice_get (xs ++ ys) (length xs + i) ≡ slice_get ys i
 back_at [] ys i = let e : 0 + i ≡ i = omega arith in rw e refl
 back_at (x ∷ xs) ys i = let e : suc (length xs) + i ≡ suc (length xs + i) = omega arith in rw e (back_at xs ys i)

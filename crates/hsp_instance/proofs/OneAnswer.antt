@@ -28,12 +28,14 @@ then_one First Next first next a b is also =
     follows_one Next next is.0 a b is.2 (subst (λ t. Follows t Next b) same also.2)
 
 module _ (one : formats.HasOneAnswer site_format) where
+  -- an entry has one site, or one fault
   site_one : (n before : ℕ) (name : List ℕ) (from : Result (List ℕ) BuildFault) → IsOne (IsSiteOf n before name from)
   site_one n before name (Err fault) a b is also = is ∙ sym also
   site_one n before name (Ok bytes) a b is also =
       let same = one bytes is.0 also.0 is.1.not_memory also.1.not_memory is.1.means also.1.means in
       is.2 ∙ ap (λ t. site_of_reading n before name t) same ∙ sym also.2
 
+  -- entries have one list of sites, or one first fault
   sites_one : (values : Option (List HandleValue)) (earlier : List Site) (entries : List SiteEntry)
       → IsOne (AreSitesAfter values earlier entries)
   sites_one values earlier [] a b is also = is ∙ sym also
@@ -42,6 +44,7 @@ module _ (one : formats.HasOneAnswer site_format) where
       (site_one (length earlier) (servers_of earlier) entry.name (site_octets values (length earlier) entry.source))
       (λ site. sites_one values (earlier ++ site ∷ []) more) a b is also
 
+  -- inputs have one instance, or one first fault
   pub built_once : HasOneAnswer
   built_once inputs a b is also =
       let same = sites_one inputs.values [] inputs.settings.sites is.0 also.0 is.1 also.1 in

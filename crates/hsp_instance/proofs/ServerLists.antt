@@ -32,6 +32,7 @@ host_within n (host ∷ hosts) address =
     (IsHostOf (n + suc (length hosts))) (λ here. omega arith) (λ past. rw e at (host_within (n + 1) hosts address))
 
 module _ (rows : List CapacityEntry) (hosts : List Host) where
+  -- a server that was made is that of its site, of its place and of the tables
   made : (n : ℕ) (name : List ℕ) (place : ℕ) (own : SiteServer) (server : Server)
       → server_at rows hosts n name place own ≡ Ok server → IsServerOf rows hosts n name place own server
   made n name place own server e =
@@ -54,6 +55,7 @@ module _ (rows : List CapacityEntry) (hosts : List Host) where
       (own : List Server) × (rest : List Server) × (servers ≡ own ++ rest) × AreOwn n site.name 0 site.servers own
       × AreFrom (n + 1) more rest
 
+  -- the servers of a site are put behind the earlier ones, each from its own entry
   own_made : (n : ℕ) (name : List ℕ) (place : ℕ) (earlier : List Server) (owns : List SiteServer)
       (servers : List Server) → servers_at rows hosts n name place earlier owns ≡ Ok servers
       → (added : List Server) × (servers ≡ earlier ++ added) × AreOwn n name place owns added
@@ -66,6 +68,7 @@ module _ (rows : List CapacityEntry) (hosts : List Host) where
       let rest = own_made n name (place + 1) (earlier ++ first.0 ∷ []) more servers first.2 in
       (first.0 ∷ rest.0, rest.1 ∙ append_snoc earlier first.0 rest.0, (made n name place own first.0 first.1, rest.2))
 
+  -- the servers of sites are put behind the earlier ones, site by site
   pub from_made : (n : ℕ) (earlier : List Server) (sites : List Site) (servers : List Server)
       → servers_from rows hosts n earlier sites ≡ Ok servers
       → (added : List Server) × (servers ≡ earlier ++ added) × AreFrom n sites added
@@ -94,6 +97,7 @@ module _ (rows : List CapacityEntry) (hosts : List Host) where
   own_count n name place (own ∷ more) [] are = absurd are
   own_count n name place (own ∷ more) (server ∷ servers) are = ap suc (own_count n name (place + 1) more servers are.1)
 
+  -- there are as many servers as all sites have
   pub from_count : (n : ℕ) (sites : List Site) (servers : List Server) → AreFrom n sites servers
       → length servers ≡ servers_of sites
   from_count n [] servers are = ap length are
@@ -167,6 +171,7 @@ module _ (rows : List CapacityEntry) (hosts : List Host) where
 -- each server stands at a place of a site, within the limits
 module _ (rows : List CapacityEntry) (hosts : List Host) (each : AllByRecursion IsCapacityEntry rows)
     (whole : List Site) where
+  -- the servers of a site refer to that site and to listed hosts
   own_servers : (site : Site) (n place : ℕ) (owns : List SiteServer) (servers : List Server)
       → slice_get whole n ≡ Some site → ((k : ℕ) → slice_get site.servers (place + k) ≡ slice_get owns k)
       → AreOwn rows hosts n site.name place owns servers → AllByRecursion (IsServer whole (length hosts)) servers
@@ -189,6 +194,7 @@ module _ (rows : List CapacityEntry) (hosts : List Host) (each : AllByRecursion 
         rw e (same (suc k))) are.1,
   )
 
+  -- all servers refer to their sites and to listed hosts
   pub from_servers : (n : ℕ) (sites : List Site) (servers : List Server)
       → ((k : ℕ) → slice_get whole (n + k) ≡ slice_get sites k) → AreFrom rows hosts n sites servers
       → AllByRecursion (IsServer whole (length hosts)) servers

@@ -6,6 +6,7 @@ use Rattle.hsp_text.specs.declared.limits.TheConstants.{MOST_SERVERS, MOST_SITES
 use Rattle.hsp_instance.specs.Instance.{AreSites, HasServer, IsSite, Site, same_name, servers_of}
 use Rattle.hsp_text.proofs.Lists.{all_push}
 
+-- one site more adds its servers
 pub servers_of-push : (sites : List Site) (site : Site)
     → servers_of (sites ++ site ∷ []) ≡ servers_of sites + length site.servers
 servers_of-push [] site = omega arith
@@ -35,6 +36,7 @@ sites_push sites site are room is has few apart = record {
   apart = apart;
 }
 
+-- the first sites and the next one have its servers more
 taken_suc : (sites : List Site) (i : ℕ) (site : Site) → slice_get sites i ≡ Some site
     → servers_of (take (suc i) sites) ≡ servers_of (take i sites) + length site.servers
 taken_suc [] i site e = grind arith

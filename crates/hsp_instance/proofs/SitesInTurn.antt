@@ -38,9 +38,11 @@ module _ (values : Option (List HandleValue)) (entries : List SiteEntry) (i befo
     (named : option_map (λ (s : SiteEntry). s.name) (slice_get entries i) ≡ Some name)
     (sourced : option_map (λ (s : SiteEntry). s.source) (slice_get entries i) ≡ Some source)
     (so_far : GoesOn values entries i earlier) where
+  -- the entries that are left begin with this one
   left : drop i entries ≡ record { name = name; source = source } ∷ drop (i + 1) entries
   left = drop_at entries i (record { name = name; source = source }) (entry_at entries i name source named sourced)
 
+  -- a site goes by how many sites and servers came before it
   moved : (site : Result Site BuildFault) → IsSiteOf i before name (site_octets values i source) site
       → IsSiteOf (length earlier) (servers_of earlier) name (site_octets values (length earlier) source) site
   moved site is = rw (count, ← sum) is
@@ -64,6 +66,7 @@ others id [] e = tt
 others id (server ∷ servers) e =
     let split = or_parts (server.id == id) (has_id id servers) e in (split.0, others id servers split.1)
 
+-- servers without a number twice have different numbers
 once_each : (servers : List SiteServer) → has_id_twice servers ≡ false → IsDistinct same_id servers
 unfolding IsDistinct
 once_each [] e = tt
@@ -79,6 +82,7 @@ pub record IsChecked (before : ℕ) (name : List ℕ) (site : Site) : Type 0 whe
   pub servers : AllByRecursion IsSiteServer site.servers
   pub apart : IsDistinct same_id site.servers
 
+-- a site that passed the checks keeps to the rules of a site
 checked_is : (n before : ℕ) (given site : Site) → AllByRecursion IsSiteServer given.servers
     → checked_site n before given ≡ Ok site → IsChecked before given.name site
 checked_is n before given site servers e =

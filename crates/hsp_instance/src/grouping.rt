@@ -12,7 +12,7 @@ use std::hash::Hash;
 
 // What the rows of a group share.
 #[derive(Clone, Copy, PartialEq, Eq, Hash)]
-struct Kind<'a> {
+struct GroupKey<'a> {
     region: &'a [u8],
     arcs: &'a [Arc],
 }
@@ -21,16 +21,16 @@ struct Kind<'a> {
 pub fn groups(alloc: Global, instance: &Instance) -> Result<Groups, AllocError>
     ensures { IfOk result (λ groups. AreGroups instance.now groups) }
 {
-    let mut kinds: IndexSet<Kind<'_>> = IndexSet::new(alloc);
+    let mut keys: IndexSet<GroupKey<'_>> = IndexSet::new(alloc);
     let mut of_rows: Vec<u32> = Vec::new(alloc);
     for row in 0..instance.rows() {
         let (region, _, _) = instance.row(row);
         let arcs = instance.arcs(row);
-        let (group, _) = kinds.insert_full(Kind { region, arcs })?;
+        let (group, _) = keys.insert_full(GroupKey { region, arcs })?;
         of_rows.push(group as u32)?;
     }
     Ok(Groups {
-        count: kinds.len() as u32,
+        count: keys.len() as u32,
         of_rows,
     })
 }

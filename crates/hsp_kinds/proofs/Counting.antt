@@ -13,6 +13,7 @@ module _ {A : Type 0} (by : Kinding A) (is : IsKinding by) where
   abbrev pub has : List A → A → Bool
   has table r = list_any (λ f. by.same f r) table
 
+  -- a table has a row of the kind that was counted
   pub has_counted : (table : List A) (f r : A) → by.same f r ≡ true → has (counted by table f) r ≡ true
   has_counted [] f r e = grind arith
   has_counted (g ∷ rest) f r e = grind (arith, joined_is g f r, is.transitive g f r, has_counted rest f r e)
@@ -28,6 +29,7 @@ module _ {A : Type 0} (by : Kinding A) (is : IsKinding by) where
   later [] z r e = absurd (false≢true e)
   later (f ∷ rest) z r e = grind (arith, joined_is f z r, joined_is f r z, is.swapped f z r, later rest z r)
 
+  -- counting a row of a known kind may come before counting others
   later_all : (rows table : List A) (r : A) → has table r ≡ true
       → counted by (counted_all by table rows) r ≡ counted_all by (counted by table r) rows
   later_all [] table r e = refl
@@ -55,10 +57,12 @@ module _ {A : Type 0} (by : Kinding A) (is : IsKinding by) where
   after_all (x ∷ rows) s table =
       after_all rows (counted by s x) table ∙ ap (λ v. counted_all by v rows) (after s table x)
 
+  -- rows in two parts are counted one part after the other
   pub in_turn : (a b table : List A) → counted_all by table (a ++ b) ≡ counted_all by (counted_all by table a) b
   in_turn [] b table = refl
   in_turn (x ∷ a) b table = in_turn a b (counted by table x)
 
+  -- the table of two tables is that of both logs
   pub in_parts : (a b : List A) → table_of by (table_of by a ++ table_of by b) ≡ table_of by (a ++ b)
   in_parts a b =
       in_turn (table_of by a) (table_of by b) []
@@ -66,5 +70,6 @@ module _ {A : Type 0} (by : Kinding A) (is : IsKinding by) where
       ∙ after_all b [] (counted_all by [] a)
       ∙ sym (in_turn a b [])
 
+-- a log may be counted in parts
 pub log_in_parts : LogInParts
 log_in_parts by is a b = in_parts by is a b

@@ -14,6 +14,7 @@ module _ {A : Type 0} (by : Kinding A) (is : IsKinding by) (count : A → ℕ)
   place_in [] row = 0
   place_in (f ∷ rest) row = if by.same f row then 0 else place_in rest row + 1
 
+  -- a kind that is there has a place in the table
   pub place_within : (t : List A) (y : A) → has by is t y ≡ true → place_in t y < length t
   place_within [] y h = absurd (false≢true h)
   place_within (f ∷ rest) y h = grind (arith, place_within rest y)
@@ -28,14 +29,17 @@ module _ {A : Type 0} (by : Kinding A) (is : IsKinding by) (count : A → ℕ)
   kept_place [] x y h = absurd (false≢true h)
   kept_place (f ∷ rest) x y h = grind (arith, joined_is by is f x y, kept_place rest x y)
 
+  -- a kind stays while others are counted
   pub has_all : (rows t : List A) (y : A) → has by is t y ≡ true → has by is (counted_all by t rows) y ≡ true
   has_all [] t y h = h
   has_all (x ∷ rows) t y h = has_all rows (counted by t x) y (has_more by is t x y h)
 
+  -- a kind keeps its place while others are counted
   pub kept_places : (rows t : List A) (y : A) → has by is t y ≡ true → place_in (counted_all by t rows) y ≡ place_in t y
   kept_places [] t y h = refl
   kept_places (x ∷ rows) t y h = kept_places rows (counted by t x) y (has_more by is t x y h) ∙ kept_place t x y h
 
+  -- a row that was counted has its kind in the table
   own_has : (t : List A) (x : A) → has by is (counted by t x) x ≡ true
   own_has t x = has_counted by is t x x (is.reflexive x)
 

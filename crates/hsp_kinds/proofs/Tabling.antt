@@ -32,6 +32,7 @@ SamePlaces costs sites a b =
     (a.region ≡ b.region)
     × (places_at (sites_for costs sites a.region) a.handle ≡ places_at (sites_for costs sites a.region) b.handle)
 
+-- two pairs of texts equal one another just where both are the same
 both_equal : (a b c d : List ℕ) → ((bytes_eq a b && bytes_eq c d) ≡ true) ↔ ((a ≡ b) × (c ≡ d))
 both_equal a b c d = (
   (λ e.
@@ -40,14 +41,17 @@ both_equal a b c d = (
   (λ e. and_from (bytes_eq a b) (bytes_eq c d) ((bytes_eq-Decides a b).1 e.0) ((bytes_eq-Decides c d).1 e.1)),
 )
 
+-- rows of one kind have the same region and the same places
 same_parts : (costs : List CostEntry) (sites : List Site) (a b : Row) → is_same_kind costs sites a b ≡ true
     → SamePlaces costs sites a b
 same_parts costs sites a b e = (both_equal a.region b.region _ _).0 e
 
+-- rows of the same region and places are of one kind
 same_from : (costs : List CostEntry) (sites : List Site) (a b : Row) → SamePlaces costs sites a b
     → is_same_kind costs sites a b ≡ true
 same_from costs sites a b e = (both_equal a.region b.region _ _).1 e
 
+-- being of one kind is an equivalence
 pub kinds_are_classes : KindsAreClasses
 kinds_are_classes costs sites = record {
   reflexive = λ a. same_from costs sites a a (refl, refl);
@@ -67,6 +71,7 @@ kinds_are_classes costs sites = record {
 
 -- ---- rows of a kind have the same arcs
 
+-- rows of one kind have the same arcs
 same_arcs : (costs : List CostEntry) (a b : Row) (n first : ℕ) (sites : List Site) → a.region ≡ b.region →
     places_at (sites_for costs sites a.region) a.handle ≡ places_at (sites_for costs sites a.region) b.handle
     → arcs_from costs a n first sites ≡ arcs_from costs b n first sites
@@ -75,11 +80,13 @@ same_arcs costs a b n first (site ∷ more) r p =
     let later = first + length site.servers in
     grind (arith, same_arcs costs a b (n + 1) later more r)
 
+-- a kind has the arcs of its rows
 pub kinds_have_arcs : KindsHaveArcs
 kinds_have_arcs costs sites a b e = let p = same_parts costs sites a b e in same_arcs costs a b 0 0 sites p.0 p.1
 
 -- ---- one arc a site
 
+-- the arcs from a site on lead to no earlier one
 none_before : (costs : List CostEntry) (row : Row) (n first : ℕ) (sites : List Site) (s : ℕ) → s < n
     → links_to (map link (arcs_from costs row n first sites)) s ≡ 0
 none_before costs row n first [] s l = refl
@@ -90,6 +97,7 @@ none_before costs row n first (site ∷ more) s l =
     (map link (arcs_from costs row (n + 1) later more)) in
     grind (arith, none_before costs row (n + 1) later more s, sum)
 
+-- at most one arc of a row leads to a site
 one_a_site : (costs : List CostEntry) (row : Row) (n first : ℕ) (sites : List Site) (s : ℕ)
     → links_to (map link (arcs_from costs row n first sites)) s ≤ 1
 one_a_site costs row n first [] s = omega arith
@@ -128,11 +136,13 @@ module _ (at : Service) (rows : List Row) where
       links_of_row (network_for at list) (map (λ row. arcs_from at.costs row 0 0 at.sites) list) i
       ∙ ap (λ arcs. map link arcs) (get_or-map (λ row. arcs_from at.costs row 0 0 at.sites) list i no_row [] l)
 
+  -- each row's kind is in the table
   there : (i : ℕ) → i < length rows → kind i < length table
   there i l =
       place_within (by_kind at.costs at.sites) classes count (λ a b. refl) table (row_at rows i)
       (all_there (by_kind at.costs at.sites) classes count (λ a b. refl) rows [] i no_row l)
 
+  -- each row has the links of its kind
   alike : (i : ℕ) → i < length rows → links_of (network_for at rows) i ≡ links_of (network_for at table) (kind i)
   alike i l =
       let same =
@@ -143,12 +153,15 @@ module _ (at : Service) (rows : List Row) where
       (ap (λ arcs. map link arcs) (kinds_have_arcs at.costs at.sites (row_at table (kind i)) (row_at rows i) same))
       ∙ sym (links_are table (kind i) (there i l))
 
+  -- a demand is that of a row
   in_rows : (i : ℕ) → i < length (map count rows) → i < length rows
   in_rows i l = omega (arith, l, length-map rows count)
 
+  -- a demand of the table is that of a kind
   in_table : (k : ℕ) → k < length (map count table) → k < length table
   in_table k l = omega (arith, l, length-map table count)
 
+  -- the table is one of kinds of the rows
   pub table_kinds : AreKinds (network_for at rows) (network_for at table) kind
   table_kinds = record {
     inside = λ i l. omega (arith, there i (in_rows i l), length-map table count);
@@ -178,6 +191,7 @@ module _ (at : Service) (rows : List Row) where
     host_of = λ j. refl;
   }
 
+  -- where the table has a network whose numbers fit, so have the rows
   pub rows_are : IsNetwork (network_for at table) → IsNetwork (network_for at rows)
   rows_are is = record {
     sources = below;
@@ -197,10 +211,12 @@ module _ (at : Service) (rows : List Row) where
           rows_below (map (λ row. arcs_from at.costs row 0 0 at.sites) rows) 0 (length (map count rows))
           (omega (arith, length-map rows count, length-map rows (λ row. arcs_from at.costs row 0 0 at.sites)))
 
+  -- at most one arc of a row leads to a site, for all rows
   pub one_site : HasOneArcASite (network_for at rows)
   one_site i s l =
       subst (λ links. links_to links s ≤ 1) (sym (links_are rows i (in_rows i l)))
       (one_a_site at.costs (row_at rows i) 0 0 at.sites s)
 
+-- the table of rows is one of their kinds
 pub tables_are_of_kinds : TablesAreOfKinds
 tables_are_of_kinds at rows = ((kind at rows, table_kinds at rows), rows_are at rows, one_site at rows)

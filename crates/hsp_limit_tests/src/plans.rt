@@ -318,7 +318,9 @@ fn a_frontier_that_refuses_is_want_of_memory(rt: HostRuntime) {
 }
 
 const TWENTY_ROWS_OF_ONE: &[u8] =
-    b"region,handle,count\nr1,10/0,1\nr1,10/1,1\nr1,10/2,1\nr1,10/3,1\nr1,10/4,1\nr1,10/5,1\nr1,10/6,1\nr1,10/7,1\nr1,10/8,1\nr1,10/9,1\nr1,10/10,1\nr1,10/11,1\nr1,10/12,1\nr1,10/13,1\nr1,10/14,1\nr1,10/15,1\nr1,10/16,1\nr1,10/17,1\nr1,10/18,1\nr1,10/19,1\n";
+    b"region,handle,count\nr1,10/0,1\nr1,10/1,1\nr1,10/2,1\nr1,10/3,1\nr1,10/4,1\nr1,10/5,1\nr1,10/6,1\nr1,10/7,1\n\
+    r1,10/8,1\nr1,10/9,1\nr1,10/10,1\nr1,10/11,1\nr1,10/12,1\nr1,10/13,1\nr1,10/14,1\nr1,10/15,1\nr1,10/16,1\n\
+    r1,10/17,1\nr1,10/18,1\nr1,10/19,1\n";
 
 #[test]
 fn one_server_takes_all(rt: HostRuntime) {

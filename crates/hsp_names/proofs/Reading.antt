@@ -29,6 +29,7 @@ parts_of h n l one =
     let cut = authority_is_cut n one.authority in
     rw one.parts (cut_parts is_slash n 47 l cut.1 refl)
 
+-- a handle has its parts in one way
 pub parts_are_unique : PartsAreUnique
 parts_are_unique h n l n' l' one other =
     let p = parts_of h n l one in
@@ -59,6 +60,7 @@ passes h n l one =
     rw (one.parts, list_any-append is_slash n (47 ∷ l)) (or_right (has_slash n) true refl) in
     rw (le-ltb 4096 (length h) one.short, is_utf8-from_IsUtf8 h one.text, some, parts.0, cut.0) refl
 
+-- octets that are read as a handle are a handle, and no others are
 pub readings_are_handles : ReadingsAreHandles
 readings_are_handles h n l = (
   λ one. let parts = parts_of h n l one in (passes h n l one, sym parts.0, sym parts.1),

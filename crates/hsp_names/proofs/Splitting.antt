@@ -26,6 +26,7 @@ first_within : (p : ℕ → Bool) (xs : List ℕ) → list_any p xs ≡ true →
 first_within p [] a = absurd cc
 first_within p (x ∷ xs) a = grind (arith, first_within p xs)
 
+-- where no octet passes a test, each fails it
 All-fails : (p : ℕ → Bool) (xs : List ℕ) → list_any p xs ≡ false → by_index.All (λ x. p x ≡ false) xs
 All-fails p xs e = λ k d l. grind (arith, list_any_at p xs k d l)
 
@@ -83,6 +84,7 @@ slash_found h i e =
     place_of is_slash h i e in
     grind (arith, passes_there is_slash h, list_any_at is_slash h (position_or_len is_slash h) 0)
 
+-- an octet that fails a test may be put before the first segment
 onto_each : (q : ℕ → Bool) (x : ℕ) (ss : List (List ℕ)) → q x ≡ false → AllByRecursion (λ s. list_any q s ≡ false) ss
     → AllByRecursion (λ s. list_any q s ≡ false) (onto_first x ss)
 onto_each q x [] e h = (or_from (q x) false e refl, tt)
@@ -107,16 +109,19 @@ segments_again s (t ∷ ss) h =
     let first = slice_split_at is_dot s 46 (join_with_byte 46 (t ∷ ss)) (All-fails is_dot s h.0.1) refl in
     rw (first, segments_again t ss h.1) refl
 
+-- segments that are joined by dots have no slash
 slashless : (ss : List (List ℕ)) → AllByRecursion IsSegment ss → has_slash (join_with_byte 46 ss) ≡ false
 slashless [] h = refl
 slashless (s ∷ []) h = h.0.2
 slashless (s ∷ t ∷ ss) h =
     rw (list_any-append is_slash s (46 ∷ join_with_byte 46 (t ∷ ss))) (grind (arith, h.0.2, slashless (t ∷ ss) h.1))
 
+-- no segment is empty
 nonempty : (ss : List (List ℕ)) → AllByRecursion IsSegment ss → list_all (λ s. not (length s == 0)) ss ≡ true
 nonempty [] h = refl
 nonempty (s ∷ ss) h = grind (arith, nat_tests, h.0.0, nonempty ss h.1)
 
+-- parts that are not empty, without a dot and a slash, are segments
 segments_from : (ss : List (List ℕ)) → list_all (λ s. not (length s == 0)) ss ≡ true
     → AllByRecursion (λ s. has_dot s ≡ false) ss → AllByRecursion (λ s. has_slash s ≡ false) ss
     → AllByRecursion IsSegment ss
@@ -125,11 +130,13 @@ segments_from (s ∷ ss) a d l =
     let parts = and_parts (not (length s == 0)) (list_all (λ t. not (length t == 0)) ss) a in
     ((grind (arith, nat_tests, parts.0), d.0, l.0), segments_from ss parts.1 d.1 l.1)
 
+-- a naming authority has segments at its dots, and no slash
 pub authority_is_cut : (n : List ℕ) → IsNamingAuthority n → (has_segments n ≡ true) × (has_slash n ≡ false)
 authority_is_cut n ([], some, are, joined) = absurd (omega (arith, some))
 authority_is_cut n (s ∷ ss, some, are, joined) =
     rw joined (rw (segments_again s ss are) (nonempty (s ∷ ss) are), slashless (s ∷ ss) are)
 
+-- a text with segments at its dots and without a slash is a naming authority
 pub cut_is_authority : (n : List ℕ) → has_segments n ≡ true → has_slash n ≡ false → IsNamingAuthority n
 cut_is_authority n cut whole = (
   slice_split is_dot n,

@@ -24,6 +24,7 @@ module _ (net : Transport) (is : IsNetwork net) (plan : PricedFlow) (given : Has
     (paid sums loads hosts : List ℕ)
     (many : length loads ≡ length net.capacities) (hosts_many : length hosts ≡ length net.limits)
     (loaded : AreCarried net.servers plan.flows.items loads) (hosted_are : AreHosted net.hosts loads hosts) where
+  -- the column of loads has each server's load
   pub load_is : (j : ℕ) → j < length net.capacities
       → slice_index loads j ≡ load (numbered net) (λ k. slice_index plan.flows.items k) j
   load_is j l =
@@ -31,6 +32,7 @@ module _ (net : Transport) (is : IsNetwork net) (plan : PricedFlow) (given : Has
       ∙ ap (λ n. carried net.servers plan.flows.items n j) is.servers_many
       ∙ sym (load_numbers net (λ k. slice_index plan.flows.items k) j)
 
+  -- the column of host loads has each host's load
   pub host_load_is : (h : ℕ) → h < length net.limits
       → slice_index hosts h ≡ host_load (numbered net) (λ k. slice_index plan.flows.items k) h
   host_load_is h l =
@@ -39,6 +41,7 @@ module _ (net : Transport) (is : IsNetwork net) (plan : PricedFlow) (given : Has
       ∙ sum_below_same (length net.capacities) _ _
       (λ j m. ap (λ n. if is_on (host_of net j) h then n else 0) (load_is j m))
 
+  -- flows and prices that pass every test are balanced
   pub balanced : AreCarried net.sources plan.flows.items sums → AreKept net plan sums loads hosts
       → ArePlanPaid net plan paid →
       AreFair net plan.flows.items plan.source_prices.items paid → IsBalanced net plan

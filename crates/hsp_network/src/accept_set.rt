@@ -138,7 +138,7 @@ fn host_rooms(
 }
 
 /// What the servers that the set may use can take: `set` has a flag for each source.
-pub fn reached_capacity(
+pub fn capacity_of_set(
     alloc: Global,
     network: &Network<'_>,
     set: &[bool],
@@ -164,6 +164,6 @@ pub(crate) fn is_short(
     if set.len() != network.demands.len() {
         return Ok(false);
     }
-    let capacity = reached_capacity(alloc, network, set)?;
+    let capacity = capacity_of_set(alloc, network, set)?;
     Ok(capacity < sum_flagged(network.demands, set))
 }

@@ -9,5 +9,5 @@ mod network;
 mod sums;
 
 pub use accept::{accepts, greatest};
-pub use accept_set::{reached_capacity, sum_flagged};
+pub use accept_set::{capacity_of_set, sum_flagged};
 pub use network::{Network, NetworkLists, Outcome, PricedFlow};

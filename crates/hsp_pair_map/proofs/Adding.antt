@@ -30,6 +30,7 @@ pair_kept xs ys e span =
       within_more e.cut e.end xs ys span.second span.within,
     ) refl
 
+-- pairs whose octets lie in the text stay when more octets come behind it
 pairs_kept : (xs ys : List ℕ) (entries : List Entry) → ((k : ℕ) → k < length entries → IsSpan xs (entry_at entries k))
     → map (pair_in (xs ++ ys)) entries ≡ map (pair_in xs) entries
 pairs_kept xs ys [] spans = refl
@@ -39,11 +40,13 @@ pairs_kept xs ys (e ∷ entries) spans =
 
 -- further octets change nothing
 module _ (xs ys : List ℕ) (entries : List Entry) (lasts : List ℕ) (held : AreHeld xs entries lasts) where
+  -- the bucket of an old pair stays
   bucket_kept : (k : ℕ) → k < length entries
       → bucket_at (length lasts) (xs ++ ys) entries k ≡ bucket_at (length lasts) xs entries k
   bucket_kept k l =
       ap (λ p. bucket_of (length lasts) (hash_of p)) (pair_kept xs ys (entry_at entries k) (held.each k l).span)
 
+  -- the old entries are held by the longer text
   pub held_still : AreHeld (xs ++ ys) entries lasts
   held_still = record {
     some = held.some;
@@ -68,6 +71,7 @@ module _ (xs ys : List ℕ) (entries : List Entry) (lasts : List ℕ) (held : Ar
     last = λ b l. held.last b l ∙ sym (last_alike _ _ b (length entries) bucket_kept);
   }
 
+  -- the old pairs are read from the longer text
   pub pairs_still : map (pair_in (xs ++ ys)) entries ≡ map (pair_in xs) entries
   pairs_still = pairs_kept xs ys entries (λ k l. (held.each k l).span)
 
@@ -88,21 +92,27 @@ module _ (octets : List ℕ) (entries : List Entry) (lasts : List ℕ) (held : A
   abbrev new_bucket : ℕ → ℕ
   new_bucket = bucket_at (length lasts) octets more
 
+  -- there are as many buckets as before
   many : length now ≡ length lasts
   many = length-set lasts b (length entries + 1)
 
+  -- the entries before the new one stay
   old_entry : (k : ℕ) → k < length entries → entry_at more k ≡ entry_at entries k
   old_entry k l = get_or_append_left entries (e ∷ []) no_entry k l
 
+  -- the last entry is the new one
   new_entry : entry_at more (length entries) ≡ e
   new_entry = get_or_push entries e no_entry (length entries) refl
 
+  -- old pairs keep their buckets
   same_buckets : (k : ℕ) → k < length entries → new_bucket k ≡ old_bucket k
   same_buckets k l = ap (λ x. bucket_of (length lasts) (hash_of (pair_in octets x))) (old_entry k l)
 
+  -- the new pair is in its own bucket
   its_bucket : new_bucket (length entries) ≡ b
   its_bucket = rw new_entry (sym own)
 
+  -- each entry, the new one too, is held with the right entry before it
   each : (k : ℕ) → k < length more → IsHeld octets more (length lasts) k
   each k l = elim (cases_eq k (length entries)) [
     | inl new ↦ rw new (record {
@@ -124,6 +134,7 @@ module _ (octets : List ℕ) (entries : List Entry) (lasts : List ℕ) (held : A
         }
   ]
 
+  -- each bucket names its last entry
   last : (a : ℕ) → a < length lasts → slice_index now a ≡ last_of new_bucket a (suc (length entries))
   unfolding last_of
   last a l = elim (cases_eq a b) [
@@ -135,6 +146,7 @@ module _ (octets : List ℕ) (entries : List Entry) (lasts : List ℕ) (held : A
         ∙ sym (last_alike new_bucket old_bucket a (length entries) same_buckets))
   ]
 
+  -- the longer list of entries is held
   pub held_more : AreHeld octets more now
   held_more = record {
     some = rw many held.some;
@@ -156,9 +168,11 @@ module _ (xs first second : List ℕ) (entries : List Entry) (lasts : List ℕ) 
   abbrev pair : Pair
   pair = record { first = first; second = second }
 
+  -- the octets grow by those of both names
   length_added : length octets ≡ length xs + length first + length second
   length_added = length-append (xs ++ first) second ∙ ap (λ n. n + length second) (length-append xs first)
 
+  -- the octets of the new pair lie in the longer text
   pub span_added : IsSpan octets e
   span_added = record {
     first = omega (arith, start, cut);
@@ -166,28 +180,33 @@ module _ (xs first second : List ℕ) (entries : List Entry) (lasts : List ℕ) 
     within = omega (arith, end, length_added);
   }
 
+  -- the first name of the new pair is found where its entry says
   its_first : take (length first) (drop (length xs) octets) ≡ first
   its_first =
       let whole : octets ≡ xs ++ (first ++ second) = append_assoc xs first second in
       rw (front_rest octets xs (first ++ second) whole) (take-append_seam first second)
 
+  -- the second name is found behind the first
   its_second : take (length second) (drop (length xs + length first) octets) ≡ second
   its_second =
       rw (← length-append xs first)
       (rw (front_rest octets (xs ++ first) second refl) (take_all (length second) second (omega arith)))
 
+  -- the new entry is read as the new pair
   pub pair_added : pair_in octets e ≡ pair
   pair_added =
       let a : e.cut - e.start ≡ length first = omega (arith, start, cut) in
       let z : e.end - e.cut ≡ length second = omega (arith, cut, end) in
       rw (a, z, start, cut, its_first, its_second) refl
 
+  -- the pairs are the old ones and the new one behind them
   pub pairs_added : map (pair_in octets) (entries ++ e ∷ []) ≡ map (pair_in xs) entries ++ pair ∷ []
   pairs_added =
       let whole : octets ≡ xs ++ (first ++ second) = append_assoc xs first second in
       map-append (pair_in octets) entries (e ∷ [])
       ∙ rw (pair_added, whole, pairs_still xs (first ++ second) entries lasts held) refl
 
+  -- a pair that is put behind the others, as the last of its bucket, leaves the map in order
   pub held_added : (hash : ℕ) → hash ≡ hash_of pair → e.mark ≡ mark_of hash → (b : ℕ)
       → b ≡ bucket_of (length lasts) hash → b < length lasts
       → e.before ≡ get_or lasts b e.before → length entries + 1 < 2 ^ 32

@@ -100,7 +100,8 @@ impl PairMap {
     ///
     /// # Errors
     ///
-    /// An `AllocError` where memory runs out, or where all names together would have 2^32 octets. Then nothing is added.
+    /// An `AllocError` where memory runs out, or where all names together would have 2^32 octets. Then nothing is
+    /// added.
     pub fn push(&mut self, first: &[u8], second: &[u8]) -> Result<(), AllocError>
         requires { length self.old + 1 < 2 ^ 32 }
         ensures added { OnOk result (self.new

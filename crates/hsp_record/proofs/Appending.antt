@@ -56,6 +56,7 @@ run_then octets after =
     append_assoc (to_be_bytes w32 (length octets)) (octets ++ []) after
     ∙ ap (λ (l : List ℕ). to_be_bytes w32 (length octets) ++ (l ++ after)) (append-nil octets)
 
+-- eight fields that are appended one by one stand behind the text
 regroup : (out a b c d e f g h : List ℕ)
     → (((((((out ++ a) ++ b) ++ c) ++ d) ++ e) ++ f) ++ g) ++ h ≡ out
     ++ (a ++ (b ++ (c ++ (d ++ (e ++ (f ++ (g ++ h)))))))

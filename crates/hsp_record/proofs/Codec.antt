@@ -9,19 +9,24 @@ use Rattle.hsp_record.specs.Fields.{IsOctets, joined}
 use Rattle.hsp_text.specs.Answers.{◌>>=◌}
 use Rattle.hsp_record.specs.Reading.{Reader, then_at, both_at, seen}
 use Rattle.hsp_record.proofs.Cuts.{Cuts, joined-append, joined_then, cuts_left, cuts_right, cuts_split}
+use Rattle.hsp_text.proofs.Steps.{first_step}
 
+-- what is left of octets are octets
 IsOctets-end : (f rest : List ℕ) → IsOctets (f ++ rest) → IsOctets rest
 IsOctets-end [] rest h = h
 IsOctets-end (x ∷ f) rest h = IsOctets-end f rest (λ i. h (suc i))
 
+-- what was taken of octets are octets
 pub IsOctets-front : (f rest : List ℕ) → IsOctets (f ++ rest) → IsOctets f
 IsOctets-front [] rest h i = omega arith
 IsOctets-front (x ∷ f) rest h zero = h zero
 IsOctets-front (x ∷ f) rest h (suc i) = IsOctets-front f rest (λ k. h (suc k)) i
 
+-- what stands behind a field of octets are octets
 pub IsOctets-rest : (bytes f rest : List ℕ) → IsOctets bytes → bytes ≡ f ++ rest → IsOctets rest
 IsOctets-rest bytes f rest h e = IsOctets-end f rest (subst IsOctets e h)
 
+-- octets behind octets are octets
 pub IsOctets-append : (a b : List ℕ) → IsOctets a → IsOctets b → IsOctets (a ++ b)
 IsOctets-append [] b ha hb i = hb i
 IsOctets-append (x ∷ a) b ha hb zero = ha zero
@@ -31,6 +36,7 @@ IsOctets-append (x ∷ a) b ha hb (suc i) = IsOctets-append a b (λ k. ha (suc k
 pub IsOctets-field : (f : List ℕ) → IsOctets f → IsOctets (joined (f ∷ []))
 IsOctets-field f h = IsOctets-append f [] h (λ i. omega arith)
 
+-- the first of octets are octets
 pub IsOctets-take : (n : ℕ) (bytes : List ℕ) → IsOctets bytes → IsOctets (take n bytes)
 IsOctets-take n bytes h i =
     elim (cases_lt i n) [
@@ -38,6 +44,7 @@ IsOctets-take n bytes h i =
       | inr le ↦ rw (get_or_past (take n bytes) i 0 (omega (arith, length-take n bytes))) (omega arith)
     ]
 
+-- zeros are octets
 pub IsOctets-zeros : (n : ℕ) → IsOctets (replicate n 0)
 IsOctets-zeros zero i = omega arith
 IsOctets-zeros (suc n) zero = omega arith
@@ -45,11 +52,7 @@ IsOctets-zeros (suc n) (suc i) = IsOctets-zeros n i
 
 -- ---- steps of reading
 
-pub bind_ok : {A B : Type 0} (r : Result A Stop) (f : A → Result B Stop) (y : B) → (r >>= f) ≡ Ok y
-    → (x : A) × (r ≡ Ok x) × (f x ≡ Ok y)
-bind_ok (Ok x) f y e = (x, refl, e)
-bind_ok (Err d) f y e = absurd cc
-
+-- a fault of two steps is that of the first, or that of the second
 pub bind_err : {A B : Type 0} (r : Result A Stop) (f : A → Result B Stop) (d : Stop) → (r >>= f) ≡ Err d
     → (r ≡ Err d) ⊎ ((x : A) × (r ≡ Ok x) × (f x ≡ Err d))
 bind_err (Ok x) f d e = inr (x, refl, e)
@@ -70,6 +73,7 @@ pub guard_ok : {A : Type 0} (b : Bool) (d : Stop) (x y : A) → cond b (Err d) (
 guard_ok true d x y e = absurd cc
 guard_ok false d x y e = (refl, cc)
 
+-- a refused guard gave its own fault
 pub guard_err : {A : Type 0} (b : Bool) (d e : Stop) (x : A) → cond b (Err d) (Ok x) ≡ Err e → (b ≡ true) × (d ≡ e)
 guard_err true d e x h = (refl, cc)
 guard_err false d e x h = absurd cc
@@ -81,9 +85,11 @@ done x = Ok x
 abbrev pub gave : {A : Type 0} → A → List ℕ → Result (A × List ℕ) Stop
 gave x rest = Ok (x, rest)
 
+-- a result has one value
 pub ok_is : {A : Type 0} (x y : A) → done x ≡ done y → x ≡ y
 ok_is x y e = cc
 
+-- a result is not a value and a fault at once
 pub not_both : {A C : Type 0} (x : A) (d : Stop) → done x ≡ Err d → C
 not_both x d e = absurd cc
 
@@ -93,6 +99,7 @@ not_both x d e = absurd cc
 abbrev pub StopsBy : {A : Type 0} → (Stop → Type 0) → Result A Stop → Type 0
 StopsBy Why r = (stop : Stop) × Why stop × (r ≡ Err stop)
 
+-- a first step that stops for a reason stops both
 stops_on : {A B : Type 0} {Why : Stop → Type 0} (r : Result A Stop) (f : A → Result B Stop) → StopsBy Why r
     → StopsBy Why (r >>= f)
 stops_on r f s = (s.0, s.1, ap (λ q. q >>= f) s.2)
@@ -132,6 +139,7 @@ never_stops c bytes e fits long h = elim (c.fails bytes e fits h) [ inl l ↦ l 
 
 -- ---- one after the other
 
+-- a reader and one that depends on what it gave read what both read
 pub then_codec : {L : Stop → Type 0} {A B : Type 0} {a : Reader A} {b : A → Reader B} {FA : Bool → A → Type 0}
     {FB : Bool → A → B → Type 0} {fa : A → List (List ℕ)} {fb : B → List (List ℕ)}
     → Codec L A a FA fa → ((x : A) → FA false x → Codec L B (b x) (λ k. FB k x) fb)
@@ -145,8 +153,8 @@ then_codec {L} {A} {B} {a} {b} {FA} {FB} {fa} {fb} ca cb =
     record {
       any = λ p h. let x = ca.any p.0 h.0 in (x, (cb p.0 x).any p.1 h.1);
       takes = λ bytes p rest fits e.
-          let s = bind_ok (a bytes) second (p, rest) e in
-          let t = bind_ok (b s.0.0 s.0.1) (third s.0.0) (p, rest) s.2 in
+          let s = first_step (a bytes) second (p, rest) e in
+          let t = first_step (b s.0.0 s.0.1) (third s.0.0) (p, rest) s.2 in
           let one = ca.takes bytes s.0.0 s.0.1 fits s.1 in
           let two =
           (cb s.0.0 (ca.any s.0.0 one.0)).takes s.0.1 t.0.0 t.0.1
@@ -209,6 +217,7 @@ then_codec {L} {A} {B} {a} {b} {FA} {FB} {fa} {fb} ca cb =
           (IsOctets-append (joined (fa p.0)) (joined (fb p.1)) (ca.octets p.0 h.0) ((cb p.0 h.0).octets p.1 h.1));
     }
 
+-- two readers in turn read what both read
 pub both_codec : {L : Stop → Type 0} {A B : Type 0} {a : Reader A} {b : Reader B} {FA : Bool → A → Type 0}
     {FB : Bool → B → Type 0} {fa : A → List (List ℕ)} {fb : B → List (List ℕ)}
     → Codec L A a FA fa → Codec L B b FB fb
@@ -217,6 +226,7 @@ both_codec {L} {A} {B} {a} {b} {FA} {FB} {fa} {fb} ca cb = then_codec {b = λ _.
 
 -- ---- the same, seen as another type
 
+-- a reader whose value is only shown otherwise reads the same fields
 pub as_codec : {L : Stop → Type 0} {A B : Type 0} {a : Reader A} {FA : Bool → A → Type 0} {fa : A → List (List ℕ)}
     (b : Reader B) (FB : Bool → B → Type 0) (fb : B → List (List ℕ)) (f : A → B)
     → Codec L A a FA fa → ((bytes : List ℕ) → b bytes ≡ (a bytes >>= λ x. Ok (f x.0, x.1)))
@@ -227,7 +237,7 @@ as_codec {L} {A} {B} {a} {FA} {fa} b FB fb f ca same to fields from =
     record {
       any = λ y h. let x = from true y h in subst (FB false) x.1 (to false x.0 (ca.any x.0 x.2));
       takes = λ bytes y rest fits e.
-          let s = bind_ok (a bytes) view (y, rest) (sym (same bytes) ∙ e) in
+          let s = first_step (a bytes) view (y, rest) (sym (same bytes) ∙ e) in
           let t = ca.takes bytes s.0.0 s.0.1 fits s.1 in
           let made : B × List ℕ = (f s.0.0, s.0.1) in
           subst (λ (q : B × List ℕ). FB true q.0 × (bytes ≡ joined (fb q.0) ++ q.1)) (ok_is made (y, rest) s.2)
@@ -277,6 +287,7 @@ abbrev pub Kept : Bool → Bool → Type 0
 Kept true t = t ≡ false
 Kept false t = Unit {0}
 
+-- a reader that refuses some values reads the fields of the others
 pub guard_codec : {L : Stop → Type 0} {A : Type 0} {a : Reader A} {FA : Bool → A → Type 0} {fa : A → List (List ℕ)}
     (test : A → Bool) (stop : A → Stop) → ((x : A) → L (stop x)) → Codec L A a FA fa
     → Codec L A (λ bytes. a bytes >>= λ x. cond (test x.0) (Err (stop x.0)) (Ok x)) (λ k x. FA k x × Kept k (test x)) fa
@@ -285,7 +296,7 @@ guard_codec {L} {A} {a} {FA} {fa} test stop limit ca =
     record {
       any = λ x h. (ca.any x h.0, tt);
       takes = λ bytes x rest fits e.
-          let s = bind_ok (a bytes) guard (x, rest) e in
+          let s = first_step (a bytes) guard (x, rest) e in
           let g = guard_ok (test s.0.0) (stop s.0.0) s.0 (x, rest) s.2 in
           let t = ca.takes bytes s.0.0 s.0.1 fits s.1 in
           subst (λ (q : A × List ℕ). (FA true q.0 × (test q.0 ≡ false)) × (bytes ≡ joined (fa q.0) ++ q.1)) g.1

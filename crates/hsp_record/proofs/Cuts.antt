@@ -14,6 +14,7 @@ abbrev pub Cuts : List (List ℕ) → List ℕ → ℕ → Type 0
 Cuts [] octets left = ⊥
 Cuts (f ∷ fs) octets left = InField f octets left ⊎ ((rest : List ℕ) × (octets ≡ f ++ rest) × Cuts fs rest left)
 
+-- two lists of fields are joined one after the other
 pub joined-append : (fs gs : List (List ℕ)) → joined (fs ++ gs) ≡ joined fs ++ joined gs
 joined-append [] gs = refl
 joined-append (f ∷ fs) gs =
@@ -26,6 +27,7 @@ joined_then fs gs octets rest more e h =
     e ∙ ap (λ l. joined fs ++ l) h ∙ sym (append_assoc (joined fs) (joined gs) more)
     ∙ ap (λ l. l ++ more) (sym (joined-append fs gs))
 
+-- octets that end in the first fields end in all of them
 pub cuts_left : (fs gs : List (List ℕ)) (octets : List ℕ) (left : ℕ) → Cuts fs octets left → Cuts (fs ++ gs) octets left
 cuts_left [] gs octets left cut = absurd cut
 cuts_left (f ∷ fs) gs octets left cut =
@@ -34,6 +36,7 @@ cuts_left (f ∷ fs) gs octets left cut =
       | inr later ↦ inr (later.0, later.1, cuts_left fs gs later.0 left later.2)
     ]
 
+-- octets that end in the later fields end in all of them
 pub cuts_right : (fs gs : List (List ℕ)) (octets rest : List ℕ) (left : ℕ) → octets ≡ joined fs ++ rest
     → Cuts gs rest left → Cuts (fs ++ gs) octets left
 cuts_right [] gs octets rest left e cut = subst (λ (x : List ℕ). Cuts gs x left) (sym e) cut
@@ -41,6 +44,7 @@ cuts_right (f ∷ fs) gs octets rest left e cut =
     inr
     (joined fs ++ rest, e ∙ append_assoc f (joined fs) rest, cuts_right fs gs (joined fs ++ rest) rest left refl cut)
 
+-- octets that end in two lists of fields end in the first or in the second
 pub cuts_split : (fs gs : List (List ℕ)) (octets : List ℕ) (left : ℕ) → Cuts (fs ++ gs) octets left
     → Cuts fs octets left ⊎ ((rest : List ℕ) × (octets ≡ joined fs ++ rest) × Cuts gs rest left)
 cuts_split [] gs octets left cut = inr (octets, refl, cut)
@@ -57,6 +61,7 @@ cuts_split (f ∷ fs) gs octets left cut =
 
 -- ---- the two forms
 
+-- octets that end behind a first field end later by its length
 later_end : (f : List ℕ) (fs : List (List ℕ)) (octets rest : List ℕ) (at : ℕ) → octets ≡ f ++ rest → EndsIn fs rest at
     → EndsIn (f ∷ fs) octets (length f + at)
 later_end f fs octets rest at e ends = record {
@@ -82,6 +87,7 @@ cuts_within (f ∷ fs) octets left cut =
       | inr later ↦ omega (arith, cuts_within fs later.0 left later.2, ap length later.1, length-append f later.0)
     ]
 
+-- where octets end by recursion, they end at that place
 pub ends_from_cuts : (fs : List (List ℕ)) (octets : List ℕ) (left : ℕ) → Cuts fs octets left
     → EndsIn fs octets (length octets - left)
 ends_from_cuts [] octets left cut = absurd cut
@@ -105,6 +111,7 @@ ends_from_cuts (f ∷ fs) octets left cut =
           (later_end f fs octets later.0 (length later.0 - left) later.1 (ends_from_cuts fs later.0 left later.2))
     ]
 
+-- of two ways to part a text, the longer front begins with the shorter one
 split_longer : (a b c d : List ℕ) → a ++ b ≡ c ++ d → length c ≤ length a → (m : List ℕ) × (a ≡ c ++ m) × (d ≡ m ++ b)
 split_longer a b [] d e le = (a, refl, sym e)
 split_longer [] b (x ∷ c) d e le = absurd (omega arith)
@@ -114,6 +121,7 @@ split_longer (y ∷ a) b (x ∷ c) d e le =
     let r = split_longer a b c d tails (omega arith) in
     (r.0, ap (λ (k : ℕ). k ∷ a) heads ∙ ap (λ (l : List ℕ). x ∷ l) r.1, r.2)
 
+-- octets that reach into a field, and not to its end, end there
 cuts_from_parts : (before : List (List ℕ)) (field : List ℕ) (after : List (List ℕ)) (octets more : List ℕ)
     → joined (before ++ (field ∷ after)) ≡ octets ++ more
     → length (joined before) ≤ length octets → length octets < length (joined before) + length field
@@ -142,6 +150,7 @@ cuts_from_parts (f ∷ before) field after octets more e there past =
           (omega (arith, len, past, length-append f (joined before)))),
     )
 
+-- where octets end at a place, they end so by recursion
 pub cuts_from_ends : (fs : List (List ℕ)) (octets : List ℕ) (at : ℕ) → EndsIn fs octets at
     → Cuts fs octets (length octets - at)
 cuts_from_ends fs octets at ends =

@@ -38,9 +38,11 @@ pub record Limited (Limit : Stop → Type 0) (A : Type 0) (read : Reader A) (for
 abbrev err_of : {A : Type 0} → Stop → Result A Stop
 err_of stop = Err stop
 
+-- a result has one fault
 err_is : {A : Type 0} (a b : Stop) → err_of {A = A} a ≡ Err b → a ≡ b
 err_is a b e = cc
 
+-- a record that is too short breaks no limit and has no index twice
 not_short : (stop : Stop) (left : ℕ) → stop ≡ Short left → (stop ≡ TooMany → ⊥) × ((index : ℕ) → stop ≡ Twice index → ⊥)
 not_short stop left e = (λ h. cc, λ index h. cc)
 

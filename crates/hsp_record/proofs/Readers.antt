@@ -21,6 +21,7 @@ use Rattle.hsp_record.proofs.Codec.{never, never_stops, then_codec, as_codec, gu
 
 -- ---- a run whose length is known
 
+-- octets that are taken stand at the front
 taken : (n : ℕ) (bytes x rest : List ℕ) → octets_at n bytes ≡ Ok (x, rest)
     → (length x ≡ n) × (bytes ≡ x ++ rest) × (x ≡ take n bytes)
 taken n bytes x rest e =
@@ -33,11 +34,13 @@ taken n bytes x rest e =
       sym x-is,
     )
 
+-- a field is taken from what begins with it
 taken_again : (n : ℕ) (x rest : List ℕ) → length x ≡ n → octets_at n (x ++ rest) ≡ Ok (x, rest)
 taken_again n x rest len =
     let long : ltb (length (x ++ rest)) n ≡ false = le-ltb _ _ (omega (arith, length-append x rest)) in
     rw (long, take_at x rest n len, drop_at x rest n len) refl
 
+-- so many octets are a field of their length
 pub octets_codec : {L : Stop → Type 0} (n : ℕ)
     → Codec L (List ℕ) (octets_at n) (λ _ x. (length x ≡ n) × IsOctets x) (λ x. x ∷ [])
 octets_codec n = record {
@@ -79,15 +82,18 @@ octets_codec n = record {
 
 -- ---- a number
 
+-- one octet is read and written as it is
 octet_back : (bytes : List ℕ) → length bytes ≡ 1 → IsOctets bytes → to_be_bytes w8 (from_be_bytes w8 bytes) ≡ bytes
 octet_back [] len fits = absurd (omega arith)
 octet_back (x ∷ []) len fits = let small : x % 256 ≡ x = omega (arith, fits 0) in ap (λ (n : ℕ). n ∷ []) small
 octet_back (x ∷ y ∷ bytes) len fits = absurd (omega arith)
 
+-- an octet of a number is below 256
 byte_octet : (i n : ℕ) → byte_at i n < 256
 byte_octet zero n = omega arith
 byte_octet (suc i) n = let octet : n / 256 ^ suc i % 256 < 256 = omega arith in octet
 
+-- a number is written as octets
 high_octets : (k n : ℕ) → IsOctets (bytes_high_first k n)
 high_octets zero n i = omega arith
 high_octets (suc k) n zero = byte_octet k n
@@ -106,6 +112,7 @@ number_is w bytes =
       | false ↦ refl
     ]
 
+-- a number of a width is read from its octets, the highest first
 number_codec : {L : Stop → Type 0} (w : Width) (limit : ℕ) → ((n : ℕ) → length (to_be_bytes w n) ≡ byte_len w)
     → ((bytes : List ℕ) → IsOctets bytes → from_be_bytes w bytes < limit)
     → ((bytes : List ℕ) → length bytes ≡ byte_len w → IsOctets bytes → to_be_bytes w (from_be_bytes w bytes) ≡ bytes)
@@ -124,16 +131,19 @@ octet_codec =
     number_codec w8 (2 ^ 8) (λ n. refl) (λ bytes fits. omega (arith, fits 0)) octet_back
     (λ n lt. let small : n % 256 ≡ n = omega arith in small)
 
+-- a number of two octets
 pub u16_codec : {L : Stop → Type 0} → Codec L ℕ (number_at w16) (λ _ n. n < 2 ^ 16) (λ n. to_be_bytes w16 n ∷ [])
 u16_codec =
     number_codec w16 (2 ^ 16) (λ n. refl) (λ bytes fits. omega (arith, fits 0, fits 1))
     (λ bytes len fits. be_bytes_2 bytes _ len fits refl) from_be_bytes-to_be_bytes_2
 
+-- a number of four octets
 pub u32_codec : {L : Stop → Type 0} → Codec L ℕ (number_at w32) (λ _ n. n < 2 ^ 32) (λ n. to_be_bytes w32 n ∷ [])
 u32_codec =
     number_codec w32 (2 ^ 32) (λ n. refl) (λ bytes fits. omega (arith, fits 0, fits 1, fits 2, fits 3))
     (λ bytes len fits. be_bytes_4 bytes _ len fits refl) from_be_bytes-to_be_bytes_4
 
+-- a number of eight octets
 pub u64_codec : {L : Stop → Type 0} → Codec L ℕ (number_at w64) (λ _ n. n < 2 ^ 64) (λ n. to_be_bytes w64 n ∷ [])
 u64_codec =
     number_codec w64 (2 ^ 64) (λ n. refl)
@@ -142,15 +152,18 @@ u64_codec =
 
 -- ---- a number, and what it decides
 
+-- a step that passes on what it got changes nothing
 pub bind_end : {A : Type 0} (r : Result (A × List ℕ) Stop) → r ≡ (r >>= λ x. Ok (x.0, x.1))
 bind_end (Ok x) = refl
 bind_end (Err e) = refl
 
+-- three steps may be grouped either way
 bind_twice : {A B C : Type 0} (r : Result A Stop) (f : A → Result B Stop) (g : B → Result C Stop)
     → ((r >>= f) >>= g) ≡ (r >>= λ x. f x >>= g)
 bind_twice (Ok x) f g = refl
 bind_twice (Err e) f g = refl
 
+-- what only the second of two steps gave is what is kept
 then_second : {A B : Type 0} (r : Result (A × List ℕ) Stop) (b : A → List ℕ → Result (B × List ℕ) Stop)
     → (r >>= λ x. b x.0 x.1) ≡ ((r >>= λ x. b x.0 x.1 >>= λ y. gave {A = A × B} (x.0, y.0) y.1) >>= λ p. gave p.0.1 p.1)
 then_second {A} {B} (Ok x) b =
@@ -176,16 +189,19 @@ behind_codec {L} {X} {n} {N} {F} {f} size b cn cb =
     (λ p h. ap (λ m. to_be_bytes w32 m ∷ f p.1) h.1.0)
     (λ k x h. ((size x, x), refl, (h.0, (refl, h.1))))
 
+-- a run is its length, and as many octets
 pub run_codec : {L : Stop → Type 0} → Codec L (List ℕ) run_at (λ _. IsRun) run_fields
 unfolding run_at
 run_codec = behind_codec {F = λ _. IsOctets} length octets_at u32_codec (λ n h. octets_codec n)
 
 -- ---- so many of one kind
 
+-- a list without elements is empty
 none_is : {A : Type 0} (xs : List A) → length xs ≡ 0 → [] ≡ xs
 none_is [] h = refl
 none_is (x ∷ xs) h = absurd (omega arith)
 
+-- no elements are read from nothing
 pub none_codec : {L : Stop → Type 0} {A : Type 0} (Are : Bool → List A → Type 0) (fields : A → List (List ℕ))
     → ((k : Bool) → Are k [])
     → Codec L (List A) (λ bytes. Ok ([], bytes)) (λ k xs. (length xs ≡ 0) × Are k xs) (all_fields fields)
@@ -208,6 +224,7 @@ none_codec {L} {A} Are fields are =
       octets = λ xs h. subst (λ ys. IsOctets (joined (all_fields fields ys))) (none_is xs h.0) (λ i. omega arith);
     }
 
+-- a list is its first element and the others
 more_is : {A : Type 0} (next : A → Reader (List A)) (r : Result (A × List ℕ) Stop)
     → (r >>= λ first. next first.0 first.1 >>= λ others. gave (first.0 ∷ others.0) others.1)
     ≡ ((r >>= λ x. next x.0 x.1 >>= λ y. gave {A = A × List A} (x.0, y.0) y.1) >>= λ p. gave (p.0.0 ∷ p.0.1) p.1)
@@ -217,6 +234,7 @@ more_is {A} next (Ok x) =
     (λ (p : (A × List A) × List ℕ). gave (p.0.0 ∷ p.0.1) p.1))
 more_is next (Err e) = refl
 
+-- a list of one element more is that element and a shorter list
 front : {A : Type 0} (F : A → Type 0) (G : A → List A → Type 0) (Are : List A → Type 0) (n : ℕ)
     → ((x : A) (xs : List A) → Are (x ∷ xs) → F x × G x xs)
     → (ys : List A) → (length ys ≡ suc n) × Are ys
@@ -244,6 +262,7 @@ more_codec {L} {A} {read} {F} {G} {fields} n next Are c cs to from b same =
     (λ p h. refl)
     (λ k ys h. front (F k) (G k) (Are k) n (from k) ys h)
 
+-- so many elements are read one after the other
 pub times_codec : {L : Stop → Type 0} {A : Type 0} {read : Reader A} {Fits : A → Type 0} {fields : A → List (List ℕ)}
     → Codec L A read (λ _. Fits) fields → (n : ℕ)
     → Codec L (List A) (times_at read n) (λ _ xs. (length xs ≡ n) × AllByRecursion Fits xs) (all_fields fields)
@@ -255,6 +274,7 @@ times_codec {L} {A} {read} {Fits} {fields} c (suc n) =
 
 -- ---- a count and that many of one kind
 
+-- a list is its count, and as many elements
 pub list_codec : {L : Stop → Type 0} {A : Type 0} {read : Reader A} {Fits : A → Type 0} {fields : A → List (List ℕ)}
     → Codec L A read (λ _. Fits) fields
     → Codec L (List A) (list_at read) (λ _. IsCounted Fits) (list_fields fields)

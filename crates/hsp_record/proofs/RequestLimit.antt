@@ -8,10 +8,12 @@ use Rattle.hsp_record.proofs.Codec.{never}
 use Rattle.hsp_record.proofs.SiteCodec.{request_codec}
 use Rattle.hsp_record.proofs.Limits.{Passes, Limited}
 
+-- no reason stops a body but those of its fields
 none_stops : (octets : List ℕ) (stop : Stop) → Passes request_format octets stop → request_at octets ≡ Err stop
 none_stops octets (Short left) p = absurd p
 none_stops octets stop p = absurd p
 
+-- the reader of bodies has no limit to keep to
 pub request_limited : Limited never RequestBody request_at request_format
 request_limited =
     let c = request_codec {L = never} in

@@ -17,11 +17,13 @@ pair_back (a ∷ []) len = absurd (omega arith)
 pair_back (a ∷ b ∷ []) len = refl
 pair_back (a ∷ b ∷ c ∷ octets) len = absurd (omega arith)
 
+-- two numbers below 256 are octets
 IsOctets-pair : (a b : ℕ) → a < 256 → b < 256 → IsOctets (a ∷ b ∷ [])
 IsOctets-pair a b ha hb zero = ha
 IsOctets-pair a b ha hb (suc zero) = hb
 IsOctets-pair a b ha hb (suc (suc i)) = omega arith
 
+-- two numbers of one octet each
 pair_codec : {L : Stop → Type 0}
     → Codec L (ℕ × ℕ) pair_at (λ _ p. (p.0 < 2 ^ 8) × (p.1 < 2 ^ 8)) (λ p. (p.0 ∷ p.1 ∷ []) ∷ [])
 unfolding pair_at
@@ -32,6 +34,7 @@ pair_codec =
     (λ x h. ap (λ l. l ∷ []) (pair_back x h.0))
     (λ _ p h. (p.0 ∷ p.1 ∷ [], refl, (refl, IsOctets-pair p.0 p.1 h.0 h.1)))
 
+-- an attribute is a name and a value
 attribute_codec : {L : Stop → Type 0} → Codec L AttributePair attribute_at (λ _. IsAttribute) attribute_fields
 unfolding attribute_at
 attribute_codec =
@@ -39,6 +42,7 @@ attribute_codec =
     (λ _ p h. record { name = h.0; value = h.1 })
     (λ _ a h. ((a.name, a.value), refl, (h.name, h.value)))
 
+-- an interface has its type, its protocol and its port
 interface_codec : {L : Stop → Type 0} → Codec L Interface interface_at (λ _. IsInterface) interface_fields
 unfolding interface_at
 interface_codec =
@@ -47,6 +51,7 @@ interface_codec =
     (λ _ p h. record { service_type = h.0; protocol = h.1.0; port = h.1.1 })
     (λ _ i h. ((i.service_type, (i.protocol, i.port)), refl, (h.service_type, (h.protocol, h.port))))
 
+-- a server has its number, address, key and interfaces
 pub server_codec : {L : Stop → Type 0} → Codec L Server server_at (λ _. IsServer) server_fields
 unfolding server_at
 server_codec =
@@ -60,6 +65,7 @@ pub record IsBareHead (s : Site) : Type 0 where
   pub fits : IsHead s
   pub bare : s.servers ≡ []
 
+-- what stands before the servers of a site
 pub head_codec : {L : Stop → Type 0} → Codec L Site head_at (λ _. IsBareHead) head_fields
 unfolding head_at
 head_codec =
@@ -98,6 +104,7 @@ head_codec =
 abbrev pub head_only : Site → Site
 head_only s = with_servers s []
 
+-- the head of a site is one whatever its servers are
 pub IsHead-servers : (s : Site) (servers : List Server) → IsHead s → IsHead (with_servers s servers)
 IsHead-servers s servers h =
     record {
@@ -111,6 +118,7 @@ IsHead-servers s servers h =
       attributes = h.attributes;
     }
 
+-- a body is a handle and the lists that it asks for
 pub request_codec : {L : Stop → Type 0} → Codec L RequestBody request_at (λ _. IsRequest) request_fields
 unfolding request_at
 request_codec =

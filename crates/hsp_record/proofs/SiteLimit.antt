@@ -24,21 +24,25 @@ abbrev AreServers : Bool → List Server → Type 0
 AreServers k servers =
     ((length servers < 2 ^ 32) × Kept k (ltb 1024 (length servers))) × AllByRecursion IsServer servers
 
+-- servers within their limit are a list
 servers_codec : Codec AtMany (List Server) servers_at AreServers (list_fields server_fields)
 unfolding servers_at server_count_at
 servers_codec =
     behind_codec {F = λ _. AllByRecursion IsServer} length (times_at server_at)
     (guard_codec (ltb 1024) (λ _. TooMany) (λ _. refl) u32_codec) (λ n _. times_codec server_codec n)
 
+-- a head and servers make a site
 site_to : (k : Bool) (s : Site) (servers : List Server) → IsHead s → AreServers k servers
     → held site_format k (with_servers s servers)
 site_to true s servers h hs = ((IsHead-servers s servers h, (hs.0.0, hs.1)), ltb-false 1024 (length servers) hs.0.1)
 site_to false s servers h hs = (IsHead-servers s servers h, (hs.0.0, hs.1))
 
+-- a site has a head and servers
 site_from : (k : Bool) (s : Site) → held site_format k s → IsHead s × AreServers k s.servers
 site_from true s h = (h.0.0, ((h.0.1.0, le-ltb 1024 (length s.servers) h.1), h.0.1.1))
 site_from false s h = (h.0, ((h.1.0, tt), h.1.1))
 
+-- HS_SITE data are the head of a site and its servers
 pub site_codec : Codec AtMany Site site_at (held site_format) site_fields
 unfolding site_at
 site_codec =
@@ -47,6 +51,7 @@ site_codec =
     (λ k s h. let p = site_from k s h in
     ((head_only s, s.servers), refl, (record { fits = IsHead-servers s [] p.0; bare = refl }, p.1)))
 
+-- data that break the limit stop the reader
 site_stops : (octets : List ℕ) (stop : Stop) → Passes site_format octets stop → site_at octets ≡ Err stop
 unfolding site_at servers_at server_count_at
 site_stops octets TooMany m =
@@ -56,6 +61,7 @@ site_stops octets TooMany m =
     rw (m.begins, head, number_front m.count m.rest m.counted, lt-ltb 1024 m.count m.above) refl
 site_stops octets stop p = absurd p
 
+-- the reader stops for the limit only where data break it
 site_passed : (octets : List ℕ) (stop : Stop) → IsOctets octets → AtMany stop → site_at octets ≡ Err stop
     → Passes site_format octets stop
 unfolding site_at servers_at server_count_at
@@ -80,5 +86,6 @@ site_passed octets TooMany fits at e =
     }
 site_passed octets stop fits at e = absurd cc
 
+-- the reader of sites keeps to its limit
 pub site_limited : Limited AtMany Site site_at site_format
 site_limited = record { codec = site_codec; stops = site_stops; passed = site_passed }

@@ -12,25 +12,30 @@ use Rattle.hsp_record.specs.Fields.{IsOctets, joined, all_fields}
 use Rattle.hsp_record.specs.Values.{HandleValue, value_fields, values_fields, indices, values_format}
 use Rattle.hsp_record.specs.Reading.{Read, number_at, is_one_of, index_at, values_at, value_list_at}
 use Rattle.hsp_record.proofs.Cuts.{joined_then}
-use Rattle.hsp_record.proofs.Codec.{Codec, IsOctets-rest, never, never_stops, first_stops, second_stops, bind_ok}
+use Rattle.hsp_record.proofs.Codec.{Codec, IsOctets-rest, never, never_stops, first_stops, second_stops}
 use Rattle.hsp_record.proofs.Codec.{bind_err, gave, ok_is, as_codec}
 use Rattle.hsp_record.proofs.Readers.{bind_end, u32_codec, behind_codec, number_front, guarded_stops}
 use Rattle.hsp_record.proofs.ValueCodec.{AtTwice, AreValues, none_yet, Unmet, body_codec, new_at, new_codec, values_to}
 use Rattle.hsp_record.proofs.ValueCodec.{values_more, values_codec}
 use Rattle.hsp_record.proofs.Limits.{held, Passes, Limited}
+use Rattle.hsp_text.proofs.Steps.{first_step}
 
+-- at first each index is new
 none_met : (is : List ℕ) → Unmet [] is
 none_met [] = tt
 none_met (i ∷ is) = (refl, none_met is)
 
+-- values of distinct indices make a list
 list_to : (k : Bool) (vs : List HandleValue) → (length vs < 2 ^ 32) × AreValues [] k vs → held values_format k vs
 list_to true vs h = ((h.0, h.1.0), h.1.2)
 list_to false vs h = h
 
+-- a list has values of distinct indices
 list_from : (k : Bool) (vs : List HandleValue) → held values_format k vs → (length vs < 2 ^ 32) × AreValues [] k vs
 list_from true vs h = (h.0.0, (h.0.1, none_met (indices vs), h.1))
 list_from false vs h = h
 
+-- a list of values is its count, and as many values of distinct indices
 list_codec : Codec AtTwice (List HandleValue) value_list_at (held values_format) values_fields
 unfolding value_list_at
 list_codec =
@@ -55,9 +60,9 @@ stops_behind met zero (suc n) bytes vs between e lt read at =
 stops_behind met (suc m) (suc n) bytes vs between e lt read at =
     let then : ℕ → HandleValue × List ℕ → Read (List HandleValue) =
     λ k v. values_at (met ++ v.0.index ∷ []) k v.1 >>= λ others. gave (v.0 ∷ others.0) others.1 in
-    let s = bind_ok (new_at met bytes) (then m) (vs, between) (sym (values_more met m bytes) ∙ read) in
+    let s = first_step (new_at met bytes) (then m) (vs, between) (sym (values_more met m bytes) ∙ read) in
     let t =
-    bind_ok (values_at (met ++ s.0.0.index ∷ []) m s.0.1) (λ others. gave (s.0.0 ∷ others.0) others.1)
+    first_step (values_at (met ++ s.0.0.index ∷ []) m s.0.1) (λ others. gave (s.0.0 ∷ others.0) others.1)
     (vs, between) s.2 in
     let made : List HandleValue × List ℕ = (s.0.0 ∷ t.0.0, t.0.1) in
     let here =
@@ -67,6 +72,7 @@ stops_behind met (suc m) (suc n) bytes vs between e lt read at =
     values_more met n bytes ∙ ap (λ r. r >>= then n) s.1
     ∙ ap (λ r. r >>= λ others. gave (s.0.0 ∷ others.0) others.1) later
 
+-- a list with an index twice stops the reader
 list_stops : (octets : List ℕ) (stop : Stop) → Passes values_format octets stop → value_list_at octets ≡ Err stop
 unfolding value_list_at index_at
 list_stops octets (Twice index) t =
@@ -90,6 +96,7 @@ record IsDoubled (met : List ℕ) (n : ℕ) (bytes : List ℕ) (index : ℕ) : T
   pub rest : List ℕ
   pub begins : bytes ≡ joined (all_fields value_fields earlier) ++ (to_be_bytes w32 index ++ rest)
 
+-- the reader stops for an index only where two values have it
 doubled : (met : List ℕ) (n : ℕ) (bytes : List ℕ) (index : ℕ) → IsOctets bytes
     → values_at met n bytes ≡ Err (Twice index) → IsDoubled met n bytes index
 unfolding values_at index_at
@@ -133,6 +140,7 @@ doubled met (suc n) bytes index fits e =
           }
     ]
 
+-- the reader stops for an index only where the list has it twice
 list_passed : (octets : List ℕ) (stop : Stop) → IsOctets octets → AtTwice stop → value_list_at octets ≡ Err stop
     → Passes values_format octets stop
 unfolding value_list_at
@@ -159,5 +167,6 @@ list_passed octets (Twice index) fits at e =
     }
 list_passed octets stop fits at e = absurd cc
 
+-- the reader of lists of values refuses an index that stands twice
 pub list_limited : Limited AtTwice (List HandleValue) value_list_at values_format
 list_limited = record { codec = list_codec; stops = list_stops; passed = list_passed }

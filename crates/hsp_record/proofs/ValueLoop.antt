@@ -27,6 +27,7 @@ pub record SplitsReferences (bytes : List ℕ) (count : ℕ) (front back : List 
   pub are : AreReferences count front
   pub read : list_at reference_at bytes ≡ Ok (references_in count front, back)
 
+-- the octets of references stand between what was left before and after them
 pub references_split : (bytes : List ℕ) (count : ℕ) (octets : List ℕ) (references : List ValueReference) (rest : List ℕ)
     → IsOctets bytes → number_at w32 bytes ≡ Ok (count, octets)
     → times_at reference_at count octets ≡ Ok (references, rest)
@@ -66,9 +67,11 @@ references_split bytes count octets references rest fits e h =
 abbrev pub HasIndices : BTreeSet ℕ → List HandleValue → Type 0
 HasIndices met values = (q : ℕ) → set.contains nat_cmp met q ≡ is_one_of (indices values) q
 
+-- the set's test of an index is that of the definition
 same_test : (k q : ℕ) (b : Bool) → cond (is_eq (nat_cmp k q)) true b ≡ (b || (nat_eq q k || false))
 same_test k q b = grind (arith, nat_tests)
 
+-- the set has the index of each value, also of the next one
 pub HasIndices-more : (met more : BTreeSet ℕ) (values : List HandleValue) (index : ℕ) (body : List ℕ) (v : HandleValue)
     (after : List ℕ) → body_at index body ≡ Ok (v, after) → HasIndices met values
     → set.Updates nat_cmp met more index true → HasIndices more (values ++ v ∷ [])
@@ -86,10 +89,12 @@ HasIndices-more met more values index body v after b has updates q =
 abbrev pub IsReading : List HandleValue → ℕ → List ℕ → Read (List HandleValue) → Type 0
 IsReading values left rest total = with_front values (values_at (indices values) left rest) ≡ total
 
+-- equal second steps give the same
 bind_same : {A B : Type 0} (r : Result A Stop) {f g : A → Result B Stop} → ((x : A) → f x ≡ g x) → (r >>= f) ≡ (r >>= g)
 bind_same (Ok x) same = same x
 bind_same (Err e) same = refl
 
+-- reading values in turn is reading a new one, and then the others
 pub values_steps : Steps (λ values. new_at (indices values)) (λ values. values_at (indices values))
 unfolding values_at
 values_steps = record {

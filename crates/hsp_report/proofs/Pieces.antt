@@ -13,6 +13,7 @@ five_pieces out one two three four five a b c d e p q r s t =
     three_pieces (out ++ a) two three five b c (d ++ e) (rw p at q) r (rw (t, s, append_assoc three d e) refl)
     ∙ append_assoc out a (b ++ (c ++ (d ++ e)))
 
+-- the numbers below a bound, and one more
 one_longer : (n : ℕ) → range_with_len 0 (n + 1) ≡ range_with_len 0 n ++ n ∷ []
 one_longer n =
     rw (map-id (range_with_len 0 (n + 1)), map-id (range_with_len 0 n)) at

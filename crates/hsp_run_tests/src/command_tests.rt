@@ -97,7 +97,7 @@ fn shown_report(
     alloc: Global,
     inputs: &InputFiles<'_>,
     plan: &Word<'_>,
-    kind: Kind,
+    kind: AskedReport,
 ) -> Option<String> {
     let shown = shown_inputs(alloc, "report", inputs, plan.as_str())?;
     let shown = shown.as_str();

@@ -558,7 +558,8 @@ const ONE_SERVER: [u8; 48] = [
 ];
 
 const ONE_SERVER_TEXT: &[u8] =
-    b"version 1\nprotocol 2 0\nserial 1\nmask 0\noption 1\nfilter 0\nattributes 0\nservers 1\nserver 0 7 00000000000000000000000000000001 0 0\n";
+    b"version 1\nprotocol 2 0\nserial 1\nmask 0\noption 1\nfilter 0\nattributes 0\nservers 1\n\
+    server 0 7 00000000000000000000000000000001 0 0\n";
 
 // A list of one value with the index 1, this type and the site as its data.
 pub(crate) fn list_of(rt: &impl Abort, alloc: Global, type_octets: &[u8; 7]) -> Vec<u8> {

@@ -22,14 +22,17 @@ fn reported(
     }
 }
 
-const LOADS: &[u8] =
-    b"place     server       load   capacity         price site\n    0          7          4         10             0 E\n    1          3          6          6             1 E\n    0          1          2          2             0 W\n    1          2          0         10             0 W\n    2          9          0         10             0 W\nbound 23 - 6 = 17\n";
+const LOADS: &[u8] = b"place     server       load   capacity         price site\n    \
+    0          7          4         10             0 E\n    1          3          6          6             1 E\n    \
+    0          1          2          2             0 W\n    1          2          0         10             0 W\n    \
+    2          9          0         10             0 W\nbound 23 - 6 = 17\n";
 
 const REGIONS: &[u8] =
-    b"    demand             cost region\n         9                9 r1\n         3                8 r2\ntotal 12 17\n";
+    b"    demand             cost region\n         9                9 r1\n         3                8 r2\n\
+    total 12 17\n";
 
-const MISSING: &[u8] =
-    b"short 9 - 8 = 1\n row   count region\n   2       9 r2\nplace     server   capacity site\n    1          3          6 E\n    0          1          2 W\n";
+const MISSING: &[u8] = b"short 9 - 8 = 1\n row   count region\n   2       9 r2\n\
+    place     server   capacity site\n    1          3          6 E\n    0          1          2 W\n";
 
 #[test]
 fn reports_are_of_their_kinds(rt: HostRuntime) {

@@ -477,10 +477,12 @@ fn nothing_is_planned_for_inputs_with_a_fault(rt: HostRuntime) {
 }
 
 pub(crate) const PLAN: &[u8] =
-    b"HSPLAN 1\nPLAN\ncost 17\nuse 0 0 5\nuse 1 0 4\nuse 2 0 1\nuse 2 1 2\nrow 0 2\nrow 1 1\nrow 2 3\nserver 0 0\nserver 1 1\nserver 2 0\nserver 3 0\nserver 4 0\nEND\n";
+    b"HSPLAN 1\nPLAN\ncost 17\nuse 0 0 5\nuse 1 0 4\nuse 2 0 1\nuse 2 1 2\nrow 0 2\nrow 1 1\nrow 2 3\nserver 0 0\n\
+    server 1 1\nserver 2 0\nserver 3 0\nserver 4 0\nEND\n";
 
 pub(crate) const CHEAPER_PLAN: &[u8] =
-    b"HSPLAN 1\nPLAN\ncost 16\nuse 0 0 5\nuse 1 0 4\nuse 2 0 1\nuse 2 1 2\nrow 0 2\nrow 1 1\nrow 2 3\nserver 0 0\nserver 1 1\nserver 2 0\nserver 3 0\nserver 4 0\nEND\n";
+    b"HSPLAN 1\nPLAN\ncost 16\nuse 0 0 5\nuse 1 0 4\nuse 2 0 1\nuse 2 1 2\nrow 0 2\nrow 1 1\nrow 2 3\nserver 0 0\n\
+    server 1 1\nserver 2 0\nserver 3 0\nserver 4 0\nEND\n";
 
 pub(crate) const SHORTAGE: &[u8] = b"HSPLAN 1\nSHORTAGE\ndemand 9\ncapacity 8\nrow 2\nEND\n";
 

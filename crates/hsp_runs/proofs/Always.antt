@@ -49,6 +49,7 @@ handed P holds (Err e) fault is memory = rw (is ∙ memory) holds
 
 -- ---- what is read
 
+-- inputs that define an instance give it, or memory ran out
 pub gives_always : GivesNothingElse → (inputs : Inputs) (answer : Result Instance Fault)
     → OrNoMemory (IsInstanceOf inputs) answer → GivesTheDefinedAlways inputs answer
 gives_always only inputs (Ok x) is it page = let same = only inputs it (Ok x) page is in cc (same)
@@ -94,6 +95,7 @@ checked_shows inputs octets it (Err e) page shows = tt
 
 -- ---- what is planned
 
+-- a plan is printed, or memory ran out
 pub planned_always : (it : Instance) (answer : Result Printed Fault) → OrNoMemory (IsPlanText it) answer
     → IsOkUnless answer OutOfMemory
 planned_always it (Ok text) is = tt
@@ -102,6 +104,7 @@ planned_always it (Err e) (inr none) = absurd none
 
 -- ---- logs
 
+-- a run that ran out of memory has no other fault
 refused_always : {S : Type 0} (run : Streams) (answer : Result S Fault) → Refuses run OutOfMemory answer
     → IsOkUnlessLog answer
 refused_always run answer refused = subst (λ r. IsOkUnlessLog r) (sym refused.1) (inl refl)
@@ -110,10 +113,12 @@ refused_always run answer refused = subst (λ r. IsOkUnlessLog r) (sym refused.1
 abbrev IsOfLog : Fault → Type 0
 IsOfLog fault = (fault ≡ OutOfMemory) ⊎ ((of : LogFault) × (fault ≡ Log of))
 
+-- a fault of the log is one of the log
 is_of_log : (fault : LogFault) → IsOfLog (fault_of_log fault)
 is_of_log log_fault.OutOfMemory = inl refl
 is_of_log fault = inr (fault, refl)
 
+-- a run over a log has no fault but of the log or of memory
 ends_always : {S : Type 0} (all : S → FrontSums) (run : Streams) (answer : Result S Fault) (desk : Desk)
     → EndsLog all run answer desk → IsOkUnlessLog answer
 ends_always all run (Ok sums) desk ends = tt
@@ -122,17 +127,20 @@ ends_always all run (Err e) desk (fault, is, stops) = subst IsOfLog (sym is) (is
 -- whoever answers by the plan of what is accepted ends, or stops by a fault of the log
 module _ {S : Type 0} (staff : Staff S) (run : Streams) (answer : Result S Fault)
     (ends : (it : Instance) (x : Plan) → staff.At it x (EndsLog staff.all run answer) → IsOkUnlessLog answer) where
+  -- so has a run by the certificate of a plan
   by_claim : (it : Instance) (claim : Claim) (plan : Best) → claim ≡ best plan → AnswersAs staff it claim run answer
       → IsOkUnlessLog answer
   by_claim it (best c) plan is answered = ends it (table c.uses) answered
   by_claim it (short c) plan is refused = cc (is)
 
+  -- so has a run by an accepted plan
   pub answered_always : (accepted : Accepted) (plan : Best) → accepted.certificate ≡ best plan
       → AnswersBy staff accepted run answer
       → IsOkUnlessLog answer
   answered_always accepted plan is (inl refused) = refused_always run answer refused
   answered_always accepted plan is (inr answered) = by_claim accepted.instance accepted.certificate plan is answered
 
+-- so has a dispatcher's run
 pub dispatched_always : (run : Streams) (answer : Result LogSums Fault) (accepted : Accepted) (plan : Best)
     → accepted.certificate ≡ best plan
     → AnswersBy a_dispatcher accepted run answer → IsOkUnlessLog answer
@@ -140,6 +148,7 @@ dispatched_always run answer =
     answered_always a_dispatcher run answer (λ it x (held, left, same, end). ends_always all_of run answer
     (by_plan it held left) end)
 
+-- so has a run of fronts
 pub dispatched_at_always : (fronts : ℕ) (run : Streams) (answer : Result FrontSums Fault) (accepted : Accepted)
     (plan : Best)
     → accepted.certificate ≡ best plan → AnswersBy (so_many fronts) accepted run answer → IsOkUnlessLog answer
@@ -155,6 +164,7 @@ number_read word fronts is some few =
     let above : above_none BadFronts (Ok fronts) ≡ Ok fronts = rw (ne_eqb fronts 0 (λ e. omega (arith, e))) refl in
     ap (λ w. fronts_at w) is ∙ ap (λ r. above_none BadFronts r) whole ∙ above
 
+-- the decimal of a number of fronts within the limits is no bad word
 pub no_fault : {C : Type 0} (word : List ℕ) (fronts : ℕ) (fault : Fault) → word ≡ decimal fronts → 0 < fronts
     → fronts ≤ MOST_FRONTS → fronts_at word ≡ Err fault → C
 no_fault word fronts fault is some few none = let both = sym (number_read word fronts is some few) ∙ none in cc (both)

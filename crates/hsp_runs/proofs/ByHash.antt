@@ -38,6 +38,7 @@ shares_keep : (it : Instance) (c : Best) (fronts front : ℕ) → KeepsToArcs it
     → KeepsToArcs it (share_of fronts front (table c.uses))
 shares_keep it c fronts front keeps row site none = rw (keeps row site none) (share_none fronts front)
 
+-- each query of a log goes to the server that its site's hash names
 pub logs_go_by_hash : LogsGoByHash
 logs_go_by_hash inputs octets accepted claim is kind =
     let of = accepted_of inputs octets accepted is in

@@ -30,6 +30,7 @@ abbrev pub IsReported : {S : Type 0} → Result S LogFault → Result S Fault �
 IsReported given answer =
     MatchResult given (λ sums. answer ≡ Ok sums) (λ fault. IsErrAnd answer (λ e. e ≡ fault_of_log fault))
 
+-- a run reports how it ended
 ends_log : {S : Type 0} (all : S → FrontSums) (desk : Desk) (run : Streams) (given : Result S LogFault)
     (answer : Result S Fault) → IsReported given answer
     → IfOk given (λ sums. EndsWhole desk run (all sums)) → IfErr given (Stops desk run) → EndsLog all run answer desk
@@ -61,6 +62,7 @@ answered_at it (short c) plan fronts old new run given answer is are told whole 
 -- ---- faults before the log
 
 module _ (P : Type 0) where
+  -- a fault of the log does not come before the log
   late : (fault : LogFault) (e : Fault) → e ≡ fault_of_log fault → IsBeforeLog e → P
   late log_fault.OutOfMemory e told before = absurd (before.memory told)
   late fault e told before = absurd (before.log fault told)

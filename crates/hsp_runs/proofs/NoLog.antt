@@ -18,6 +18,7 @@ use Rattle.hsp_headline.specs.declared.inputs.Inputs.{Inputs}
 abbrev pub HasNoLog : {A : Type 0} → (Result A Fault → Type 0) → Type 0
 HasNoLog Is = (fault : Fault) (of : LogFault) → Is (Err fault) → fault ≡ Log of → ⊥
 
+-- two steps without a fault of the log have none together
 then_none : {A B : Type 0} (First : Result A Fault → Type 0) (Next : A → Result B Fault → Type 0) → HasNoLog First
     → ((a : A) → HasNoLog (Next a))
     → HasNoLog (Then First Next)
@@ -25,20 +26,24 @@ then_none First Next first next fault of (Ok a, is, after) e = next a fault of a
 then_none First Next first next fault of (Err own, is, same) e =
     let own_is : own ≡ Log of = cc (same, e) in first own of is own_is
 
+-- a part's fault is not the log's
 no_log_fault : {A E : Type 0} (part : E → Fault) → ((own : E) (of : LogFault) → part own ≢ Log of)
     → (reading : Result A E) (fault : Fault) (of : LogFault)
     → ◌≡◌ {A = Result A Fault} (Err fault) (fault_as part reading) → fault ≡ Log of → ⊥
 no_log_fault part apart (Ok x) fault of same e = cc (same)
 no_log_fault part apart (Err own) fault of same e = let own_is : part own ≡ Log of = cc (same, e) in apart own of own_is
 
+-- values have no fault of the log
 listed_none : (octets : List ℕ) → HasNoLog (AreListed octets)
 listed_none octets fault of is e = no_log_fault Values (λ own from same. cc (same)) is.0 fault of is.3 e
 
+-- nor have values that may be left out
 values_none : (octets : Option (List ℕ)) → HasNoLog (ReadsValues octets)
 values_none None fault of is e = cc (is)
 values_none (Some octets) fault of (Ok values, listed, same) e = cc (same)
 values_none (Some octets) fault of (Err own, listed, same) e = listed_none octets own of listed (cc (same, e))
 
+-- nor has an instance
 instance_none : (inputs : Inputs) → HasNoLog (IsInstanceOf inputs)
 instance_none inputs =
     then_none _ (ReadsValuesOn inputs)
@@ -55,9 +60,11 @@ instance_none inputs =
     (λ fault of is e. no_log_fault Capacity (λ own from same. cc (same)) _ fault of is e)
     (λ capacities fault of is e. no_log_fault Build (λ own from same. cc (same)) is.0 fault of is.2 e)))))
 
+-- nor has a certificate
 accepted_none : (it : Instance) (claim : Claim) → HasNoLog (IsAccepted it claim)
 accepted_none it claim fault of is e = rw e at is
 
+-- nor has what comes before the log
 pub no_log : (inputs : Inputs) (octets : List ℕ) → HasNoLog (IsAcceptedOf inputs octets)
 no_log inputs octets =
     then_none (IsInstanceOf inputs) (λ instance. Then (IsCertificate octets) (IsAccepted instance))

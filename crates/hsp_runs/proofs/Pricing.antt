@@ -27,6 +27,7 @@ use Rattle.hsp_runs.specs.Pricing.{DifferInNumbers, PrintedPricesAnswer, without
 
 -- ---- arcs go by rows without their counts
 
+-- arcs do not depend on counts
 arcs_without : (costs : List CostEntry) (row : Row) (n first : ℕ) (sites : List Site)
     → arcs_from costs row n first sites ≡ arcs_from costs (without_count row) n first sites
 arcs_without costs row n first [] = refl
@@ -34,6 +35,7 @@ arcs_without costs row n first (site ∷ more) =
     ap (λ arcs. arc_to row.handle n first site (cost_of costs row.region site.name) ++ arcs)
     (arcs_without costs row (n + 1) (first + length site.servers) more)
 
+-- nor do all lists of arcs
 lists_without : (costs : List CostEntry) (sites : List Site) (rows : List Row)
     → map (λ row. arcs_from costs row 0 0 sites) rows
     ≡ map (λ row. arcs_from costs row 0 0 sites) (map without_count rows)
@@ -43,11 +45,13 @@ lists_without costs sites (row ∷ rows) =
 
 -- ---- and servers' hosts by hosts without their limits
 
+-- the place of a host does not depend on limits
 place_without : (address : List ℕ) (n : ℕ) (hosts : List Host)
     → position_from (is_at address) n hosts ≡ position_from (is_at address) n (map without_limit hosts)
 place_without address n [] = refl
 place_without address n (host ∷ hosts) = grind (arith, place_without address (n + 1) hosts)
 
+-- a server that stands for none
 no_server : Server
 no_server = record { site = 0; place = 0; id = 0; capacity = 0; host = None }
 
@@ -55,15 +59,18 @@ no_server = record { site = 0; place = 0; id = 0; capacity = 0; host = None }
 module _ (read other-read : building.Inputs) (it other : Instance) (is : IsInstance it) (parts : HasPartsOf read it)
     (other-parts : HasPartsOf other-read other)
     (sites : it.sites ≡ other.sites) (hosts : map without_limit it.hosts ≡ map without_limit other.hosts) where
+  -- an address stands at the same place in both
   same_place : (address : List ℕ)
       → position_from (is_at address) 0 it.hosts ≡ position_from (is_at address) 0 other.hosts
   same_place address =
       place_without address 0 it.hosts ∙ ap (position_from (is_at address) 0) hosts
       ∙ sym (place_without address 0 other.hosts)
 
+  -- both have as many servers
   many : length it.servers ≡ length other.servers
   many = parts.server_count ∙ ap Rattle.hsp_instance.specs.Instance.servers_of sites ∙ sym other-parts.server_count
 
+  -- a server stands on the same host in both
   same_host : (i : ℕ) → i < length it.servers
       → (slice_index_or it.servers i no_server).host ≡ (slice_index_or other.servers i no_server).host
   same_host i l =
@@ -88,6 +95,7 @@ module _ (read other-read : building.Inputs) (it other : Instance) (is : IsInsta
       get_there : (xs : List Server) (i : ℕ) (x y : Server) → slice_get xs i ≡ Some x → slice_get xs i ≡ Some y → x ≡ y
       get_there xs i x y a b = sym (get_or_from_slice_get xs i x no_server a) ∙ get_or_from_slice_get xs i y no_server b
 
+  -- so do all servers
   pub same_hosts : server_hosts_in it ≡ server_hosts_in other
   same_hosts =
       ext_get_or None (server_hosts_in it) (server_hosts_in other)
@@ -102,9 +110,11 @@ module _ (read other-read : building.Inputs) (it other : Instance) (is : IsInsta
 module _ (inputs others : Inputs) (it other : Instance) (read other-read : building.Inputs) (holds : Holds inputs read)
     (other-holds : Holds others other-read)
     (of : BuiltOf read it) (other-of : BuiltOf other-read other) (differ : DifferInNumbers inputs others it other) where
+  -- both have the same costs
   same_costs : read.costs ≡ other-read.costs
   same_costs = let a = holds.costs in let b = rw (← differ.costs) at other-holds.costs in cc (a, b)
 
+  -- both have the same arcs
   pub same_arcs : it.arcs ≡ other.arcs
   same_arcs =
       of.arcs ∙ lists_without read.costs it.sites it.rows
@@ -113,6 +123,7 @@ module _ (inputs others : Inputs) (it other : Instance) (read other-read : build
       differ.sites
       ∙ sym (lists_without other-read.costs other.sites other.rows) ∙ sym other-of.arcs
 
+-- printed prices bound the plans of inputs that differ in numbers only
 pub printed_prices_answer : ReadingsAreHandles → PrintedPricesAnswer
 printed_prices_answer handles inputs others it other octets plan defined other-defined differ spelled =
     let (read, holds, built) = is_read handles inputs it defined in

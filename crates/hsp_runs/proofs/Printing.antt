@@ -29,6 +29,7 @@ site_more_at out out' all handle i ss (Some s) at e told =
     rw (sym same)
     (append_assoc out (site_line handle s) (site_lines handle (drop (i + 1) ss)) ∙ rw (drop_at ss i s at) at told)
 
+-- one line more is printed
 pub site_more : (out out' all handle : List ℕ) (i : ℕ) (ss : List Site)
     → option_map (λ site. out ++ site_line handle site) (slice_get ss i) ≡ Some out' →
     out ++ site_lines handle (drop i ss) ≡ all → out' ++ site_lines handle (drop (i + 1) ss) ≡ all

@@ -11,16 +11,19 @@ use Rattle.hsp_runs.specs.Accepted.{plan_in, shortage_in}
 use Rattle.hsp_runs.specs.Report.{report_of}
 use Rattle.hsp_runs.specs.declared.report.ReportKind.TheVariants.{Load, Region, Shortage}
 
+-- a report of loads is that of its plan
 pub loads_shown : (it : Instance) (claim : Claim) (plan : Best) (text : List ℕ) → plan_in claim ≡ Ok plan
     → IsLoadReport it claim text → Ok text ≡ report_of Load it claim
 loads_shown it (best c) plan text is report = ap (λ t. Ok t) report
 loads_shown it (short c) plan text is report = cc
 
+-- a report of regions is that of its plan
 pub regions_shown : (it : Instance) (claim : Claim) (plan : Best) (text : List ℕ) → plan_in claim ≡ Ok plan
     → IsRegionReport it claim text → Ok text ≡ report_of Region it claim
 regions_shown it (best c) plan text is report = ap (λ t. Ok t) report
 regions_shown it (short c) plan text is report = cc
 
+-- a report of a shortage is that of its set
 pub shortage_shown : (it : Instance) (claim : Claim) (set : Short) (text : List ℕ) → shortage_in claim ≡ Ok set
     → IsShortageReport it claim text → Ok text ≡ report_of Shortage it claim
 shortage_shown it (best c) set text is report = cc

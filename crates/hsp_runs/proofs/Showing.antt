@@ -61,11 +61,13 @@ plan_valid n c holds = record {
   host_prices = holds.host_prices;
 }
 
+-- a short set that holds is valid
 set_valid : (n : Network) (c : Short) → HoldsShort n c → IsValidSet n c
 set_valid n c holds =
     let less : IsShort n (is_one_of c.rows) = rw (sym holds.capacity, sym holds.demand) holds.less in
     record { there = holds.there; is_short = less; demand = holds.demand; capacity = holds.capacity }
 
+-- a certificate that holds is valid
 pub holds_valid : (n : Network) (claim : Claim) → Holds n claim → IsValid n claim
 holds_valid n (best c) holds = plan_valid n c holds
 holds_valid n (short c) holds = set_valid n c holds

@@ -47,6 +47,7 @@ use Rattle.hsp_runs.proofs.ShownLog.{refused, shown_by, shown_of}
 -- fronts that hold the shares of a plan answer by them
 module _ (it : Instance) (fronts : ℕ) (x : Plan) (held : ℕ → Plan)
     (are : (front : ℕ) → front < fronts → IsSame (held front) (share_of fronts front x)) where
+  -- an event is answered by the shares of the plan
   same_event : (earlier : List Event) (event : Event)
       → event_answer it fronts held earlier event ≡ event_answer it fronts (shares_of fronts x) earlier event
   same_event earlier event = elim (cases_lt event.front fronts) [
@@ -58,6 +59,7 @@ module _ (it : Instance) (fronts : ℕ) (x : Plan) (held : ℕ → Plan)
     | inr past ↦ rw (le-ltb event.front fronts past) refl
   ]
 
+  -- so are all events
   same_events : (earlier events : List Event)
       → event_answers_after it fronts held earlier events
       ≡ event_answers_after it fronts (shares_of fronts x) earlier events
@@ -67,6 +69,7 @@ module _ (it : Instance) (fronts : ℕ) (x : Plan) (held : ℕ → Plan)
 
 -- ---- the log
 
+-- what fronts answer is by their shares
 answers_events : (it : Instance) (x : Plan) (fronts : ℕ) (old new : Tables) → AreFrontsOf it x fronts old
     → (form : _) (rows : List Fields) (lines : List (List ℕ)) (sums : FrontSums)
     → AnswersEvents old new form rows lines sums
@@ -79,6 +82,7 @@ answers_events it x fronts old new are form rows lines sums (events, spelled, li
     let counted : sums ≡ front_sums_of (front_answers it fronts x events) = rw given at sums_are in
     (events, spelled, printed, counted)
 
+-- a run of fronts is that of a log by shares
 log_at : (inputs : Inputs) (octets : List ℕ) (fronts : ℕ) → 0 < fronts
     → (run : Streams) (answer : Result FrontSums Fault) (accepted : Accepted) (c : Best)
     → IsAcceptedOf inputs octets (Ok accepted) → accepted.certificate ≡ best c
@@ -97,6 +101,7 @@ log_at inputs octets fronts some run answer accepted c is kind (old, new, are, e
 
 -- ---- the number of fronts
 
+-- a word that was read is the decimal of a number of fronts
 number_of : (word : List ℕ) (fronts : ℕ) → fronts_at word ≡ Ok fronts
     → (word ≡ decimal fronts) × (0 < fronts) × (fronts ≤ MOST_FRONTS)
 number_of word fronts is =
@@ -104,6 +109,7 @@ number_of word fronts is =
     let whole = whole_is MOST_FRONTS word fronts (omega arith) read.1 in
     (whole.0, read.0, whole.1)
 
+-- a bad word has its own fault
 fault_of : (word : List ℕ) (fault : Fault) → fronts_at word ≡ Err fault → fault ≡ BadFronts
 fault_of word fault is = by (whole_within MOST_FRONTS word) is
   where
@@ -112,6 +118,7 @@ fault_of word fault is = by (whole_within MOST_FRONTS word) is
 
 -- ---- what is shown
 
+-- a run of a word's fronts shows what the definition says
 counted : (word : List ℕ) (inputs : Inputs) (octets : List ℕ) (run : Streams) (answer : Result FrontSums Fault)
     (fronts : ℕ) → fronts_at word ≡ Ok fronts
     → IsRefused run answer ⊎ ShowsPlanOf inputs octets (IsLogAt fronts run answer)
@@ -121,6 +128,7 @@ counted word inputs octets run answer fronts is (inr shows) =
     let number = number_of word fronts is in
     inr (fronts, number.0, number.1, number.2, shows)
 
+-- a bad word stops the run before it wrote anything
 pub fronts_refused : {S : Type 0} (word : List ℕ) (run : Streams) (fault : Fault) (answer : Result S Fault)
     → fronts_at word ≡ Err fault → run.after ≡ run.before
     → answer ≡ Err fault → IsRefused run answer
@@ -130,6 +138,7 @@ fronts_refused word run fault answer is same of =
     apart : (own : LogFault) → BadFronts ≢ Log own
     apart own e = cc (e)
 
+-- runs of fronts show what the law says
 pub fronts_logs_show : ReadingsAreHandles → FrontsLogsShow
 fronts_logs_show handles word inputs octets run answer is = by (fronts_at word) refl is
   where
@@ -141,6 +150,7 @@ fronts_logs_show handles word inputs octets run answer is = by (fronts_at word) 
         (shown_of (so_many fronts) inputs octets run answer (IsLogAt fronts run answer)
         (log_at inputs octets fronts ((number_of word fronts read).1) run answer) handles answered)
 
+-- so do runs by an accepted plan
 pub fronts_shown_where : (word : List ℕ) (inputs : Inputs) (octets : List ℕ) (fronts : ℕ) (accepted : Accepted)
     (run : Streams) (answer : Result FrontSums Fault)
     → fronts_at word ≡ Ok fronts → IsAcceptedOf inputs octets (Ok accepted) → Defines inputs accepted.instance

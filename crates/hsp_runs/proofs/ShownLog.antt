@@ -57,6 +57,7 @@ pub refused : {S : Type 0} (run : Streams) (fault : Fault) (answer : Result S Fa
     → IsRefused run answer
 refused run fault answer apart is = record { unwritten = is.0; fault = fault; is = is.1; before = apart }
 
+-- running out of memory is no fault of the log
 pub of_memory : (of : LogFault) → OutOfMemory ≢ Log of
 of_memory of e = cc (e)
 
@@ -101,6 +102,7 @@ module _ {S : Type 0} (staff : Staff S) (inputs : Inputs) (octets : List ℕ) (r
 
 -- ---- a dispatcher
 
+-- the same plans answer entries in the same way
 answers_entries : (it : Instance) (x y left : Plan) → IsSame x y
     → (form : _) (rows : List Fields) (lines : List (List ℕ)) (sums : FrontSums)
     → AnswersEntries it x left form rows lines sums → AnswersEntries it y left form rows lines sums
@@ -110,6 +112,7 @@ answers_entries it x y left same form rows lines sums (entries, are, lines_are, 
     let counted : sums ≡ all_of (sums_of (answers it y entries)) = rw given at sums_are in
     (entries, are, of_plan, counted, λ row site. rest_is row site ∙ rest_same it x y entries same row site)
 
+-- a dispatcher's run is that of a log by the plan
 log_is : (inputs : Inputs) (octets : List ℕ) (run : Streams) (answer : Result LogSums Fault) (accepted : Accepted)
     (c : Best)
     → IsAcceptedOf inputs octets (Ok accepted) → accepted.certificate ≡ best c
@@ -127,10 +130,12 @@ log_is inputs octets run answer accepted c is kind (held, left, same, end) =
       by_hash = (logs_go_by_hash inputs octets accepted c is kind).plan;
     }
 
+-- runs of a dispatcher show what the law says
 pub dispatched_logs_show : ReadingsAreHandles → DispatchedLogsShow
 dispatched_logs_show handles inputs octets run answer is =
     shown_of a_dispatcher inputs octets run answer (IsLogOf run answer) (log_is inputs octets run answer) handles is
 
+-- so do runs by an accepted plan
 pub shown_where : (inputs : Inputs) (octets : List ℕ) (accepted : Accepted) (run : Streams)
     (answer : Result LogSums Fault) → IsAcceptedOf inputs octets (Ok accepted)
     → Defines inputs accepted.instance → Holds (network_of accepted.instance) accepted.certificate

@@ -23,8 +23,8 @@ pub fn dispatched_logs_show()
 
 /// The prices of a printed plan speak of all inputs that differ from its own in counts, capacities and limits only. No
 /// plan for these costs less than what their rows pay beside what their servers and hosts take. So room for one query
-/// more at a server saves at most the server's price, room for one less costs at least that, and one query more in a row
-/// costs at least the row's price.
+/// more at a server saves at most the server's price, room for one less costs at least that, and one query more in a
+/// row costs at least the row's price.
 pub fn printed_prices_answer()
     ensures { PrintedPricesAnswer }
 {

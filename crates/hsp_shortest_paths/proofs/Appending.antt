@@ -5,6 +5,7 @@ use Rattle.std.proofs.lemmas.Bool.{cases_eq, cases_lt}
 use Rattle.std.proofs.lemmas.List.{get_or_append_left, get_or-append-add, get_or-replicate, length-replicate}
 use Rattle.hsp_shortest_paths.specs.Layout.{Appends}
 
+-- nothing was appended yet
 pub appends_none : (old : List ℕ) (f : ℕ → ℕ) → Appends old old 0 f
 appends_none old f = record { many = omega arith; kept = λ k l. refl; added = λ k l. absurd (omega arith) }
 

@@ -10,12 +10,15 @@ use Rattle.hsp_shortest_paths.proofs.Searching.{changed, root_only}
 
 module _ (n : Arcs) (f : Flow) (t : SearchTree) (root : ℕ) (sound : Sound n f (λ v. slice_index f.price.now v))
     (found : Found n f t root) where
+  -- some flow came to the sink
   pub sink_some : 0 < slice_index t.amount.now 0
   sink_some = found.search.some 0 found.sink_in found.sink_near
 
+  -- no more came to the sink than the root has to send
   pub sink_low : slice_index t.amount.now 0 ≤ slice_index f.excess.now root
   sink_low = found.search.no_more 0 found.sink_in found.sink_near
 
+  -- the search leaves a tree that is tight under the raised prices
   pub tree_by : IsTree n f t root (raised f t)
   tree_by = record {
     predecessors_many = found.search.covers.predecessors_many;
@@ -57,6 +60,7 @@ module _ (n : Arcs) (f : Flow) (t : SearchTree) (root : ℕ) (sound : Sound n f 
     | inr more ↦ omega (arith, old v l)
   ]
 
+-- prices within bounds are within wider ones
 pub priced_more : (n : Arcs) (f : Flow) (t : SearchTree) (root up down up' down' : ℕ) → Priced n f t root up down
     → up ≤ up' → down ≤ down' →
     Priced n f t root up' down'
@@ -80,6 +84,7 @@ priced_offered n f t t' held held' o root up down in' it p apart = elim (cases_l
   | inr more ↦ rw (it.kept more).1 p
 ]
 
+-- at first only the root was reached
 pub spread_begun : (n : Arcs) (f : Flow) (t : SearchTree) (held : ℕ → Option ℕ) (root amount : ℕ)
     → Begun t held root amount →
     length t.distance.now ≡ nodes n → Spread n f t root 0
@@ -97,6 +102,7 @@ spread_begun n f t held root amount b many =
           };
     }
 
+-- prices that spread in some turns spread in more
 pub spread_later : (n : Arcs) (f : Flow) (t : SearchTree) (root turn later : ℕ) → Spread n f t root turn → turn ≤ later
     → Spread n f t root later
 spread_later n f t root turn later s l =

@@ -14,6 +14,7 @@ Kind net k =
     ⊎ (((j : ℕ) × (j < servers_of net) × (k ≡ hosts_of net + j))
     ⊎ ((a : ℕ) × (a < length net.sources) × (k ≡ base_of net + a)))
 
+-- each arc leads from a server, from a host or from a source
 kind : (net : Transport) (k : ℕ) → k < base_of net + length net.sources → Kind net k
 kind net k l = elim (cases_lt k (hosts_of net)) [
   | inl host ↦ inl host
@@ -26,6 +27,7 @@ kind net k l = elim (cases_lt k (hosts_of net)) [
 module _ (net : Transport) (whole : IsNetwork net) (small : IsSmall net)
     (tails heads costs capacities supplies : List ℕ)
     (arcs : ArcsOf net tails heads costs capacities supplies) where
+  -- the node of a host comes before those of servers
   node-low : (j : ℕ) → host_node (host_of net j) ≤ hosts_of net
   node-low j = node_low (host_of net j) (hosts_of net) (λ h e. whole.hosts_in j h e)
 
@@ -38,6 +40,7 @@ module _ (net : Transport) (whole : IsNetwork net) (small : IsSmall net)
     dear : (greatest_cost : ℕ) → ((a : ℕ) → a < length net.sources → slice_index net.costs a ≤ greatest_cost)
         → slice_index costs k ≤ greatest_cost
 
+  -- both ends of each arc are nodes
   ends : (k : ℕ) → k < length tails → Ends k
   ends k l = elim (kind net k (omega (arith, arcs.tails.many))) [
     | inl host ↦ record {
@@ -70,6 +73,7 @@ module _ (net : Transport) (whole : IsNetwork net) (small : IsSmall net)
     })
   ]
 
+  -- the lists are those of a graph
   pub graph_of : Graph (length supplies) tails heads costs capacities supplies
   graph_of = record {
     heads_many = arcs.heads.many ∙ sym arcs.tails.many;
@@ -80,6 +84,7 @@ module _ (net : Transport) (whole : IsNetwork net) (small : IsSmall net)
     down = λ k l. (ends k l).down;
   }
 
+  -- costs and prices stay within the range of their numbers
   pub scale_of : (greatest_cost price_bound longest_arc : ℕ)
       → ((k : ℕ) → k < length net.sources → slice_index net.costs k ≤ greatest_cost) →
       price_bound ≡ length supplies * greatest_cost → longest_arc ≡ price_bound + greatest_cost

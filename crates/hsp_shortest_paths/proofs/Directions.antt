@@ -9,6 +9,7 @@ pub from_in : (n : Arcs) (k : ℕ) (d : Bool) → k < length n.tails.now → fro
 from_in n k true l = n.graph.tails_in k l
 from_in n k false l = omega (arith, n.graph.tails_in k l, n.graph.down k l)
 
+-- each direction of an arc leads to a node
 pub to_in : (n : Arcs) (k : ℕ) (d : Bool) → k < length n.tails.now → to n k d < nodes n
 to_in n k true l = omega (arith, n.graph.tails_in k l, n.graph.down k l)
 to_in n k false l = n.graph.tails_in k l
@@ -25,6 +26,7 @@ pub gives_raised : (n : Arcs) (f : Flow) (t : SearchTree) (k : ℕ) (d : Bool) �
 gives_raised n f t k true = refl
 gives_raised n f t k false = omega arith
 
+-- a raised price changes what a direction takes by how near its end is
 pub takes_raised : (n : Arcs) (f : Flow) (t : SearchTree) (k : ℕ) (d : Bool) →
     takes n (raised f t) k d ≡ takes n (prices f) k d + (distance t 0 - distance t (to n k d))
 takes_raised n f t k true = omega arith

@@ -12,6 +12,7 @@ use Rattle.hsp_shortest_paths.proofs.Directions.{direction, from_in, to_in}
 use Rattle.hsp_shortest_paths.proofs.Searching.{cases_option, changed, fewer}
 
 module _ (held : ℕ → Option ℕ) (t : SearchTree) (v : ℕ) where
+  -- a node that passes the test is settled
   pub settled_from_test : settled_test held t v ≡ true → Settled held t v
   settled_from_test test =
       let parts = and_parts _ _ test in
@@ -21,6 +22,7 @@ module _ (held : ℕ → Option ℕ) (t : SearchTree) (v : ℕ) where
       none None q = refl
       none (Some d) q = cc
 
+  -- a settled node passes the test
   pub test_from_settled : Settled held t v → settled_test held t v ≡ true
   test_from_settled st = and_from _ _ (rw st.not_held refl) (lt-ltb _ _ st.reached)
 
@@ -32,6 +34,7 @@ still_counted held held' t t' v still = elim (cases_Bool (settled_test held t v)
   | inr out ↦ rw out (omega arith)
 ]
 
+-- where nodes stay settled, they don't become fewer
 pub count_kept : (n : Arcs) (held held' : ℕ → Option ℕ) (t t' : SearchTree)
     → ((v : ℕ) → Settled held t v → Settled held' t' v) →
     settled_count n held t ≤ settled_count n held' t'
@@ -61,6 +64,7 @@ module _ (n : Arcs) (f : Flow) (t : SearchTree) (held : ℕ → Option ℕ) (at 
   module _ (k : ℕ) (d : Bool) (seen' : ℕ → Bool → Type 0)
       (next : (j : ℕ) (c : Bool) → j < length n.tails.now → from n j c ≡ at.node → seen' j c
       → ((j ≡ k) × (c ≡ d)) ⊎ seen j c) where
+    -- the directions seen are the earlier ones and this one
     look_next : (j : ℕ) (c : Bool) → j < length n.tails.now → (from n j c ≡ at.node → seen' j c)
         → ((j ≡ k) × (c ≡ d)) ⊎ (from n j c ≡ at.node → seen j c)
     look_next j c l look = elim (cases_eq (from n j c) at.node) [
@@ -81,6 +85,7 @@ module _ (n : Arcs) (f : Flow) (t : SearchTree) (held : ℕ → Option ℕ) (at 
       };
     }
 
+    -- a direction without room offers nothing
     pub passed : width f k d ≡ 0 → Expanding n f t held at seen'
     passed shut = kept (λ wide. absurd (omega arith))
 
@@ -88,15 +93,19 @@ module _ (n : Arcs) (f : Flow) (t : SearchTree) (held : ℕ → Option ℕ) (at 
   module _ (ready : Ready n f) (k : ℕ) (d : Bool) (arc : k < length n.tails.now) (leaves : from n k d ≡ at.node)
       (wide : 0 < width f k d)
       (o : Offer) (it-is : IsWay n f t at k d o) (far : at.distance + n.longest_arc < top) where
+    -- a way is no shorter than its start
     late : at.distance ≤ o.distance
     late = omega (arith, ready.sound.paid k d arc wide, it-is.exact)
 
+    -- a way is longer by one arc at most
     near : o.distance ≤ at.distance + n.longest_arc
     near = omega (arith, it-is.exact, arc_step n f k d ready.low arc)
 
+    -- the way begins at the node's own distance
     start : distance t (from n k d) ≡ at.distance
     start = rw leaves e.here
 
+    -- the way leads to a node
     node-in : o.to < nodes n
     node-in = rw it-is.enters (to_in n k d arc)
 
@@ -128,15 +137,18 @@ module _ (n : Arcs) (f : Flow) (t : SearchTree) (held : ℕ → Option ℕ) (at 
         (t' : SearchTree) (held' : ℕ → Option ℕ) where
       -- it takes the way
       module _ (w : TakesWay held held' t t' o) (less : o.distance < distance t o.to) where
+        -- nodes that are nearer are not where the way leads
         apart : (v : ℕ) → distance t v ≤ at.distance → v ≢ o.to
         apart v soon q =
             let same : distance t v ≡ distance t o.to = ap (λ m. slice_index t.distance.now m) q in omega (arith, late)
 
+        -- only the node that was reached has another distance
         distances : (distance t' o.to ≡ o.distance) × ((v : ℕ) → v ≢ o.to → distance t' v ≡ distance t v)
         distances =
             changed t.distance.now t'.distance.now o.to o.distance w.distance
             (omega (arith, e.search.covers.distances_many, node-in))
 
+        -- no distance grows
         distance_down : (v : ℕ) → distance t' v ≤ distance t v
         distance_down v =
             elim (cases_eq v o.to) [
@@ -145,18 +157,21 @@ module _ (n : Arcs) (f : Flow) (t : SearchTree) (held : ℕ → Option ℕ) (at 
                   omega (arith, distances.1 v ne)
             ]
 
+        -- only the node that was reached has another amount
         amounts : (slice_index t'.amount.now o.to ≡ o.amount)
             × ((v : ℕ) → v ≢ o.to → slice_index t'.amount.now v ≡ slice_index t.amount.now v)
         amounts =
             changed t.amount.now t'.amount.now o.to o.amount w.amount
             (omega (arith, e.search.covers.amounts_many, node-in))
 
+        -- only the node that was reached has another depth
         depths : (slice_index t'.depth.now o.to ≡ slice_index t.depth.now at.node + 1)
             × ((v : ℕ) → v ≢ o.to → slice_index t'.depth.now v ≡ slice_index t.depth.now v)
         depths =
             changed t.depth.now t'.depth.now o.to _ (rw it-is.start at w.depth)
             (omega (arith, e.search.covers.depths_many, node-in))
 
+        -- only the node that was reached has another predecessor
         predecessors : (slice_index t'.predecessor.now o.to ≡ k)
             × ((v : ℕ) → v ≢ o.to → slice_index t'.predecessor.now v ≡ slice_index t.predecessor.now v)
         predecessors =
@@ -175,6 +190,7 @@ module _ (n : Arcs) (f : Flow) (t : SearchTree) (held : ℕ → Option ℕ) (at 
               },
             )
 
+        -- settled nodes stay settled
         still : (v : ℕ) → Settled held t v → Settled held' t' v
         still v st =
             let ne = apart v (e.search.settled_early v st) in
@@ -213,6 +229,7 @@ module _ (n : Arcs) (f : Flow) (t : SearchTree) (held : ℕ → Option ℕ) (at 
               exact = rw is (omega (arith, distances.1 _ same, exact));
             }
 
+        -- the node was reached along the arc
         new_arc : Reached n f t' at.distance o.to d
         new_arc =
             reached_by o.to k d predecessors.0 arc (sym it-is.enters) (omega (arith, start))
@@ -227,6 +244,7 @@ module _ (n : Arcs) (f : Flow) (t : SearchTree) (held : ℕ → Option ℕ) (at 
             (omega (arith, amounts.1 v ne, it.path.carried)) (omega (arith, amounts.1 v ne, it.path.fits))
             (omega (arith, distances.1 v ne, it.exact))
 
+        -- the search goes on with the shorter distance
         lowered : Search n f t' held' at.root at.distance (λ j c. from n j c ≡ at.node → seen' j c)
         lowered = record {
           labels = record {
@@ -291,6 +309,7 @@ module _ (n : Arcs) (f : Flow) (t : SearchTree) (held : ℕ → Option ℕ) (at 
               ];
         }
 
+        -- a shorter way was taken, and the node is looked at further
         taken : Expanding n f t' held' at seen'
         taken = record {
           search = lowered;
@@ -316,6 +335,7 @@ module _ (n : Arcs) (f : Flow) (t : SearchTree) (held : ℕ → Option ℕ) (at 
             away : at.node ≢ o.to
             away = apart at.node (omega (arith, e.here))
 
+      -- whether the way is taken or not, the node is looked at further
       pub way_offered : Offered held held' t t' o → Expanding n f t' held' at seen'
       way_offered it = elim (cases_lt o.distance (distance t o.to)) [
         | inl less ↦ taken (it.took less) less

@@ -6,6 +6,7 @@ use Rattle.hsp_shortest_paths.specs.Layout.{Appends, TailsOf, HeadsOf, CostsOf, 
 use Rattle.hsp_shortest_paths.specs.Layout.{first_of, hosts_of, servers_of, host_node}
 
 module _ (net : Transport) where
+  -- the tails of all arcs, layer by layer
   pub tails_of : (nodes tails : List ℕ) → Appends [] nodes (first_of net - 1) (λ k. 1 + k) →
       Appends nodes tails (length net.sources) (λ k. first_of net + slice_index net.sources k) → TailsOf net tails
   tails_of nodes tails a b =
@@ -17,6 +18,7 @@ module _ (net : Transport) where
         arc = λ k l. ap (λ n. slice_index tails (n + k)) (sym many) ∙ b.added k l;
       }
 
+  -- the heads of all arcs, layer by layer
   pub heads_of : (hosts servers heads : List ℕ) → length hosts ≡ hosts_of net
       → ((h : ℕ) → h < hosts_of net → slice_index hosts h ≡ 0) →
       length net.hosts ≡ servers_of net →
@@ -34,6 +36,7 @@ module _ (net : Transport) where
         arc = λ k l. ap (λ n. slice_index heads (n + k)) (sym base) ∙ b.added k (omega arith);
       }
 
+  -- the costs of all arcs, of which only those of sources are not zero
   pub costs_of : (zeros costs : List ℕ) → length zeros ≡ base_of net
       → ((k : ℕ) → k < base_of net → slice_index zeros k ≡ 0) →
       length net.costs ≡ length net.sources → Appends zeros costs (length net.costs) (λ k. slice_index net.costs k)
@@ -44,6 +47,7 @@ module _ (net : Transport) where
     arc = λ k l. ap (λ n. slice_index costs (n + k)) (sym many) ∙ a.added k (omega arith);
   }
 
+  -- the capacities of all arcs: limits, capacities, and no bound
   pub capacities_of : (servers residual_capacity capacities : List ℕ)
       → Appends net.limits servers (length net.capacities) (λ j. slice_index net.capacities j) →
       length residual_capacity ≡ length net.sources
@@ -59,6 +63,7 @@ module _ (net : Transport) where
         arc = λ k l. ap (λ n. slice_index capacities (n + k)) (sym base) ∙ b.added k (omega arith) ∙ all k l;
       }
 
+  -- the supplies of all nodes, of which only sources have one
   pub supplies_of : (zeros supplies : List ℕ) → length zeros ≡ first_of net
       → ((v : ℕ) → v < first_of net → slice_index zeros v ≡ 0) →
       Appends zeros supplies (length net.demands) (λ i. slice_index net.demands i) → SuppliesOf net supplies

@@ -39,6 +39,7 @@ pub seen_none : (n : Arcs) (v last : ℕ) (along : Bool) → IsLast (ends n alon
 seen_none n v last along is k d l here (inl old) = old
 seen_none n v last along is k d l here (inr new) = absurd (is.none_after k new.1 l (rw new.0 at here))
 
+-- a chain that was walked to its end has shown each arc
 pub seen_all : (along d : Bool) (k last : ℕ) → last ≤ 0 → Looked along k d → Seen along last k d
 seen_all true d k last none look = inr (look refl, omega arith)
 seen_all false true k last none look = inl (refl, refl)

@@ -19,6 +19,7 @@ pub node_low : (o : Option ℕ) (n : ℕ) → ((h : ℕ) → o ≡ Some h → h 
 node_low None n inside = omega arith
 node_low (Some h) n inside = omega (arith, inside h refl)
 
+-- an amount counts for a host just where its server stands on that host
 pub node_only : (o : Option ℕ) (h x : ℕ) → only (host_node o) (1 + h) x ≡ (if is_on o h then x else 0)
 node_only None h x = only_there 0 (1 + h) x (λ e. omega arith)
 node_only (Some g) h x = elim (cases_eq g h) [
@@ -26,6 +27,7 @@ node_only (Some g) h x = elim (cases_eq g h) [
   | inr ne ↦ only_there (g + 1) (1 + h) x (λ q. ne (omega arith)) ∙ sym (only_there g h x ne)
 ]
 
+-- the price of a server's host is that of the host's node
 pub node_price : (o : Option ℕ) (price q : List ℕ) → slice_index price 0 ≡ 0
     → ((h : ℕ) → o ≡ Some h → slice_index q h ≡ slice_index price (1 + h)) →
     at_host o (λ h. slice_index q h) ≡ slice_index price (host_node o)

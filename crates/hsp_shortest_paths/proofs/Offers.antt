@@ -6,6 +6,7 @@ use Rattle.hsp_shortest_paths.specs.Search.{Expanding, IsApart, IsWay, Offer, Of
 use Rattle.hsp_shortest_paths.proofs.Directions.{to_in}
 use Rattle.hsp_shortest_paths.proofs.Arrival.{priced_offered}
 
+-- prices stay within bounds at the node that is looked at
 pub apart_here : (n : Arcs) (f : Flow) (t : SearchTree) (held : ℕ → Option ℕ) (at : Visit) (seen : ℕ → Bool → Type 0)
     (up down : ℕ) →
     Expanding n f t held at seen → Priced n f t at.root up down → IsApart f at.root at.node at.distance up down

@@ -63,9 +63,11 @@ all_forgotten held held' xs paired kept gone v = elim (cases_option (held' v)) [
   | inr w ↦ gone v w.0 (paired v w.0 (kept v w.0 w.1))
 ]
 
+-- where no node is held, the heap pairs with nothing
 pub none_paired : (held : ℕ → Option ℕ) (xs : List (Reverse (ℕ × ℕ))) → ((v : ℕ) → held v ≡ None) → Pairs held xs
 none_paired held xs none v key h = absurd (let n = none v in cc)
 
+-- what does not come before has a key that is no greater
 not_after : (x y : ℕ) (o : Ordering) → is_lt (ordering_then (nat_cmp y x) o) ≡ false → x ≤ y
 not_after x y o h = elim (cases_lt y x) [
   | inl less ↦ absurd (let t : is_lt (ordering_then (nat_cmp y x) o) ≡ true = rw (lt-ltb y x less) refl in cc)
@@ -111,6 +113,7 @@ still_held keys node v key l h =
       | inr ne ↦ (sym (c.others v ne) ∙ h, ne)
     ]
 
+-- a key that may be lowered is that of a held node
 pub lowered_in : (keys : List (Option ℕ)) (node key : ℕ)
     → IsSomeAnd (slice_index_or keys node None) (λ present. key ≤ present) → node < length keys
 lowered_in keys node key h = elim (cases_lt node (length keys)) [

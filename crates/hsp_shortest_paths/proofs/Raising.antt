@@ -8,6 +8,7 @@ use Rattle.hsp_shortest_paths.proofs.Directions.{gives_raised, takes_raised}
 -- after a search no reduced cost is negative under the raised prices
 module _ (n : Arcs) (f : Flow) (t : SearchTree) (sound : Sound n f (λ v. slice_index f.price.now v))
     (relaxed : AreRelaxed n f t) where
+  -- under raised prices the flow stays optimal
   paid_raised : AreOptimal n f (raised f t)
   paid_raised k d l wide =
       let g = gives_raised n f t k d in
@@ -18,6 +19,7 @@ module _ (n : Arcs) (f : Flow) (t : SearchTree) (sound : Sound n f (λ v. slice_
         | inr more ↦ omega arith
       ]
 
+  -- the flow stays sound under raised prices
   pub sound_raised : Sound n f (raised f t)
   sound_raised = record { flow = sound.flow; paid = paid_raised; sink_free = omega (arith, sound.sink_free) }
 

@@ -6,6 +6,7 @@ use Rattle.hsp_shortest_paths.specs.Frontier.{Changes, IsLeast}
 use Rattle.hsp_shortest_paths.specs.Residual.{Flow, Arcs, SearchTree, distance, from, nodes, width}
 use Rattle.hsp_shortest_paths.specs.Search.{Begun, Closed, Found, Search, Settled, top}
 
+-- a key is there or not
 pub cases_option : (o : Option ℕ) → (o ≡ None) ⊎ ((d : ℕ) × (o ≡ Some d))
 cases_option None = inl refl
 cases_option (Some d) = inr (d, refl)

@@ -16,10 +16,12 @@ use Rattle.hsp_shortest_paths.proofs.Totals.{by_key, any_at, only_when}
 use Rattle.hsp_transport.proofs.Duality.{split_host}
 use Rattle.hsp_shortest_paths.proofs.Modelling.{server_flow, host_flow, source_flow, arc_residual}
 
+-- the node of a server's host
 node_of : (o : Option ℕ) (h : ℕ) → is_on o h ≡ true → host_node o ≡ 1 + h
 node_of None h e = absurd cc
 node_of (Some g) h e = let q : g ≡ h = eqb-true g h e in omega arith
 
+-- a server on no host leads straight to the sink
 none_of : (o : Option ℕ) → is_none o ≡ true → host_node o ≡ 0
 none_of None e = refl
 none_of (Some g) e = absurd cc

@@ -19,12 +19,14 @@ module _ (n : Arcs) (f : Flow)
     → slice_index f.price.now (slice_index n.tails.now k) ≤ slice_index n.costs.now k)
     (price-sink : slice_index f.price.now 0 ≡ 0)
     (excess-all : (v : ℕ) → v < nodes n → slice_index f.excess.now v ≡ slice_index n.supplies.now v) where
+  -- without flow nothing goes through a node
   through_none : (ends : List ℕ) (v : ℕ) → through ends f.flows.now v ≡ 0
   through_none ends v =
       through_is ends f.flows.now v
       ∙ sum_below_zero (length f.flows.now) (λ k. only (slice_index ends k) v (slice_index f.flows.now k))
       (λ k l. ap (only (slice_index ends k) v) (flows-zero k (omega arith)) ∙ only_zero (slice_index ends k) v)
 
+  -- no flow with the first prices is sound
   pub sound_start : Sound n f (λ v. slice_index f.price.now v)
   sound_start = record {
     flow = record {
@@ -56,16 +58,19 @@ first_more n tails costs price least prices it = record {
 }
 
 module _ (n : Arcs) (price : List ℕ) (prices : AreInitialPotentials (nodes n) n.tails.now n.costs.now price) where
+  -- the first price of a node is no more than the cost of any arc from it
   pub first_low : (k : ℕ) → k < length n.tails.now
       → slice_index price (slice_index n.tails.now k) ≤ slice_index n.costs.now k
   first_low k l = (prices.each (slice_index n.tails.now k) (n.graph.tails_in k l)).below k l refl
 
+  -- the first price of the sink is zero
   pub first_sink : 0 < nodes n → slice_index price 0 ≡ 0
   first_sink some = elim (prices.each 0 some).attained [
     | inl none ↦ none.1
     | inr it ↦ absurd (omega (arith, it.2, n.graph.down it.0 it.1))
   ]
 
+  -- the first prices are within the bound
   pub first_limit : (v : ℕ) → v < nodes n → slice_index price v ≤ n.price_bound
   first_limit v l =
       let one : 1 * n.greatest_cost ≤ nodes n * n.greatest_cost = let h : 1 ≤ nodes n = omega arith in

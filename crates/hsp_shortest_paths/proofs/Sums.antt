@@ -34,6 +34,7 @@ term_within (suc n) f i l = elim (cases_eq n i) [
 ]
 
 module _ (ends flows : List ℕ) (e y v : ℕ) (l : e < length flows) where
+  -- a sum over arcs changes by what one arc's flow changes
   pub through_set : through ends (set flows e y) v + only (slice_index ends e) v (slice_index flows e)
       ≡ through ends flows v + only (slice_index ends e) v y
   unfolding through
@@ -49,21 +50,26 @@ module _ (ends flows : List ℕ) (e y v : ℕ) (l : e < length flows) where
       ap (λ n. if slice_index ends e == v then n else 0) (get_or-set_same flows e y 0 l) in
       omega arith
 
+-- an amount in two parts counts in two parts
 pub only_split : (w v m n : ℕ) → only w v (m + n) ≡ only w v m + only w v n
 only_split w v m n =
     elim (w == v) as (λ t. (if t then m + n else 0) ≡ (if t then m else 0) + (if t then n else 0))
     [ true ↦ refl | false ↦ refl ]
 
+-- an amount counts at its own node
 pub only_here : (w v n : ℕ) → w ≡ v → only w v n ≡ n
 only_here w v n e = rw (eq-eqb w v e)
 
+-- an amount does not count at another node
 pub only_there : (w v n : ℕ) → w ≢ v → only w v n ≡ 0
 only_there w v n ne = rw (ne_eqb w v ne)
 
+-- no amount counts nowhere
 pub only_zero : (w v : ℕ) → only w v 0 ≡ 0
 only_zero w v = elim (cases_eq w v) [ inl e ↦ only_here w v 0 e | inr ne ↦ only_there w v 0 ne ]
 
 module _ (ends flows : List ℕ) (e y v : ℕ) (l : e < length flows) where
+  -- more flow on an arc is more through its end
   pub through_more : through ends (set flows e (slice_index flows e + y)) v
       ≡ through ends flows v + only (slice_index ends e) v y
   through_more =
@@ -73,6 +79,7 @@ module _ (ends flows : List ℕ) (e y v : ℕ) (l : e < length flows) where
         only_split (slice_index ends e) v (slice_index flows e) y,
       )
 
+  -- less flow on an arc is less through its end
   pub through_less : y ≤ slice_index flows e
       → through ends (set flows e (slice_index flows e - y)) v + only (slice_index ends e) v y ≡ through ends flows v
   through_less m =

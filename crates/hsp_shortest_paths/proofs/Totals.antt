@@ -7,6 +7,7 @@ use Rattle.hsp_shortest_paths.specs.Sums.{through}
 use Rattle.hsp_shortest_paths.proofs.Sums.{only_here, only_split, only_there, only_zero, sum_below_same}
 pub use Rattle.hsp_transport.proofs.Summing.{sum_below_zero, sum_below_one, sum_below_add}
 
+-- a sum over numbers goes in two parts
 pub sum_split : (a n : ℕ) (f : ℕ → ℕ) → sum_below (a + n) f ≡ sum_below a f + sum_below n (λ k. f (a + k))
 sum_split a zero f =
     let e : a + 0 ≡ a = omega arith in
@@ -55,11 +56,13 @@ only_when n key f set v = elim (cases_Bool (set v)) [
   ]))
 ]
 
+-- what goes through a node is a sum over the numbers of arcs
 pub through_is : (ends flows : List ℕ) (v : ℕ)
     → through ends flows v ≡ sum_below (length flows) (λ k. only (slice_index ends k) v (slice_index flows k))
 unfolding through
 through_is ends flows v = refl
 
+-- moving both numbers by as much changes nothing
 pub only_shift : (c a b x : ℕ) → only (c + a) (c + b) x ≡ only a b x
 only_shift c a b x = elim (cases_eq a b) [
   | inl e ↦ only_here (c + a) (c + b) x (ap (λ n. c + n) e) ∙ sym (only_here a b x e)
@@ -79,6 +82,7 @@ pub none_ends : (n : ℕ) (end f : ℕ → ℕ) (v : ℕ) → ((k : ℕ) → k <
     → sum_below n (λ k. only (end k) v (f k)) ≡ 0
 none_ends n end f v h = sum_below_zero n (λ k. only (end k) v (f k)) (λ k l. only_there (end k) v (f k) (h k l))
 
+-- where one arc only ends at a node, its flow is all that comes there
 pub one_ends : (n : ℕ) (end f : ℕ → ℕ) (v i : ℕ) → i < n → end i ≡ v → ((k : ℕ) → k < n → k ≢ i → end k ≢ v)
     → sum_below n (λ k. only (end k) v (f k)) ≡ f i
 one_ends n end f v i l e h =

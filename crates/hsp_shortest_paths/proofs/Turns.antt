@@ -21,6 +21,7 @@ far_fits turn nodes longest_arc now near top l early n small =
     mul-le-mul_right longest_arc h in
     omega (arith, add-mul turn 2 longest_arc)
 
+-- the search begins at a root that has flow to send
 pub begun : (n : Arcs) (f : Flow) (t : SearchTree) (held : ℕ → Option ℕ) (root : ℕ) → Covers n t → root < nodes n
     → root ≢ 0 →
     0 < slice_index f.excess.now root → Begun t held root (slice_index f.excess.now root) → Running n f t held root 0

@@ -16,12 +16,15 @@ module _ (n : Arcs) (f f' : Flow) (k amount x : ℕ) (lf : k < length f.flows.no
     (price : f'.price.now ≡ f.price.now) (excess : f'.excess.now ≡ f.excess.now)
     (residual_capacity : f'.residual_capacity.now ≡ set f.residual_capacity.now k x)
     (flows : f'.flows.now ≡ set f.flows.now k (slice_index n.capacities.now k - x)) where
+  -- the flow of the arc is what its room lacks of its capacity
   flow-is : slice_index f'.flows.now k ≡ slice_index n.capacities.now k - x
   flow-is = rw flows (get_or-set_same f.flows.now k _ 0 lf)
 
+  -- the room of the arc is what was set
   residual_capacity-is : slice_index f'.residual_capacity.now k ≡ x
   residual_capacity-is = rw residual_capacity (get_or-set_same f.residual_capacity.now k _ 0 lr)
 
+  -- a changed arc pushes the amount, where the sums at its ends change so
   sent_by : (d : Bool) → x ≤ slice_index n.capacities.now k → width f' k d + amount ≡ width f k d →
       ((v : ℕ) → through n.tails.now f'.flows.now v + through n.heads.now f.flows.now v + only (to n k d) v amount
       ≡ through n.tails.now f.flows.now v + through n.heads.now f'.flows.now v + only (from n k d) v amount)
@@ -38,6 +41,7 @@ module _ (n : Arcs) (f f' : Flow) (k amount x : ℕ) (lf : k < length f.flows.no
     excess = excess;
   }
 
+  -- the amount is pushed along the arc, in its direction
   pub sent : (d : Bool) → amount ≤ width f k d
       → x
       ≡ (if d then slice_index f.residual_capacity.now k - amount
@@ -60,6 +64,7 @@ module _ (n : Arcs) (f f' : Flow) (k amount x : ℕ) (lf : k < length f.flows.no
 
 -- the widths of an arc's two arcs
 module _ (n : Arcs) (f f' : Flow) (k : ℕ) (d : Bool) (amount : ℕ) (s : Pushes n f f' k d amount) where
+  -- the other arcs have the same room
   width_same : (j : ℕ) (e : Bool) → j ≢ k → width f' j e ≡ width f j e
   width_same j true ne = s.residual_same j ne
   width_same j false ne = s.flows_same j ne
@@ -116,18 +121,23 @@ module _ (n : Arcs) (f : Flow) (t : SearchTree) (price : ℕ → ℕ) (root amou
   -- `f0` is the flow that the tree was found in
   module _ (at : ℕ) (f0 : Flow) (tree : IsTree n f0 t root price) (walk : Walk n f t price root amount at)
       (away : at ≢ root) where
+    -- the node was reached along an arc of the tree
     arc : TreeArc n f0 t price at (way n t at)
     arc = tree.arc at walk.at_in away walk.near
 
+    -- the predecessor of a node is an arc
     pub step_arc : slice_index t.predecessor.now at < length n.tails.now
     step_arc = arc.path.arc
 
+    -- the amount fits on that arc
     pub step_fits : amount ≤ width f (slice_index t.predecessor.now at) (way n t at)
     step_fits = omega (arith, walk.ready, walk.fits at walk.at_in away walk.near (omega arith))
 
+    -- the arc leads nearer to the root
     pub step_nearer : slice_index t.depth.now (predecessor n t at (way n t at)) < slice_index t.depth.now at
     step_nearer = arc.path.nearer
 
+    -- after one arc the walk goes on at its other end
     pub stepped : (f' : Flow) → Pushes n f f' (slice_index t.predecessor.now at) (way n t at) amount
         → Walk n f' t price root amount (predecessor n t at (way n t at))
     stepped f' s = record {
@@ -173,6 +183,7 @@ module _ (n : Arcs) (f : Flow) (t : SearchTree) (price : ℕ → ℕ) (root amou
           ];
     }
 
+  -- at the root the whole amount is on its way, and the flow is sound
   pub walk_done : (f0 : Flow) → Sound n f0 price → Walk n f t price root amount root
       → length f.excess.now ≡ length f0.excess.now →
       ((v : ℕ) → slice_index f.excess.now v + only root v amount ≡ slice_index f0.excess.now v) → Sound n f price

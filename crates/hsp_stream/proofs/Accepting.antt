@@ -21,6 +21,7 @@ use Rattle.hsp_headline.proofs.Steps.{went_on}
 use Rattle.hsp_stream.specs.AnswerRun.{AnswersAs, EndsLog, HasCosts, Refuses, Run}
 use Rattle.hsp_stream.specs.Faults.{fault_of_input}
 
+-- inputs that are accepted have costs that are read
 pub has_costs : (inputs : Inputs) (octets : List ℕ) (accepted : Accepted) → IsAcceptedOf inputs octets (Ok accepted)
     → HasCosts inputs
 has_costs inputs octets accepted is =
@@ -32,17 +33,20 @@ has_costs inputs octets accepted is =
     let costs = went_on _ _ read.0 demand.2 in
     (costs.0, costs.1)
 
+-- a valid certificate of a plan is one for the instance
 pub plan_for : (it : Instance) (claim : Claim) (plan : Best) → plan_in claim ≡ Ok plan → IsValid (network_of it) claim
     → IsPlanFor it claim
 plan_for it (best c) plan kind valid = valid
 plan_for it (short c) plan kind valid = absurd (cc kind)
 
+-- with a plan, answers go by its portion
 pub by_plan : (portion : Portion) (costs : List CostEntry) (it : Instance) (claim : Claim) (plan : Best) (run : Run)
     → plan_in claim ≡ Ok plan
     → EndsLog costs it (portion_of portion (plan_of claim)) run → AnswersAs portion costs it claim run
 by_plan portion costs it (best c) plan run kind ends = ends
 by_plan portion costs it (short c) plan run kind ends = absurd (cc kind)
 
+-- with a short set, the run is refused
 pub by_shortage : (portion : Portion) (costs : List CostEntry) (it : Instance) (claim : Claim) (fault : Fault)
     (run : Run) → plan_in claim ≡ Err fault
     → Refuses (fault_of_input fault) run → AnswersAs portion costs it claim run

@@ -47,9 +47,11 @@ use Rattle.hsp_runs.proofs.ByHash.{accepted_of, certificate_is}
 
 -- ---- a portion of a plan
 
+-- a unit for each query of a portion is no more than the units of the whole
 portion_within : (portion : Portion) (n : ℕ) → 0 < portion.fronts → part_of portion n ≤ portion.unit * n
 portion_within portion n some = mul-le-mul_left portion.unit (share_le portion.fronts portion.front n some)
 
+-- a portion of a plan keeps to the arcs where the plan does
 portion_keeps : (it : Instance) (x : Plan) (portion : Portion) → KeepsToArcs it x
     → KeepsToArcs it (portion_of portion x)
 portion_keeps it x portion keeps row site none = ap (λ n. part_of portion n) (keeps row site none) ∙ part_none portion
@@ -60,13 +62,16 @@ portion_keeps it x portion keeps row site none = ap (λ n. part_of portion n) (k
 refused : (run : Run) (fault : StreamFault) → ((of : RowFault) → fault ≢ Log of) → Refuses fault run → IsRefused run
 refused run fault apart is = record { untouched = is.0; fault = fault; is = is.1; before = apart }
 
+-- a fault of the inputs is not the log's
 input_none : (fault : Fault) (of : RowFault) → fault_of_input fault ≢ Log of
 input_none input.OutOfMemory of e = cc (e)
 input_none other of e = cc (e)
 
+-- a fault of the inputs refuses the run
 pub input_refused : (run : Run) (fault : Fault) → Refuses (fault_of_input fault) run → IsRefused run
 input_refused run fault is = refused run (fault_of_input fault) (input_none fault) is
 
+-- words that spell no portion refuse the run
 pub words_refused : (words : PortionWords) (fault : StreamFault) (run : Run) → portion_at words ≡ Err fault
     → Refuses fault run → IsRefused run
 words_refused words fault run read is =
@@ -75,6 +80,7 @@ words_refused words fault run read is =
 -- ---- what is shown
 
 module _ (portion : Portion) (is_portion : IsPortion portion) (inputs : Inputs) (octets : List ℕ) (run : Run) where
+  -- answers by an accepted plan are those of a talk by it, or the run was refused
   talk_is : (accepted : Accepted) (c : Best) (costs : List CostEntry) → IsAcceptedOf inputs octets (Ok accepted)
       → Defines inputs accepted.instance → accepted.certificate ≡ best c
       → ReadsCosts inputs.costs.items (Ok costs)
@@ -106,6 +112,7 @@ module _ (portion : Portion) (is_portion : IsPortion portion) (inputs : Inputs) 
             goes_by_own_hash read it (portion_of portion x) earlier entry built (portion_keeps it x portion keeps));
       })
 
+  -- so they are by what the certificate says
   by_claim : (accepted : Accepted) (claim : Claim) (costs : List CostEntry) → IsAcceptedOf inputs octets (Ok accepted)
       → Defines inputs accepted.instance
       → accepted.certificate ≡ claim → Holds (network_of accepted.instance) claim → Means octets (Ok claim)
@@ -136,6 +143,7 @@ shown_by_words words portion inputs octets run read (inr shows) = inr (portion, 
 
 -- ---- what is always answered
 
+-- a talk stops by a fault of a talk
 stops_always : (costs : List CostEntry) (it : Instance) (x : Plan) (events : List Event) (fault : StreamFault)
     → StopsBy costs it x events fault → IsOfTalk fault
 stops_always costs it x events (Log ReadFailed) by = tt
@@ -145,16 +153,19 @@ stops_always costs it x events OutOfMemory by = tt
 stops_always costs it x events (Log other) by = absurd by
 stops_always costs it x events other by = absurd by
 
+-- a talk ends well, or by a fault of a talk
 ends_always : (costs : List CostEntry) (it : Instance) (x : Plan) (events : List Event)
     (answer : Result StreamSums StreamFault) → EndsBy costs it x events answer → IfErr answer IsOfTalk
 ends_always costs it x events (Ok sums) by = tt
 ends_always costs it x events (Err fault) by = stops_always costs it x events fault by
 
+-- so does a run over a log
 log_always : (costs : List CostEntry) (it : Instance) (x : Plan) (run : Run) → EndsLog costs it x run
     → IfErr run.answer IsOfTalk
 log_always costs it x run (inl none) = subst (λ r. IfErr r IsOfTalk) (sym none.1) tt
 log_always costs it x run (inr (events, goes, ends)) = ends_always costs it x events run.answer ends
 
+-- so does a run by a plan
 claim_always : (portion : Portion) (costs : List CostEntry) (it : Instance) (claim : Claim) (plan : Best) (run : Run)
     → claim ≡ best plan → AnswersAs portion costs it claim run
     → IfErr run.answer IsOfTalk
@@ -162,6 +173,7 @@ claim_always portion costs it (best c) plan run kind ends =
     log_always costs it (portion_of portion (table c.uses)) run ends
 claim_always portion costs it (short c) plan run kind none = absurd (cc (kind))
 
+-- so does a run by an accepted plan
 pub talk_always : (portion : Portion) (inputs : Inputs) (accepted : Accepted) (plan : Best) (run : Run)
     → accepted.certificate ≡ best plan → AnswersWhere portion inputs (Ok accepted) run
     → IfErr run.answer IsOfTalk

@@ -26,12 +26,14 @@ use Rattle.hsp_stream.specs.declared.row_refusal.RowRefusal.{RowRefusal}
 
 -- ---- the row of an entry
 
+-- a row with the keys is that of the region and the handle
 pub keys_of : (region handle : List ℕ) (row : Row) → has_keys region handle row ≡ true
     → (region ≡ row.region) × (handle ≡ row.handle)
 keys_of region handle row has =
     let both = and_parts (bytes_eq region row.region) (bytes_eq handle row.handle) has in
     ((bytes_decides region row.region).0 both.0, (bytes_decides handle row.handle).0 both.1)
 
+-- a row has its own keys
 has_own : (region handle : List ℕ) (row : Row) → region ≡ row.region → handle ≡ row.handle
     → has_keys region handle row ≡ true
 has_own region handle row r h = rw ((bytes_decides region row.region).1 r, (bytes_decides handle row.handle).1 h) refl
@@ -40,6 +42,7 @@ has_own region handle row r h = rw ((bytes_decides region row.region).1 r, (byte
 apart : (first row : Row) → same_keys first row ≡ false → has_keys row.region row.handle first ≡ false
 apart first row other = grind (arith, nat_list_eq_equiv.symm)
 
+-- a row is found first by its own keys
 own_from : (n : ℕ) (rows : List Row) (k : ℕ) (row : Row) → IsDistinct same_keys rows → slice_get rows k ≡ Some row
     → position_from (has_keys row.region row.handle) n rows ≡ Some (n + k)
 own_from n [] k row distinct at = absurd (cc)
@@ -62,6 +65,7 @@ own_row it k row is at =
     position_from-zero (has_keys row.region row.handle) it.rows ∙ own_from 0 it.rows k row is.rows.apart at
     ∙ ap Some zero_then
 
+-- a row that stands for none
 none : Row
 none = record { region = []; handle = []; count = 0 }
 
@@ -100,15 +104,18 @@ no_entry costs it entry found = rw found (by (position (has_keys entry.region en
 abbrev pub kinds_held : Finding → Held → KindsHeld
 kinds_held finder held = record { costs = finder.costs; held = held }
 
+-- with no queries answered, all is left
 nothing_left : (kind_dispatcher : KindsHeld)
     → IsSame (left_of kind_dispatcher.held) (rest kind_dispatcher.held.instance (left_of kind_dispatcher.held) [])
 nothing_left kind_dispatcher = rest_none kind_dispatcher.held.instance (left_of kind_dispatcher.held)
 
+-- a refused row leaves everything as it was
 pub refused_so : (kind_dispatcher : KindsHeld) (refusal : RowRefusal)
     → IsGiven kind_dispatcher (bad refusal) kind_dispatcher (given.Refused refusal)
 refused_so kind_dispatcher refusal =
     record { costs = refl; instance = refl; among = tt; said_is = refl; left = nothing_left kind_dispatcher }
 
+-- a query without a row is unknown, and leaves everything as it was
 pub unknown_so : (finder new_finder : Finding) (held : Held) (entry : Entry) → finder.it ≡ held.instance
     → new_finder ≡ finder
     → row_found finder entry.region entry.handle ≡ None
@@ -123,15 +130,18 @@ unknown_so finder new_finder held entry same new found =
       left = rest_unknown held.instance (left_of held) (entry_for finder.costs held.instance entry) none;
     }
 
+-- what is said of a taken query is its answer
 said_taken : (it : Instance) (taken : Option ℕ) → said_of it (given_of taken) ≡ answered (taken_answer it taken)
 said_taken it None = refl
 said_taken it (Some server) = refl
 
+-- the server of a taken query is one that is there
 among_taken : (servers : ℕ) (taken : Option ℕ) → IfSome taken (λ server. server < servers)
     → IsAmong servers (given_of taken)
 among_taken servers None within = tt
 among_taken servers (Some server) within = within
 
+-- a query of a known row takes the first that is left of it
 pub taken_so : (finder new_finder : Finding) (held new : Held) (entry : Entry) (k : ℕ) (taken : Option ℕ)
     → IsInstance held.instance → finder.it ≡ held.instance
     → new_finder ≡ finder → row_found finder entry.region entry.handle ≡ Some k → new.instance ≡ held.instance

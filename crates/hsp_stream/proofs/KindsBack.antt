@@ -27,6 +27,7 @@ use Rattle.hsp_stream.specs.KindsTable.{fields_of_row, lines_of, records_of_rows
 
 -- ---- records
 
+-- the text of a record has an octet at least
 at_least_one : (fields : Fields) (tail : List ℕ) → length tail + 1 ≤ length (row_text default_writer fields ++ tail)
 at_least_one fields tail =
     one_more (row_body default_writer fields) (cond (is_blank default_writer fields) (34 ∷ 34 ∷ []) []) tail
@@ -36,6 +37,7 @@ at_least_one fields tail =
         omega
         (arith, length-append (a ++ (b ++ 10 ∷ [])) tail, length-append a (b ++ 10 ∷ []), length-append b (10 ∷ []))
 
+-- the lines of rows are read back as these rows
 lines_back : (rows : List Row) (fuel : ℕ) → length rows < fuel
     → records_from default_config fuel st.StartRecord (lines_of (records_of_rows rows)) ≡ records_of_rows rows
 unfolding records_from next_record
@@ -45,6 +47,7 @@ lines_back (row ∷ rows) (suc fuel) less =
     rw (read-write (fields_of_row row) (lines_of (records_of_rows rows)))
     (ap (λ t. fields_of_row row ∷ t) (lines_back rows fuel (omega arith)))
 
+-- rows are no more than the octets of their lines
 lines_long : (rows : List Row) → length rows ≤ length (lines_of (records_of_rows rows))
 lines_long [] = omega arith
 lines_long (row ∷ rows) =
@@ -58,6 +61,7 @@ no_mark : (tail : List ℕ) → strip_bom (row_text default_writer header ++ tai
 unfolding strip_bom fields_text is_blank escaped
 no_mark tail = refl
 
+-- the records of rows are read back as these rows
 pub records_back : (rows : List Row) → records_of (table_text rows) ≡ header ∷ records_of_rows rows
 unfolding records_from next_record
 records_back rows =
@@ -76,15 +80,18 @@ abbrev pub IsCounted : Row → Type 0
 IsCounted row = row.count ≤ GREATEST_COUNT
 
 module _ (digits : DigitsSpellTheirNumber) where
+  -- a count is read back from its decimal
   count_back : (count : ℕ) → count ≤ GREATEST_COUNT → whole_within GREATEST_COUNT (decimal count) ≡ Ok count
   count_back count few =
       let is = (digits count (decimal count) (omega arith)).1 refl in
       let within : nat_le count GREATEST_COUNT ≡ true = le-leb count GREATEST_COUNT few in
       rw (is.0, is.1, within) refl
 
+  -- a row is read back from its fields
   row_back : (n : ℕ) (row : Row) → IsNamed row → IsCounted row → demand_in n (fields_of_row row) ≡ Ok (entry_of row)
   row_back n row named few = rw (named.region, named.handle, count_back row.count few) refl
 
+  -- rows are read back from their fields
   rows_back : (n : ℕ) (rows : List Row) → AllByRecursion IsNamed rows → AllByRecursion IsCounted rows
       → SpellRows demand_table n (records_of_rows rows) (map entry_of rows)
   rows_back n [] named few = tt
@@ -92,16 +99,19 @@ module _ (digits : DigitsSpellTheirNumber) where
 
 -- rows of two kinds have two names
 module _ (costs : List CostEntry) (sites : List Site) where
+  -- rows of different kinds have different keys
   two_names : (a b : Row) → is_same_kind costs sites a b ≡ false → same_demand (entry_of a) (entry_of b) ≡ false
   two_names a b other =
       let own = places_at (sites_for costs sites a.region) in
       grind (arith, bytes_decides a.handle b.handle, bytes_decides (own a.handle) (own b.handle))
 
+  -- so has a row that differs from all
   names_apart : (row : Row) (rows : List Row) → AllByRecursion (λ y. is_same_kind costs sites row y ≡ false) rows
       → AllByRecursion (λ y. same_demand (entry_of row) y ≡ false) (map entry_of rows)
   names_apart row [] all = tt
   names_apart row (other ∷ rows) all = (two_names row other all.0, names_apart row rows all.1)
 
+  -- no two rows of a table of kinds have the same keys
   all_apart : (rows : List Row) → IsDistinct (is_same_kind costs sites) rows
       → IsDistinct same_demand (map entry_of rows)
   unfolding IsDistinct

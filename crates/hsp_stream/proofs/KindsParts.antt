@@ -35,16 +35,20 @@ use Rattle.hsp_text.proofs.Steps.{first_step}
 
 -- ---- the rows that records spell, whatever their numbers
 
+-- a name is read the same at any row
 name_any : (n m : ℕ) (octets name : List ℕ) → name_in n octets ≡ Ok name → name_in m octets ≡ Ok name
 name_any n m octets name e = grind arith
 
+-- a handle is read the same at any row
 handle_any : (n m : ℕ) (r : Result (List ℕ) HandleFault) (handle : List ℕ) → handle_or n r ≡ Ok handle
     → handle_or m r ≡ Ok handle
 handle_any n m r handle e = grind arith
 
+-- a count is read the same at any row
 count_any : (n m : ℕ) (o : Option (List ℕ)) (count : ℕ) → count_in n o ≡ Ok count → count_in m o ≡ Ok count
 count_any n m o count e = grind arith
 
+-- a row is read the same at any number
 row_any : (n m : ℕ) (parts : Parts) (row : Row) → row_of n parts ≡ Ok row → row_of m parts ≡ Ok row
 row_any n m parts row e =
     let name = first_step (name_in n parts.region) _ row e in
@@ -56,6 +60,7 @@ row_any n m parts row e =
     let is : record { region = name.0; handle = handle.0; count = count.0 } ≡ row = cc (count.2) in
     rw (one, two, three) (ap Ok is)
 
+-- a record spells one row
 one_row : (form : CountForm) (fields : Fields) (a b : Row) → Spells form fields a → Spells form fields b → a ≡ b
 one_row form fields a b x y =
     let same : ◌≡◌ {A = Option Parts} (Some x.parts) (Some y.parts) = x.are ∙ sym y.are in
@@ -63,6 +68,7 @@ one_row form fields a b x y =
     let both : ◌≡◌ {A = Result Row RowFault} (Ok a) (Ok b) = sym (x.row_is 0) ∙ ap (row_of 0) parts ∙ y.row_is 0 in
     cc (both)
 
+-- records spell one list of rows
 same_rows : (form : CountForm) (records : List Fields) (a b : List Row) → SpellRows form records a
     → SpellRows form records b → a ≡ b
 same_rows form [] [] [] x y = refl
@@ -75,6 +81,7 @@ same_rows form (fields ∷ more) (r ∷ a) (q ∷ b) x y =
     let rest = same_rows form more a b x.1 y.1 in
     cc (first, rest)
 
+-- records in two parts spell the rows of both
 both_read : (form : CountForm) (x y : List Fields) (a b : List Row) → SpellRows form x a → SpellRows form y b
     → SpellRows form (x ++ y) (a ++ b)
 both_read form [] y [] b p q = q
@@ -83,6 +90,7 @@ both_read form (fields ∷ x) y [] b p q = absurd p
 both_read form (fields ∷ x) y (r ∷ a) b p q = (p.0, both_read form x y a b p.1 q)
 
 module _ (costs : List CostEntry) (sites : List Site) where
+  -- a record that is counted spells a row
   record_reads : (form : CountForm) (n : ℕ) (table next : List Row) (fields : Fields)
       → with_record costs sites form n table fields ≡ Ok next
       → (row : Row) × Spells form fields row × (next ≡ counted (by_capped costs sites) table row)
@@ -106,6 +114,7 @@ module _ (costs : List CostEntry) (sites : List Site) where
       some_is : (o : Option Parts) (x : Parts) → or_fault (Log (fault.Fields n)) o ≡ Ok x → Some x ≡ o
       some_is o x e = grind arith
 
+  -- a table of records is the rows that they spell, counted
   rows_read : (form : CountForm) (n : ℕ) (table all : List Row) (records : List Fields)
       → rows_from costs sites form n table records ≡ Ok all
       → (rows : List Row) × SpellRows form records rows × (all ≡ counted_all (by_capped costs sites) table rows)
@@ -120,15 +129,18 @@ module _ (costs : List CostEntry) (sites : List Site) where
 
   -- ---- tables only grow
 
+  -- one region more makes no fewer
   wider : (regions : List (List ℕ)) (region : List ℕ) → length regions ≤ length (with_region regions region)
   wider regions region = grind (arith, length-append regions (region ∷ []))
 
+  -- counting rows makes no fewer kinds
   all_longer : (more rows : List Row) → length rows ≤ length (counted_all (by_capped costs sites) rows more)
   all_longer [] rows = omega arith
   all_longer (row ∷ more) rows =
       let next = counted (by_capped costs sites) rows row in
       omega (arith, longer costs sites row rows, all_longer more next)
 
+  -- counting rows makes no fewer regions
   all_wider : (more rows : List Row)
       → length (regions_of rows) ≤ length (regions_of (counted_all (by_capped costs sites) rows more))
   all_wider [] rows = omega arith
@@ -140,17 +152,20 @@ module _ (costs : List CostEntry) (sites : List Site) where
   -- ---- a table as a log
 
   module _ (digits : DigitsSpellTheirNumber) where
+    -- a count of a log is read back from its decimal
     count_read : (n count : ℕ) → count ≤ GREATEST_ROW_COUNT → count_in n (Some (decimal count)) ≡ Ok count
     count_read n count few =
         let is = (digits count (decimal count) (omega arith)).1 refl in
         let within : nat_le count GREATEST_ROW_COUNT ≡ true = le-leb count GREATEST_ROW_COUNT few in
         rw (is.0, is.1, within) refl
 
+    -- a row of a table is counted as its count
     table_row : (n : ℕ) (table : List Row) (row : Row) → IsNamed row → IsLogCount row
         → with_counted costs sites table row ≡ Ok (counted (by_capped costs sites) table row)
         → with_record costs sites Counts n table (fields_of_row row) ≡ Ok (counted (by_capped costs sites) table row)
     table_row n table row named few joins = rw (named.region, named.handle, count_read n row.count few, joins) refl
 
+    -- so are all rows of a table
     table_rows : (n : ℕ) (table rows : List Row) → AllByRecursion IsNamed rows → AllByRecursion IsLogCount rows
         → length (counted_all (by_capped costs sites) table rows) ≤ MOST_DEMAND_ROWS
         → length (regions_of (counted_all (by_capped costs sites) table rows)) ≤ MOST_REGIONS
@@ -170,6 +185,7 @@ module _ (costs : List CostEntry) (sites : List Site) where
         rows_from costs sites Counts (n + 1) next (records_of_rows rows)) is
         ∙ table_rows (n + 1) (counted (by_capped costs sites) table row) rows named.1 few.1 kinds regions
 
+-- the tables of parts of a log make the table of the log
 pub parts_make_the_table : DigitsSpellTheirNumber → LogInParts → PartsMakeTheTable
 parts_make_the_table digits parts costs sites form a b first second all one two both few =
     let x = rows_read costs sites form 0 [] first a one in
@@ -191,9 +207,11 @@ parts_make_the_table digits parts costs sites form a b first second all one two 
 
 -- ---- the table is of kinds
 
+-- no count is above 2 ^ 64 - 1
 count_kept : (n : ℕ) (o : Option (List ℕ)) (count : ℕ) → count_in n o ≡ Ok count → count ≤ 2 ^ 64 - 1
 count_kept n o count e = grind arith
 
+-- nor is that of a row
 row_kept : (parts : Parts) (row : Row) → row_of 0 parts ≡ Ok row → IsKept row
 row_kept parts row e =
     let name = first_step (name_in 0 parts.region) _ row e in
@@ -202,6 +220,7 @@ row_kept parts row e =
     let is : record { region = name.0; handle = handle.0; count = count.0 } ≡ row = cc (count.2) in
     rw (← is) (count_kept 0 parts.count count.0 count.1)
 
+-- nor is that of any row
 all_kept : (form : CountForm) (records : List Fields) (rows : List Row) → SpellRows form records rows
     → AllByRecursion IsKept rows
 all_kept form [] [] is = tt
@@ -209,6 +228,7 @@ all_kept form [] (row ∷ rows) is = absurd is
 all_kept form (fields ∷ more) [] is = absurd is
 all_kept form (fields ∷ more) (row ∷ rows) is = (row_kept is.0.parts row (is.0.row_is 0), all_kept form more rows is.1)
 
+-- the table of a log is one of kinds
 pub table_is_of_kinds : TableIsOfKinds
 table_is_of_kinds costs sites form records table e =
     let read = rows_read costs sites form 0 [] table records e in

@@ -25,12 +25,14 @@ module _ (costs : List CostEntry) (sites : List Site) (form : CountForm) (table 
     pub joined : (more : List Fields)
         → rows_from costs sites form row rows more ≡ rows_from costs sites form 0 table (done ++ more)
 
+  -- nothing was read yet
   pub none_read : {R : Type 0} (remaining : R → Option (List ℕ)) (first : Reader R)
       → ReadSoFar remaining first first 0 table
   none_read remaining first = record { done = []; left = λ known. (refl, known); joined = λ more. refl }
 
   module _ {R : Type 0} (remaining : R → Option (List ℕ)) (first now next : Reader R) (row : ℕ) (rows : List Row)
       (fields : Fields) (so_far : ReadSoFar remaining first now row rows) where
+    -- the records that are left are fewer by the one that was read
     left_more : TakesRecord remaining now next true fields → IsKnown remaining first
         → (records_left remaining first ≡ so_far.done ++ fields ∷ records_left remaining next) × IsKnown remaining next
     left_more takes known =
@@ -83,6 +85,7 @@ pub log_all : (P : List Fields → Type 0) (log : Option (List ℕ)) → ((recor
 log_all P None all = ([], tt, all [])
 log_all P (Some octets) all = (records_of octets, refl, all (records_of octets))
 
+-- what follows from the records of a log
 pub log_more : (P Q : List Fields → Type 0) (log : Option (List ℕ)) → ((records : List Fields) → P records → Q records)
     → OfLog log P → OfLog log Q
 log_more P Q log all (records, are, is) = (records, are, all records is)

@@ -38,6 +38,7 @@ rounded_is x y some = sym (by (x % y) (div-add-mod x y) (mod-lt x some))
 
 -- ---- lines
 
+-- the text of three fields, piece by piece
 pub row_is : (a b c : List ℕ)
     → row_text default_writer (a ∷ b ∷ c ∷ []) ≡ field_text default_writer a
     ++ (44 ∷ (field_text default_writer b ++ (44 ∷ (field_text default_writer c ++ 10 ∷ []))))
@@ -62,12 +63,14 @@ row_pushed a b c t0 t1 t2 t3 t4 t5 t6 e1 e2 e3 e4 e5 e6 =
         → t6 ≡ t0 ++ (x ++ (44 ∷ (y ++ (44 ∷ (z ++ 10 ∷ [])))))
     joined x y z p q r = rw (e6, r, e4, q, e2, p) (simp append_assoc)
 
+-- the lines of two lists of records stand one after the other
 pub lines-append : (a b : List Fields) → lines_of (a ++ b) ≡ lines_of a ++ lines_of b
 lines-append [] b = refl
 lines-append (x ∷ a) b =
     ap (λ t. row_text default_writer x ++ t) (lines-append a b)
     ∙ sym (append_assoc (row_text default_writer x) (lines_of a) (lines_of b))
 
+-- the records of two lists of rows stand one after the other
 pub records-append : (a b : List Row) → records_of_rows (a ++ b) ≡ records_of_rows a ++ records_of_rows b
 records-append [] b = refl
 records-append (x ∷ a) b = ap (λ t. fields_of_row x ∷ t) (records-append a b)
@@ -98,6 +101,7 @@ IsTextSoFar unit rows row text =
     (done : List Row) × (text ≡ table_text done)
     × (rows_in_units rows unit done row (drop row rows) ≡ rows_in_units rows unit [] 0 rows)
 
+-- one row more is put behind the text
 pub so_far_more : (unit : ℕ) (rows : List Row) (row : ℕ) (text next : List ℕ) (kind : Row)
     → slice_get rows row ≡ Some kind → IsTextSoFar unit rows row text
     → IsPushed text next kind (in_unit rows row unit kind.count)
@@ -115,6 +119,7 @@ so_far_more unit rows row text next kind at so_far pushed =
       sym step ∙ ap (rows_in_units rows unit so_far.0 row) (sym (drop_at rows row kind at)) ∙ so_far.2,
     )
 
+-- a count too large is the fault of the whole text
 pub so_far_fault : (unit : ℕ) (rows : List Row) (row : ℕ) (text : List ℕ) (kind : Row) (fault : StreamFault)
     → slice_get rows row ≡ Some kind → IsTextSoFar unit rows row text → in_unit rows row unit kind.count ≡ Err fault
     → rows_in_units rows unit [] 0 rows ≡ Err fault

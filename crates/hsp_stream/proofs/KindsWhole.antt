@@ -32,9 +32,11 @@ use Rattle.hsp_stream.specs.KindsLaws.{PrintedTableIsReadBack}
 use Rattle.hsp_text.proofs.Lists.{all_push}
 use Rattle.hsp_text.proofs.Steps.{first_step}
 
+-- a part's value is that of the whole
 pub told : {A E F : Type 0} (part : E → F) (r : Result A E) (x : A) → fault_as part r ≡ Ok x → r ≡ Ok x
 told part r x e = grind arith
 
+-- what is read as a name is one
 name_is : (row : ℕ) (octets name : List ℕ) → name_in row octets ≡ Ok name → is_name name ≡ true
 name_is row octets name e = grind arith
 
@@ -42,10 +44,12 @@ name_is row octets name e = grind arith
 pub handle_own : (octets found : List ℕ) → names.handle_in octets ≡ Ok found → octets ≡ found
 handle_own octets found e = grind arith
 
+-- what is read as a handle is one
 handle_is : (row : ℕ) (octets handle : List ℕ) → handle_or row (names.handle_in octets) ≡ Ok handle
     → names.handle_in handle ≡ Ok handle
 handle_is row octets handle e = grind (arith, handle_own octets handle)
 
+-- a row that is read has names within their limits
 row_named : (row : ℕ) (parts : Parts) (read : Row) → row_of row parts ≡ Ok read → IsNamed read
 row_named row parts read e =
     let name = first_step (name_in row parts.region) _ read e in
@@ -59,6 +63,7 @@ row_named row parts read e =
     })
 
 module _ (costs : List CostEntry) (sites : List Site) where
+  -- counting a record keeps the table one of kinds
   record_kept : (form : CountForm) (row : ℕ) (table next : List Row) (fields : Fields) → IsKindTable costs sites table
       → with_record costs sites form row table fields ≡ Ok next → IsKindTable costs sites next
   record_kept form row table next fields are e =
@@ -72,6 +77,7 @@ module _ (costs : List CostEntry) (sites : List Site) where
       (row_named row parts.0 read.0 (told Log (row_of row parts.0) read.0 read.1))
       (told (fault_of_kinds row) (with_counted costs sites table read.0) next read.2)
 
+  -- counting rows keeps the table one of kinds
   pub rows_kept : (form : CountForm) (row : ℕ) (table all : List Row) (records : List Fields)
       → IsKindTable costs sites table → rows_from costs sites form row table records ≡ Ok all
       → IsKindTable costs sites all
@@ -82,6 +88,7 @@ module _ (costs : List CostEntry) (sites : List Site) where
       (λ next. rows_from costs sites form (row + 1) next more) all e in
       rows_kept form (row + 1) next.0 all more (record_kept form row table next.0 fields are next.1) next.2
 
+  -- the table of a log is one of kinds
   pub table_kept : (records : List Fields) (all : List Row) → table_of costs sites [] records ≡ Ok all
       → IsKindTable costs sites all
   table_kept [] all e = let bad : ◌≡◌ {A = Result (List Row) StreamFault} (Err (Log fault.Header)) (Ok all) = e in cc
@@ -95,10 +102,12 @@ module _ (costs : List CostEntry) (sites : List Site) where
 abbrev pub bares : List Row → List Row
 bares rows = map (λ row. with_count row 0) rows
 
+-- a count in units is within its limit
 count_few : (table : List Row) (row unit count units : ℕ) → in_unit table row unit count ≡ Ok units
     → units ≤ GREATEST_COUNT
 count_few table row unit count units e = grind arith
 
+-- rows in units differ in their counts only, which are within their limit
 pub units_are : (table : List Row) (unit row : ℕ) (done rest all : List Row)
     → rows_in_units table unit done row rest ≡ Ok all → AllByRecursion IsCounted done
     → (bares all ≡ bares (done ++ rest)) × AllByRecursion IsCounted all
@@ -116,37 +125,44 @@ units_are table unit row done (first ∷ rest) all e few =
     (more.0 ∙ same, more.1)
 
 module _ (costs : List CostEntry) (sites : List Site) where
+  -- rows whose bare ones have names within their limits have them
   named_back : (rows : List Row) → AllByRecursion IsNamed (bares rows) → AllByRecursion IsNamed rows
   named_back [] all = tt
   named_back (row ∷ rows) all = (record { region = all.0.region; handle = all.0.handle }, named_back rows all.1)
 
+  -- bare rows have the names of the rows
   named_there : (rows : List Row) → AllByRecursion IsNamed rows → AllByRecursion IsNamed (bares rows)
   named_there [] all = tt
   named_there (row ∷ rows) all = (record { region = all.0.region; handle = all.0.handle }, named_there rows all.1)
 
+  -- a row differs from all where the bare ones do
   others_back : (row : Row) (rows : List Row)
       → AllByRecursion (λ y. is_same_kind costs sites (with_count row 0) y ≡ false) (bares rows)
       → AllByRecursion (λ y. is_same_kind costs sites row y ≡ false) rows
   others_back row [] all = tt
   others_back row (other ∷ rows) all = (all.0, others_back row rows all.1)
 
+  -- bare rows differ where the rows do
   others_there : (row : Row) (rows : List Row) → AllByRecursion (λ y. is_same_kind costs sites row y ≡ false) rows
       → AllByRecursion (λ y. is_same_kind costs sites (with_count row 0) y ≡ false) (bares rows)
   others_there row [] all = tt
   others_there row (other ∷ rows) all = (all.0, others_there row rows all.1)
 
+  -- rows are of different kinds where the bare ones are
   apart_back : (rows : List Row) → IsDistinct (is_same_kind costs sites) (bares rows)
       → IsDistinct (is_same_kind costs sites) rows
   unfolding IsDistinct
   apart_back [] apart = tt
   apart_back (row ∷ rows) apart = (others_back row rows apart.0, apart_back rows apart.1)
 
+  -- bare rows are of different kinds where the rows are
   apart_there : (rows : List Row) → IsDistinct (is_same_kind costs sites) rows
       → IsDistinct (is_same_kind costs sites) (bares rows)
   unfolding IsDistinct
   apart_there [] apart = tt
   apart_there (row ∷ rows) apart = (others_there row rows apart.0, apart_there rows apart.1)
 
+  -- bare rows have the same regions
   bare_regions : (rows : List Row) → regions_of rows ≡ regions_of (bares rows)
   bare_regions rows = ap first_seen (sym (map_twice (λ (r : Row). with_count r 0) (λ (r : Row). r.region) rows))
 
@@ -165,6 +181,7 @@ module _ (costs : List CostEntry) (sites : List Site) where
 
 -- ---- the printed table
 
+-- a printed table is read back as its rows
 pub read_back : DigitsSpellTheirNumber → ReadsAsItsRelation demand_table → PrintedTableIsReadBack
 read_back digits reads costs sites unit records text e =
     let table =

@@ -34,6 +34,7 @@ one_count count unit some = (
 
 -- ---- one row
 
+-- a count that fits in units is in units
 few_units : (table : List Row) (row unit count : ℕ) → rounded_up unit count ≤ GREATEST_COUNT
     → in_unit table row unit count ≡ Ok (rounded_up unit count)
 few_units table row unit count few =
@@ -41,6 +42,7 @@ few_units table row unit count few =
     le-ltb GREATEST_COUNT (rounded_up unit count) few in
     rw test refl
 
+-- a count that does not fit is the fault, with the least unit
 many_units : (table : List Row) (row unit count : ℕ) → GREATEST_COUNT < rounded_up unit count
     → in_unit table row unit count ≡ Err (Log (CountTooLarge row (least_unit table)))
 many_units table row unit count many =
@@ -51,6 +53,7 @@ many_units table row unit count many =
 -- ---- the rows of a table
 
 module _ (table : List Row) where
+  -- a unit from the least one on suffices
   suffices : (unit row : ℕ) (done rest : List Row) → 0 < unit → least_unit rest ≤ unit
       → IsOk (rows_in_units table unit done row rest)
   suffices unit row done [] some least = refl
@@ -60,6 +63,7 @@ module _ (table : List Row) where
       rw (few_units table row unit first.count few)
       (suffices unit (row + 1) (done ++ with_count first units ∷ []) rest some (omega arith))
 
+  -- a smaller unit does not
   too_small : (unit row : ℕ) (done rest : List Row) → 0 < unit → unit < least_unit rest
       → IsErr (rows_in_units table unit done row rest)
   too_small unit row done [] some less = absurd (omega arith)
@@ -73,6 +77,7 @@ module _ (table : List Row) where
             (too_small unit (row + 1) (done ++ with_count first units ∷ []) rest some (omega arith))
       ]
 
+  -- the fault reports the least unit
   reported_is : (unit row : ℕ) (done rest : List Row) (number reported : ℕ)
       → rows_in_units table unit done row rest ≡ Err (Log (CountTooLarge number reported)) → reported ≡ least_unit table
   reported_is unit row done [] number reported e =
@@ -91,11 +96,13 @@ module _ (table : List Row) where
 
 -- ---- the unit that is reported
 
+-- a value is no fault
 no_fault : (r : Result (List Row) StreamFault) (fault : StreamFault) → IsOk r → r ≡ Err fault → ⊥
 no_fault r fault ok e =
     let bad : true ≡ false = sym ok ∙ ap is_ok e in
     cc
 
+-- the least unit is that
 least_is : (rows : List Row) → 0 < least_unit rows → IsLeastUnit rows (least_unit rows)
 least_is rows some = record {
   positive = some;
@@ -103,6 +110,7 @@ least_is rows some = record {
   least = λ smaller positive less. too_small rows smaller 0 [] rows positive less;
 }
 
+-- so the reported unit is the least
 pub reported_unit : ReportedUnitIsTheLeast
 reported_unit rows unit row reported some e =
     let is : reported ≡ least_unit rows = reported_is rows unit 0 [] rows row reported e in
@@ -116,6 +124,7 @@ reported_unit rows unit row reported some e =
 
 -- ---- a loop over the rows
 
+-- the least unit of the first rows, with one more
 pub least_more : (rows : List Row) (row least : ℕ) (kind : Row) → slice_get rows row ≡ Some kind
     → max least (least_unit (drop row rows)) ≡ least_unit rows
     → max (max least (rounded_up GREATEST_COUNT kind.count)) (least_unit (drop (row + 1) rows)) ≡ least_unit rows

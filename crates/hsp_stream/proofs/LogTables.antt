@@ -81,6 +81,7 @@ pub record FilesRead (inputs : KindsInputs) (files : Files) : Type 0 where
   pub costs : ReadsCosts inputs.costs.items (Ok files.costs)
   pub sites : AreSitesOf settings values (Ok files.sites)
 
+-- files that were checked are those that were read
 checked_are : (sites : List Site) (costs : List CostEntry) (files : Files) → Ok files ≡ are_checked sites costs
     → (sites ≡ files.sites) × (costs ≡ files.costs)
 checked_are sites costs files e = by (fault_as Build (unless (cost_fault sites 0 costs))) e
@@ -93,11 +94,13 @@ checked_are sites costs files e = by (fault_as Build (unless (cost_fault sites 0
         (sym (ap (λ (f : Files). f.sites) is), sym (ap (λ (f : Files). f.costs) is))
     by (Err fault) same = cc (same)
 
+-- sites that were read are those of the settings
 sites_are : (settings : SettingsEntries) (values : Option (List HandleValue)) (sites : List Site)
     → AreSites settings values (Ok sites) → AreSitesOf settings values (Ok sites)
 sites_are settings values sites (r, are, e) =
     subst (λ (own : Result (List Site) BuildFault). AreSitesOf settings values own) (stated_well Build r sites e) are
 
+-- the files of a run were read
 files_read : (inputs : KindsInputs) (files : Files) → AreFilesIn inputs (Ok files) → FilesRead inputs files
 files_read inputs files is =
     let settings = went_on _ _ files is in
@@ -134,6 +137,7 @@ built_sites read sites it e =
         → sites ≡ it.sites
     by a b r same = grind arith
 
+-- the run and the instance have the same sites
 one_list : GivesOneAnswer → (inputs : Inputs) (files : Files) (it : Instance) → FilesRead (kinds_inputs_of inputs) files
     → IsInstanceOf inputs (Ok it) → files.sites ≡ it.sites
 one_list once inputs files it read is =
@@ -177,10 +181,12 @@ in_unit_of unit row = with_count row (rounded_up unit row.count)
 abbrev IsFewIn : ℕ → Row → Type 0
 IsFewIn unit row = rounded_up unit row.count ≤ GREATEST_COUNT
 
+-- a count in a unit is rounded up
 one_in_unit : (table : List Row) (row unit count own : ℕ) → in_unit table row unit count ≡ Ok own
     → (own ≡ rounded_up unit count) × (rounded_up unit count ≤ GREATEST_COUNT)
 one_in_unit table row unit count own e = grind (arith, nat_tests)
 
+-- so is each count
 all_in_units : (table : List Row) (unit row : ℕ) (done rest all : List Row)
     → rows_in_units table unit done row rest ≡ Ok all
     → (all ≡ done ++ map (in_unit_of unit) rest) × AllByRecursion (IsFewIn unit) rest
@@ -197,6 +203,7 @@ all_in_units table unit row done (first ∷ rest) all e =
       (own.1, more.1),
     )
 
+-- in units of one, a count is itself
 one_unit : (count : ℕ) → rounded_up 1 count ≡ count
 one_unit count = let whole : (count + 0) / 1 ≡ count + 0 = div-one (count + 0) in omega (arith, whole)
 
@@ -218,6 +225,7 @@ few_capped unit count some most few =
     (div-lt_iff_lt-mul (omega (arith, some))).0 (omega (arith, few)) in
     omega (arith, low, some, most)
 
+-- counts that fit in units were not capped
 uncapped : (unit : ℕ) → 1 ≤ unit → unit ≤ GREATEST_UNIT → (rows : List Row)
     → AllByRecursion (IsFewIn unit) (map capped_row rows) → map capped_row rows ≡ rows
 uncapped unit some most [] few = refl
@@ -227,6 +235,7 @@ uncapped unit some most (row ∷ rows) few =
     let rest = uncapped unit some most rows few.1 in
     cc (first, rest)
 
+-- the header of a form is that form's
 header_is : (first : Fields) (form : CountForm) → form_of first ≡ Ok form → first ≡ header_of form
 header_is first form e = elim (cases_Bool (same_fields first (header_of Ones))) [
   | inl ones ↦
@@ -258,6 +267,7 @@ table_of_kinds unit some most costs sites (first ∷ body) table e few =
 
 -- ---- the rows of the instance
 
+-- a row of demand is the row that it was made of
 rows_again : (rows : List Row) → map row_of (map entry_of rows) ≡ rows
 rows_again [] = refl
 rows_again (row ∷ rows) = ap (λ t. row ∷ t) (rows_again rows)
@@ -284,6 +294,7 @@ HasDemand inputs it =
     (entries : List DemandEntry) × (tables.table_of demand_table (records_of inputs.demand.items) ≡ Ok entries)
     × (it.rows ≡ map row_of entries)
 
+-- files that were read are those that inputs name
 files_are : (inputs : KindsInputs) (files : Files) → AreFiles inputs (Ok files) → AreFilesIn inputs (Ok files)
 files_are inputs files (r, are, e) = subst (λ (own : Result Files Fault). AreFilesIn inputs own) (by r e) are
   where
@@ -305,6 +316,7 @@ pub record LogRead (inputs : Inputs) (unit : ℕ) (records : List Fields) (it : 
 
 module _ (handles : ReadingsAreHandles) (once : GivesOneAnswer) (accepts : AcceptsTheDefined)
     (digits : DigitsSpellTheirNumber) (reads : ReadsAsItsRelation demand_table) where
+  -- the demand of the instance is the table of the log, in units
   read_text : (inputs : Inputs) (unit : ℕ) (records : List Fields) (it : Instance) (files : Files)
       → kinds_text files.costs files.sites unit records ≡ Ok inputs.demand.items
       → HasDemand inputs it
@@ -319,6 +331,7 @@ module _ (handles : ReadingsAreHandles) (once : GivesOneAnswer) (accepts : Accep
       let entries : demand.0 ≡ map entry_of back.rows = cc (both) in
       (table.0, table.1, units.1, demand.2 ∙ ap (λ d. map row_of d) entries ∙ rows_again back.rows ∙ units.0)
 
+  -- so it is for a run's words
   log_read : (inputs : Inputs) (word : Option (List ℕ)) (unit : ℕ) (records : List Fields) (it : Instance)
       → unit_at word ≡ Ok unit
       → IsKindsText (kinds_inputs_of inputs) word records (Ok inputs.demand.items) → Defines inputs it
@@ -374,6 +387,7 @@ speaks_for plans of_kinds of_prices costs it rows m same is =
       prices = λ x u kinds p q are. of_prices (network_for at rows) table of.0.0 whole own of.0.1 x u kinds p q are;
     })
 
+-- what is shown of the table's instance is true of the log's rows
 pub table_speaks_of_the_log : ReadingsAreHandles → GivesOneAnswer → AcceptsTheDefined → DigitsSpellTheirNumber
     → ReadsAsItsRelation demand_table → PlanIsTheSame → TablesAreOfKinds → PricesOfKinds
     → TableSpeaksOfTheLog
@@ -398,6 +412,7 @@ arcs_in_unit costs row count n first (site ∷ more) =
     ap (λ t. arc_to row.handle n first site (cost_of costs row.region site.name) ++ t)
     (arcs_in_unit costs row count (n + 1) (first + length site.servers) more)
 
+-- arcs are the same in units
 all_arcs : (unit : ℕ) (costs : List CostEntry) (sites : List Site) (rows : List Row)
     → map (λ row. arcs_from costs row 0 0 sites) rows
     ≡ map (λ row. arcs_from costs row 0 0 sites) (map (in_unit_of unit) rows)
@@ -407,12 +422,14 @@ all_arcs unit costs sites (row ∷ rows) =
     let rest = all_arcs unit costs sites rows in
     cc (first, rest)
 
+-- counts in units are rounded up
 counts_in : (unit : ℕ) (rows : List Row)
     → map (rounded_up unit) (map (λ (row : Row). row.count) rows)
     ≡ map (λ (row : Row). row.count) (map (in_unit_of unit) rows)
 counts_in unit [] = refl
 counts_in unit (row ∷ rows) = ap (λ t. rounded_up unit row.count ∷ t) (counts_in unit rows)
 
+-- capacities that are so many times as large are the same in units
 capacities_in : (unit : ℕ) → 0 < unit → (servers : List Server)
     → map (λ most. most / unit) (map (λ (s : Server). s.capacity) (map (server_times unit) servers))
     ≡ map (λ (s : Server). s.capacity) servers
@@ -422,6 +439,7 @@ capacities_in unit some (server ∷ servers) =
     let rest = capacities_in unit some servers in
     cc (first, rest)
 
+-- limits that are so many times as large are the same in units
 limits_in : (unit : ℕ) → 0 < unit → (hosts : List Host)
     → map (λ most. most / unit) (map (λ (h : Host). h.limit) (map (host_times unit) hosts))
     ≡ map (λ (h : Host). h.limit) hosts
@@ -431,6 +449,7 @@ limits_in unit some (host ∷ hosts) =
     let rest = limits_in unit some hosts in
     cc (first, rest)
 
+-- servers stand on the same hosts
 hosts_in : (unit : ℕ) (servers : List Server)
     → map (λ (s : Server). s.host) (map (server_times unit) servers) ≡ map (λ (s : Server). s.host) servers
 hosts_in unit [] = refl
@@ -460,6 +479,7 @@ was_network unit n is = record {
   hosts = rw (length-map n.capacities (λ most. most / unit), length-map n.limits (λ most. most / unit)) at is.hosts;
 }
 
+-- a plan in units serves all queries of the log
 pub units_serve_the_log : ReadingsAreHandles → GivesOneAnswer → AcceptsTheDefined → DigitsSpellTheirNumber
     → ReadsAsItsRelation demand_table → TablesAreOfKinds → UnitsServeRows
     → UnitsServeTheLog

@@ -23,6 +23,7 @@ portions_add_up unit fronts number some =
     sym (sum_below_times fronts unit (λ front. share fronts front number))
     ∙ ap (λ n. unit * n) (shares_add_up fronts number some)
 
+-- machines together assign no more than the plan gives
 pub machines_keep_within : MachinesKeepWithin
 machines_keep_within costs it x unit fronts asked row site some =
     let each =

@@ -37,6 +37,7 @@ passes : (test : Row → Bool) (rows : List Row) (n : ℕ) (row : Row) → posit
 passes test rows n row found at =
     let is = position-Some test rows n row found in rw (get_or_from_slice_get rows n row row at) at is.1
 
+-- what is found is found first or second
 either : (a b : Option ℕ) (n : ℕ) → or_else a b ≡ Some n → (a ≡ Some n) ⊎ (b ≡ Some n)
 either None b n e = inr e
 either (Some m) b n e = inl e
@@ -67,6 +68,7 @@ HaveSameServers costs sites a b =
     (n : ℕ) (site : Site) → slice_get sites n ≡ Some site → is_some (cost_of costs a.region site.name) ≡ true
     → server_place site.option a.handle (length site.servers) ≡ server_place site.option b.handle (length site.servers)
 
+-- a query of the row's kind has the same servers
 by_kind : (costs : List CostEntry) (sites : List Site) (row : Row) (entry : Entry)
     → is_of_kind costs sites entry.region entry.handle row ≡ true
     → HaveSameServers costs sites (record { region = row.region; handle = row.handle }) entry
@@ -80,6 +82,7 @@ by_kind costs sites row entry is n site at has =
     (λ (s : Site). server_place s.option entry.handle (length s.servers)) sites n site
     ((bytes_eq-Decides (places_at own row.handle) (places_at own entry.handle)).0 both.1) at has
 
+-- a query of the row's keys has the same servers
 by_keys : (costs : List CostEntry) (sites : List Site) (row : Row) (entry : Entry)
     → has_keys entry.region entry.handle row ≡ true
     → HaveSameServers costs sites (record { region = row.region; handle = row.handle }) entry
@@ -87,6 +90,7 @@ by_keys costs sites row entry is n site at has =
     ap (λ (handle : List ℕ). server_place site.option handle (length site.servers))
     (sym (keys_of entry.region entry.handle row is).1)
 
+-- a query that is found has the servers of its row
 found_same : (costs : List CostEntry) (it : Instance) (entry : Entry) (n : ℕ) (row : Row)
     → row_for costs it entry.region entry.handle ≡ Some n → slice_get it.rows n ≡ Some row
     → HaveSameServers costs it.sites (record { region = row.region; handle = row.handle }) entry
@@ -160,6 +164,7 @@ by_other inputs it x earlier a b built keeps same =
     by_row None e is = tt
     by_row (Some row) e is = by_element row e (slice_get (spread it x row) (count_for it row earlier)) refl is
 
+-- each query goes to the server that its own hash names
 pub goes_by_own_hash : GoesByOwnHash
 goes_by_own_hash inputs it x earlier entry built keeps =
     by_found (row_for inputs.costs it entry.region entry.handle) refl

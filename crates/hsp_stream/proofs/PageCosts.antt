@@ -15,6 +15,7 @@ use Rattle.hsp_headline.specs.declared.inputs.Inputs.{Inputs}
 use Rattle.hsp_headline.proofs.PageRead.{stated_well}
 use Rattle.hsp_runs.specs.Instance.{ReadsCosts}
 
+-- two costs of the same decimal are the same
 one_number : (a b : ℕ) → a ≤ GREATEST_COST → b ≤ GREATEST_COST → decimal a ≡ decimal b → a ≡ b
 one_number a b few_a few_b e =
     let one = whole_is_read GREATEST_COST a (omega arith) few_a in
@@ -23,6 +24,7 @@ one_number a b few_a few_b e =
     sym one ∙ ap (λ w. whole_within GREATEST_COST w) e ∙ other in
     cc (both)
 
+-- two costs of the same fields are the same
 one_cost : (a b : CostEntry) → a.cost ≤ GREATEST_COST → b.cost ≤ GREATEST_COST → cost_fields a ≡ cost_fields b → a ≡ b
 one_cost a b few_a few_b e =
     let region : a.region ≡ b.region = cc (e) in
@@ -33,6 +35,7 @@ one_cost a b few_a few_b e =
     (record { region = b.region; site = b.site; cost = b.cost }) = cc (region, site, cost) in
     same
 
+-- two tables of the same fields are the same
 one_table : (sites : List Site) (a b : List CostEntry) → AllByRecursion IsCostEntry a → AllByRecursion (IsCost sites) b
     → map cost_fields a ≡ map cost_fields b → a ≡ b
 one_table sites [] [] all_a all_b e = refl
@@ -46,6 +49,7 @@ one_table sites (c ∷ a) (d ∷ b) all_a all_b e =
     let rest = one_table sites a b all_a.1 all_b.1 there in
     cc (first, rest)
 
+-- the costs that are read are those of the page
 pub costs_of_page : (inputs : Inputs) (it : Instance) (costs : List CostEntry) → Defines inputs it
     → ReadsCosts inputs.costs.items (Ok costs) → AreCosts it.sites inputs.costs.items costs
 costs_of_page inputs it costs page is =

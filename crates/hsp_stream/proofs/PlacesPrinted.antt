@@ -40,10 +40,12 @@ header_some other form e = grind arith
 
 -- ---- rows
 
+-- a field that is read as a handle is that handle
 given : (number : ℕ) (field : Option (List ℕ)) (handle : List ℕ) → handle_at number field ≡ Ok (Some handle)
     → (field ≡ Some handle) × (handle_in handle ≡ Ok handle)
 given number field handle e = grind (arith, handle_own)
 
+-- a field is a handle, or its row is refused
 none_given : (number : ℕ) (field : Option (List ℕ)) → handle_at number field ≡ Ok None → ⊥
 none_given number field e = grind arith
 
@@ -54,6 +56,7 @@ row_none number form (one only) e = absurd (none_given number (handle_field form
 row_none number form (two first second) e = absurd (none_given number (handle_field form (two first second)) e)
 row_none number form other e = grind arith
 
+-- a row with a field for its handle has that handle
 has_field : (form : HandleForm) (row : List ℕ) (shape : Shape) (handle : List ℕ) → row_of row ≡ shape
     → handle_field form shape ≡ Some handle → HasHandle form row handle
 has_field Handle row (one only) handle is e = let same : only ≡ handle = cc (e) in is ∙ ap one same
@@ -66,6 +69,7 @@ has_field RegionAndHandle row blank handle is e = cc (e)
 has_field RegionAndHandle row (one only) handle is e = cc (e)
 has_field RegionAndHandle row other handle is e = cc (e)
 
+-- a row that gives a handle has it as a field, and it is one
 row_some : (number : ℕ) (form : HandleForm) (shape : Shape) (handle : List ℕ)
     → handle_by number form shape ≡ Ok (Some handle)
     → (handle_field form shape ≡ Some handle) × (handle_in handle ≡ Ok handle)
@@ -80,6 +84,7 @@ not_long : (number : ℕ) (form : HandleForm) (row : List ℕ) (found : Option (
     → (length row ≤ LONGEST_ROW) × (handle_by number form (row_of row) ≡ Ok found)
 not_long number form row found e = grind (arith, nat_tests)
 
+-- a row that is read gives its handle
 row_gives : ReadingsAreHandles → (number : ℕ) (form : HandleForm) (row handle : List ℕ)
     → handle_in_row number form row ≡ Ok (Some handle) → GivesHandle form row handle
 row_gives handles number form row handle e =
@@ -113,6 +118,7 @@ AnswersHandles form sites rows answers =
     (handles : List (List ℕ)) × HandlesOf form rows handles × (concat answers ≡ lines_at sites handles)
 
 module _ (handles : ReadingsAreHandles) (form : HandleForm) where
+  -- the rows behind the header are answered each by the places of its handle
   body : (rows answers : List (List ℕ)) (old last : PlacesState) → old.form ≡ Some form
       → AreTaken TakesHandle old rows last answers
       → AnswersHandles form old.sites rows answers
@@ -158,6 +164,7 @@ AnswersLog sites rows answers =
     (handles : List (List ℕ)) × HandlesIn rows handles × (concat answers ≡ header_line ++ lines_at sites handles)
 
 module _ (handles : ReadingsAreHandles) where
+  -- a log is answered from its header to its end
   whole : (rows answers : List (List ℕ)) (old last : PlacesState) → old.form ≡ None → is_some last.form ≡ true
       → AreTaken TakesHandle old rows last answers
       → AnswersLog old.sites rows answers
@@ -192,6 +199,7 @@ module _ (handles : ReadingsAreHandles) where
             ap (λ a. a ++ concat answers) (sym line) ∙ ap (λ a. header_line ++ a) rest.2,
           )
 
+  -- each handle of a log is answered by its places
   pub places_are_printed : PlacesArePrinted
   places_are_printed sites events (last, (took, later, sent, ended), has) =
       let all = whole took.rows took.answers (at_start sites) last refl has took.taken in

@@ -32,6 +32,7 @@ use Rattle.hsp_stream.specs.declared.given.StreamSums.{StreamSums}
 
 -- ---- what rows ask
 
+-- one row more asks for one thing more
 asked_more : (first middle last : Option Form) (rows : List (List ℕ)) (asked : List Asked) (row : List ℕ) (one : Asked)
     → AreAsked first rows asked middle
     → AsksAt middle row one last → AreAsked first (rows ++ row ∷ []) (asked ++ one ∷ []) last
@@ -46,6 +47,7 @@ asked_more first middle last (r ∷ rows) (a ∷ asked) row one are asks =
 
 -- ---- their entries
 
+-- the entries of two lists of questions stand one after the other
 entries_then : (costs : List CostEntry) (it : Instance) (asked more : List Asked)
     → entries_in costs it (asked ++ more) ≡ entries_in costs it asked ++ entries_in costs it more
 entries_then costs it [] more = refl
@@ -91,6 +93,7 @@ said_one costs x held entries (query entry) left =
     let own = entry_for costs held.instance entry in
     ap (λ (a : Answer). answered a ∷ []) (sym (answer_after held.instance x (left_of held) entries own left))
 
+-- one question more has one answer more
 said_more : (costs : List CostEntry) (x : Plan) (held : Held) (asked : List Asked) (one : Asked)
     → IsSame (left_of held) (rest held.instance x (entries_in costs held.instance asked))
     → all_said costs held.instance x (asked ++ one ∷ []) ≡ all_said costs held.instance x asked
@@ -107,6 +110,7 @@ said_more costs x held asked one left =
 
 -- ---- sums
 
+-- an answer more counts where it is of the kind
 counted_more : (kind : Said → Bool) (all : List Said) (one : Said)
     → count_by kind (all ++ one ∷ []) ≡ count_by kind all + cond (kind one) 1 0
 counted_more kind all one = sum_by_push (λ (s : Said). cond (kind s) 1 0) all one
@@ -120,6 +124,7 @@ with_said sums one = record {
   refused = capped (sums.refused + cond (is_refused one) 1 0);
 }
 
+-- the sums of one answer more
 sums_more : (all : List Said) (one : Said) → sums_said (all ++ one ∷ []) ≡ with_said (sums_said all) one
 sums_more all one =
     rw (
@@ -130,11 +135,13 @@ sums_more all one =
     )
     (grind arith)
 
+-- the sums of one query more that is served
 served : (all : List Said) (server : Option Server) (number : ℕ) → server ≢ None
     → with_given (sums_said all) (given.Server number) ≡ with_said (sums_said all) (answered (served_by server))
 served all None number there = absurd (there refl)
 served all (Some server) number there = grind arith
 
+-- counting how an answer was given counts what is said
 given_sums : (it : Instance) (all : List Said) (how : Given) → IsAmong (length it.servers) how
     → with_given (sums_said all) how ≡ with_said (sums_said all) (said_of it how)
 given_sums it all (given.Server number) among =
@@ -145,15 +152,16 @@ given_sums it all given.Spent among = grind arith
 given_sums it all given.Unknown among = grind arith
 given_sums it all (given.Refused refusal) among = grind arith
 
--- ---- desks
+-- ---- responders
 
--- a desk has answered rows since it was `first`
+-- a responder has answered rows since it was `first`
 pub record HasAnswered (first last : Answering) (rows lines : List (List ℕ)) : Type 0 where
   pub costs : last.kind_dispatcher.costs ≡ first.kind_dispatcher.costs
   pub instance : last.kind_dispatcher.held.instance ≡ first.kind_dispatcher.held.instance
   pub answered : AreAnswered first.kind_dispatcher.costs first.kind_dispatcher.held.instance
       (left_of first.kind_dispatcher.held) (left_of last.kind_dispatcher.held) first.form last.form rows lines last.sums
 
+-- at first nothing was answered
 pub answers_none : (first : Answering) → first.sums ≡ none_said → HasAnswered first first [] []
 unfolding answers_after
 answers_none first none = record {
@@ -198,6 +206,7 @@ row_more t new x first form last rows lines sums row one how asks is so =
           ∙ ap (λ (es : List Entry). rest it x es r site) (sym (entries_then t.costs it so.asked (one ∷ [])));
     }
 
+-- one row more is answered
 answers_row : (first old new : Answering) (rows lines : List (List ℕ)) (row answer : List ℕ)
     → HasAnswered first old rows lines → TakesRow old row new answer
     → HasAnswered first new (rows ++ row ∷ []) (lines ++ answer ∷ [])

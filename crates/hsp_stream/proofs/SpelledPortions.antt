@@ -24,9 +24,11 @@ use Rattle.hsp_text.proofs.Steps.{first_step}
 
 -- ---- numbers
 
+-- a value is one whatever the fault would be
 given_as : {X E F : Type 0} (fault : F) (r : Result X E) (x : X) → or_else_fault fault r ≡ Ok x → r ≡ Ok x
 given_as fault r x e = grind arith
 
+-- a word that is read as a count is its decimal
 count_is : (most : ℕ) (word : List ℕ) (n : ℕ) → most < 2 ^ 64 → count_at BadFronts most word ≡ Ok n
     → (word ≡ decimal n) × (1 ≤ n) × (n ≤ most)
 count_is most word n small e =
@@ -34,6 +36,7 @@ count_is most word n small e =
     let whole = whole_is most word n small read.1 in
     (whole.0, read.0, whole.1)
 
+-- the decimal of a count is read as it
 count_is_read : (most n : ℕ) → most < 2 ^ 64 → 1 ≤ n → n ≤ most → count_at BadFronts most (decimal n) ≡ Ok n
 count_is_read most n small some few =
     let above : above_none BadFronts (Ok n) ≡ Ok n = rw (ne_eqb n 0 (λ e. omega (arith, e))) refl in
@@ -41,11 +44,13 @@ count_is_read most n small some few =
 
 -- ---- the unit
 
+-- a word that is read as a unit is its decimal, or there is none
 pub unit_is : (word : Option (List ℕ)) (n : ℕ) → unit_at word ≡ Ok n → SpellsOr word 1 n × (1 ≤ n) × (n ≤ GREATEST_UNIT)
 unit_is None n e = let one : 1 ≡ n = cc (e) in rw (← one) (refl, omega arith, omega arith)
 unit_is (Some word) n e =
     count_is GREATEST_UNIT word n (omega arith) (given_as BadUnit (count_at BadFronts GREATEST_UNIT word) n e)
 
+-- the decimal of a unit is read as it
 unit_is_read : (word : Option (List ℕ)) (n : ℕ) → SpellsOr word 1 n → 1 ≤ n → n ≤ GREATEST_UNIT → unit_at word ≡ Ok n
 unit_is_read None n is some few = ap (λ k. Ok k) (sym is)
 unit_is_read (Some word) n is some few =
@@ -54,12 +59,14 @@ unit_is_read (Some word) n is some few =
 
 -- ---- the number of fronts
 
+-- a word that is read as a number of fronts is its decimal, or there is none
 many_is : (word : Option (List ℕ)) (n : ℕ) → word_or word 1 fronts_at ≡ Ok n
     → SpellsOr word 1 n × (1 ≤ n) × (n ≤ MOST_FRONTS)
 many_is None n e = let one : 1 ≡ n = cc (e) in rw (← one) (refl, omega arith, omega arith)
 many_is (Some word) n e =
     count_is MOST_FRONTS word n (omega arith) (given_as (Input BadFronts) (count_at BadFronts MOST_FRONTS word) n e)
 
+-- the decimal of a number of fronts is read as it
 many_is_read : (word : Option (List ℕ)) (n : ℕ) → SpellsOr word 1 n → 1 ≤ n → n ≤ MOST_FRONTS
     → word_or word 1 fronts_at ≡ Ok n
 many_is_read None n is some few = ap (λ k. Ok k) (sym is)
@@ -69,6 +76,7 @@ many_is_read (Some word) n is some few =
 
 -- ---- the front
 
+-- a word that is read as a front is its decimal, or there is none
 front_is : (fronts : ℕ) (word : Option (List ℕ)) (n : ℕ) → 1 ≤ fronts → word_or word 0 (front_at fronts) ≡ Ok n
     → SpellsOr word 0 n × (n < fronts)
 front_is fronts None n some e = let none : 0 ≡ n = cc (e) in rw (← none) (refl, omega (arith, some))
@@ -76,6 +84,7 @@ front_is fronts (Some word) n some e =
     let read : (n < fronts) × (whole_within MOST_FRONTS word ≡ Ok n) = grind (arith, nat_tests) in
     ((whole_is MOST_FRONTS word n (omega arith) read.1).0, read.0)
 
+-- the decimal of a front is read as it
 front_is_read : (fronts : ℕ) (word : Option (List ℕ)) (n : ℕ) → SpellsOr word 0 n → n < fronts → fronts ≤ MOST_FRONTS
     → word_or word 0 (front_at fronts) ≡ Ok n
 front_is_read fronts None n is inside few = ap (λ k. Ok k) (sym is)
@@ -86,6 +95,7 @@ front_is_read fronts (Some word) n is inside few =
 
 -- ---- the portion
 
+-- words that are read as a portion spell it
 pub portion_is : (words : PortionWords) (portion : Portion) → portion_at words ≡ Ok portion
     → SpellsPortion words portion
 portion_is words portion e =
@@ -106,6 +116,7 @@ portion_is words portion e =
       few = many.2;
     })
 
+-- words that spell a portion are read as it
 pub portion_is_read : (words : PortionWords) (portion : Portion) → SpellsPortion words portion
     → portion_at words ≡ Ok portion
 portion_is_read words portion is =
@@ -123,21 +134,25 @@ portion_is_read words portion is =
 abbrev pub HasNoLog : {X : Type 0} → Result X StreamFault → Type 0
 HasNoLog r = IfErr r (λ fault. (of : RowFault) → fault ≢ Log of)
 
+-- two steps without a fault of the log have none together
 then_none : {X Y : Type 0} (r : Result X StreamFault) (f : X → Result Y StreamFault) → HasNoLog r
     → ((x : X) → HasNoLog (f x)) → HasNoLog (r >>= f)
 then_none (Ok x) f first next = next x
 then_none (Err e) f first next = first
 
+-- another fault in place of one is not the log's
 else_none : {X E : Type 0} (fault : StreamFault) (r : Result X E) → ((of : RowFault) → fault ≢ Log of)
     → HasNoLog (or_else_fault fault r)
 else_none fault (Ok x) apart = tt
 else_none fault (Err e) apart = apart
 
+-- a word has no fault of the log
 word_none : (word : Option (List ℕ)) (usual : ℕ) (spelled : List ℕ → Result ℕ StreamFault)
     → ((octets : List ℕ) → HasNoLog (spelled octets)) → HasNoLog (word_or word usual spelled)
 word_none None usual spelled none = tt
 word_none (Some octets) usual spelled none = none octets
 
+-- a number that is too great has no fault of the log
 below_none : (fronts : ℕ) (r : Result ℕ WholeFault) → HasNoLog (below fronts r)
 below_none fronts (Err e) = λ of same. cc (same)
 below_none fronts (Ok n) = by (nat_lt n fronts)
@@ -146,6 +161,7 @@ below_none fronts (Ok n) = by (nat_lt n fronts)
     by true = tt
     by false = λ of same. cc (same)
 
+-- the words of a portion have no fault of the log
 pub words_none : (words : PortionWords) → HasNoLog (portion_at words)
 words_none words =
     then_none (unit_at (option_map (λ v. v.items) words.unit)) (portion_with words)

@@ -1,4 +1,4 @@
--- Talks at a desk that answers rows.
+-- Talks at a responder that answers rows.
 use Rattle.std.proofs.Common.{◌≡◌, ◌≢◌, ◌∙◌, ℕ, List, [], map, Option, None, Some, Result, Ok, Err, IfErr, refl, ap}
 use Rattle.hsp_tables.specs.Costs.{CostEntry}
 use Rattle.hsp_instance.specs.Instance.{Instance}
@@ -26,7 +26,7 @@ use Rattle.hsp_stream.specs.declared.given.StreamSums.{StreamSums}
 use Rattle.hsp_stream.proofs.RowsAnswered.{answers_all, answers_none}
 
 abbrev pub RefusesRow : Answering → List ℕ → Answering → NoHeader → Type 0
-RefusesRow desk row next fault = IsNoHeader desk.form row
+RefusesRow responder row next fault = IsNoHeader responder.form row
 
 module _ (first : Answering) (form : first.form ≡ None) (none : first.sums ≡ none_said) where
   -- what was taken was answered
@@ -84,6 +84,7 @@ module _ (first : Answering) (form : first.form ≡ None) (none : first.sums ≡
       let lacks : LacksHeader events by.1.later = rw by.4 refused.1 in
       (by.0.sums, so_far by.0 events None by.0.sums refused.0 refl by.1, lacks, by.6)
 
+  -- a talk that stopped ends by its fault
   pub stopped : (last : Answering) (old new : Known) (why : Stop NoHeader)
       → Went old new (λ events. StoppedBy TakesRow RefusesRow first last events why)
       → Went old new (λ events. Ends events (Err (fault_of why)))
@@ -92,9 +93,11 @@ module _ (first : Answering) (form : first.form ≡ None) (none : first.sums ≡
 -- ---- plans that send alike
 
 module _ (costs : List CostEntry) (it : Instance) (x y : Plan) (same : IsSame x y) where
+  -- the same plans give the same answers
   answers_same : (entries : List Entry) → answers it x entries ≡ answers it y entries
   answers_same entries = same_answers it x y [] entries same
 
+  -- so they do for all rows
   rows_same : (left : Plan) (first last : Option Form) (rows lines : List (List ℕ)) (sums : StreamSums)
       → AreAnswered costs it x left first last rows lines sums
       → AreAnswered costs it y left first last rows lines sums
@@ -122,6 +125,7 @@ module _ (costs : List CostEntry) (it : Instance) (x y : Plan) (same : IsSame x 
     prompt = so.prompt;
   }
 
+  -- a talk that stops by one plan stops by the same
   stops_same : (events : List Event) (fault : StreamFault) → StopsBy costs it x events fault
       → StopsBy costs it y events fault
   stops_same events (Log ReadFailed) by = (by.0, by.1, some_same by.0 by.1 events by.2, by.3)
@@ -131,11 +135,13 @@ module _ (costs : List CostEntry) (it : Instance) (x y : Plan) (same : IsSame x 
   stops_same events (Log other) by = absurd by
   stops_same events other by = absurd by
 
+  -- a talk that ends by one plan ends by the same
   pub ends_same : (events : List Event) (answer : Result StreamSums StreamFault) → EndsBy costs it x events answer
       → EndsBy costs it y events answer
   ends_same events (Ok sums) by = (by.0, some_same (Some by.0) sums events by.1, by.2, by.3, by.4)
   ends_same events (Err fault) by = stops_same events fault by
 
+-- so does the talk of a run
 pub log_ends : (costs : List CostEntry) (it own : Instance) (x y : Plan) (answer : Result StreamSums StreamFault)
     (old new : Known) → own ≡ it → IsSame x y
     → Went old new (λ events. EndsBy costs own x events answer)

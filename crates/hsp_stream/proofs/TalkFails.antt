@@ -9,6 +9,7 @@ use Rattle.hsp_stream.specs.TalkFaults.{IsFailedWrite, MayStopBy, fault_of}
 use Rattle.hsp_stream.specs.declared.answerer.NoHeader.{NoHeader}
 use Rattle.hsp_stream.specs.declared.given.StreamSums.{StreamSums}
 
+-- a stop is of what may fail
 pub stop_may : (MayReadFail MaySendFail : Type 0) (old new : Known) (why : Stop NoHeader)
     → MayStop MayReadFail MaySendFail old new why → MayStopBy MayReadFail MaySendFail old new (fault_of why)
 stop_may MayReadFail MaySendFail old new stop.ReadFailed may = may
@@ -21,6 +22,7 @@ kept : {A : Type 0} (B : Type 0) → A ⊎ ⊥ → A ⊎ B
 kept B (inl a) = inl a
 kept B (inr none) = absurd none
 
+-- a talk that stopped handed on all, or a write failed
 pub stop_hands : (old new : Known) (why : Stop NoHeader) → IsHandedOn old new ⊎ HasFailedWrite {X = Unit {0}} (Err why)
     → IsHandedOn old new ⊎ IsFailedWrite {X = StreamSums} (Err (fault_of why))
 stop_hands old new stop.ReadFailed handed = kept ⊥ handed

@@ -72,13 +72,13 @@ pub record IsGiven (old : KindsHeld) (asked : Asked) (new : KindsHeld) (given : 
       IsSame (left_of new.held)
       (rest old.held.instance (left_of old.held) (entries_in old.costs old.held.instance (asked ∷ [])))
 
--- a desk: the form of the log, once its header was taken, what its dispatcher holds, and the sums so far
+-- a responder: the form of the log, once its header was taken, what its dispatcher holds, and the sums so far
 pub record Answering : Type 0 where
   pub form : Option Form
   pub kind_dispatcher : KindsHeld
   pub sums : StreamSums
 
--- a desk takes a row with this answer
+-- a responder takes a row with this answer
 pub record TakesRow (old : Answering) (row : List ℕ) (new : Answering) (answer : List ℕ) : Type 0 where
   pub asked : Asked
   pub given : Given

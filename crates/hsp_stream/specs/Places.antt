@@ -1,4 +1,4 @@
--- What a desk answers that states the servers of the handles of a log.
+-- What a responder answers that states the servers of the handles of a log.
 use Rattle.std.specs.Prelude.{◌≡◌, ◌+◌, ◌-◌, ◌^◌, ◌&&◌, ⊤, ℕ, List, [], codes, length, min, nat_lt, Option, None, Some}
 use Rattle.std.specs.Prelude.{Result, Ok, Err, if◌then◌else◌}
 use Rattle.std.specs.Str.{bytes_eq}
@@ -72,7 +72,7 @@ GivesOrRefuses view (Ok x) given = given ≡ Ok (view x)
 GivesOrRefuses view (Err (refusal.Fault fault)) given = given ≡ Err fault
 GivesOrRefuses view (Err refusal.OutOfMemory) given = ⊤
 
--- ---- the desk
+-- ---- the responder
 
 -- the sites, the form of the rows once there was a header, and how many rows came after it
 pub record PlacesState : Type 0 where
@@ -101,7 +101,7 @@ abbrev pub step_by : PlacesState → Option HandleForm → List ℕ → Step
 step_by at None line = header_in line >>= headed at
 step_by at (Some form) line = handle_in_row at.rows form line >>= answered at
 
--- what a desk answers to a row
+-- what a responder answers to a row
 abbrev pub step : PlacesState → List ℕ → Step
 step at line = step_by at at.form line
 

@@ -12,7 +12,7 @@ use Rattle.hsp_stream.specs.declared.fault.RowFault.TheVariants as row
 use Rattle.hsp_stream.specs.declared.fault.StreamFault.{StreamFault}
 use Rattle.hsp_stream.specs.declared.fault.StreamFault.TheVariants as fault
 
--- the desk took all rows until the end, from its start
+-- the responder took all rows until the end, from its start
 abbrev pub AreTakenAll : List Site → PlacesState → List Event → Type 0
 AreTakenAll sites last events = HeldToTheEnd TakesHandle (at_start sites) last events
 

@@ -12,8 +12,8 @@ pub fn goes_by_own_hash()
     ensures { GoesByOwnHash }
 {}
 
-/// Machines that answer rows by the portions of all fronts together assign no more of a row of demand to a site than the
-/// unit times what the plan sends there.
+/// Machines that answer rows by the portions of all fronts together assign no more of a row of demand to a site than
+/// the unit times what the plan sends there.
 pub fn machines_keep_within()
     ensures { MachinesKeepWithin }
 {}

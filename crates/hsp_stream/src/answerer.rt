@@ -1,4 +1,4 @@
-// The desk that answers the rows of a log by a plan.
+// The responder that answers the rows of a log by a plan.
 
 ghost use Rattle.std.specs.Prelude.{◌≡◌, ◌≢◌, ◌∷◌, [], IfErr, IfOk, List, MatchOption, None, OnErr, OnOk, Option, ℕ};
 ghost use Rattle.hsp_csv.specs.Row.{row_shown};
@@ -14,7 +14,7 @@ use crate::kind_dispatcher::KindDispatcher;
 use hsp_csv::{RowFields, RowReader, without_mark};
 use hsp_dispatch::{Dispatcher, Form, ServerLines};
 use hsp_tables::Costs;
-use hsp_talk::{Desk, Refusal};
+use hsp_talk::{Refusal, Responder};
 use std::alloc::{AllocError, Global};
 use std::marker::Model;
 
@@ -99,13 +99,13 @@ fn form_in(
 }
 
 impl<'a> Answerer<'a> {
-    /// A desk that has taken no row, and answers by what the dispatcher holds. The costs distinguish kinds.
+    /// A responder that has taken no row, and answers by what the dispatcher holds. The costs distinguish kinds.
     pub(crate) fn new(
         alloc: Global,
         costs: &'a Costs,
         dispatcher: Dispatcher<'a>,
     ) -> Result<Answerer<'a>, AllocError>
-        ensures { IfOk result (λ desk. desk ≡ record {
+        ensures { IfOk result (λ responder. responder ≡ record {
           form = None;
           kind_dispatcher = record { costs = costs.now; held = dispatcher.entry };
           sums = none_said;
@@ -135,12 +135,12 @@ impl<'a> Answerer<'a> {
     }
 }
 
-impl<'a> Desk for Answerer<'a> {
+impl<'a> Responder for Answerer<'a> {
     type Fault = NoHeader;
 
     ghost Takes = { TakesRow };
 
-    ghost Refuses = { λ desk row next fault. IsNoHeader desk.form row };
+    ghost Refuses = { λ responder row next fault. IsNoHeader responder.form row };
 
     fn take(&mut self, row: &[u8], answer: &mut Vec<u8>) -> Result<(), Refusal<NoHeader>> {
         let Some(form) = self.form else {

@@ -48,8 +48,8 @@ fn answer_portion<P: Peer>(
         &accepted.certificate,
         portion,
     )?;
-    let mut desk = Answerer::new(alloc, costs, dispatcher)?;
-    answer_rows(alloc, &mut desk, peer)
+    let mut responder = Answerer::new(alloc, costs, dispatcher)?;
+    answer_rows(alloc, &mut responder, peer)
 }
 
 // The same by the costs of the inputs. They were read before, so that only memory can run out.
@@ -138,8 +138,8 @@ fn answer_inputs<P: Peer>(
 /// Faults in this order: `BadUnit`, `Input(BadFronts)`, `BadFront`, then `Input` with the faults of [`accepted_in`] and
 /// `WrongKind` for a shortage, all with nothing read or sent. Then `Log` with `Header`, `ReadFailed` or `WriteFailed`,
 /// when the rows before it were answered. A run stops anywhere if memory runs out. Where the words spell a portion, the
-/// inputs define an instance, and the certificate is a plan that holds for it, there is no other fault than `Log`, unless
-/// memory runs out.
+/// inputs define an instance, and the certificate is a plan that holds for it, there is no other fault than `Log`,
+/// unless memory runs out.
 pub fn answer_run<P: Peer>(
     alloc: Global,
     inputs: &Inputs,

@@ -30,8 +30,8 @@ pub enum RowFault {
     TooManyRegions { row: u64 },
     /// The row is the first of the 8,193rd kind.
     TooManyKinds { row: u64 },
-    /// The count of this row of the table is above 1,000,000. In this unit no count of the table is, and in each smaller
-    /// one some count is.
+    /// The count of this row of the table is above 1,000,000. In this unit no count of the table is, and in each
+    /// smaller one some count is.
     CountTooLarge { row: u32, unit: u64 },
 }
 

@@ -53,8 +53,8 @@ pub fn table_speaks_of_the_log()
     prices_of_kinds();
 }
 
-/// Where [`crate::kinds_run`] printed the demand of inputs in a unit, each feasible plan of the instance that the inputs
-/// define serves the rows of the log, so many queries for each of its units.
+/// Where [`crate::kinds_run`] printed the demand of inputs in a unit, each feasible plan of the instance that the
+/// inputs define serves the rows of the log, so many queries for each of its units.
 pub fn units_serve_the_log()
     ensures { UnitsServeTheLog }
 {

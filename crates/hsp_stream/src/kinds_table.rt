@@ -103,8 +103,8 @@ fn push_kind(
 
 /// The table of kinds as comma-separated values, with counts in units.
 ///
-/// The header is `region,handle,count`. The fault is `CountTooLarge` of the first row whose count is above 1,000,000. It
-/// names the least unit by which no count of the table is.
+/// The header is `region,handle,count`. The fault is `CountTooLarge` of the first row whose count is above 1,000,000.
+/// It names the least unit by which no count of the table is.
 pub(crate) fn text_of_kinds(
     alloc: Global,
     kinds: &Kinds<'_>,

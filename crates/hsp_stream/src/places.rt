@@ -6,7 +6,7 @@ ghost use Rattle.hsp_stream.specs.PlacesRun.{ArePlaced, ArePlacedUntil};
 ghost use Rattle.hsp_stream.specs.TalkFaults.{IsFailedWrite, MayStopBy};
 
 use crate::fault::{RowFault, StreamFault};
-use crate::places_desk::PlacesDesk;
+use crate::places_responder::PlacesResponder;
 use hsp_runs::sites_in;
 use hsp_talk::{Peer, Stop, talk};
 use std::alloc::Global;
@@ -38,10 +38,10 @@ pub fn places_run<P: Peer>(
         (P.known peer.old) (P.known peer.new)) }
 {
     let sites = sites_in(alloc, settings, values)?;
-    let mut desk = PlacesDesk::new(alloc, sites);
-    match talk(alloc, &mut desk, peer) {
+    let mut responder = PlacesResponder::new(alloc, sites);
+    match talk(alloc, &mut responder, peer) {
         Ok(()) => {
-            if desk.has_header() {
+            if responder.has_header() {
                 Ok(())
             } else {
                 Err(StreamFault::Log(RowFault::Header))

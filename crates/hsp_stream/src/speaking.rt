@@ -25,24 +25,24 @@ fn fault_of(stop: Stop<NoHeader>) -> StreamFault
     }
 }
 
-/// Answers the rows that a peer asks by, until no more come, at a desk that has taken no row.
+/// Answers the rows that a peer asks by, until no more come, by a responder that has taken no row.
 pub(crate) fn answer_rows<P: Peer>(
     alloc: Global,
-    desk: &mut Answerer<'_>,
+    responder: &mut Answerer<'_>,
     peer: &mut P,
 ) -> Result<StreamSums, StreamFault>
-    requires form { desk.old.form ≡ None }
-    requires sums { desk.old.sums ≡ none_said }
+    requires form { responder.old.form ≡ None }
+    requires sums { responder.old.sums ≡ none_said }
     ensures answered { Went (P.known peer.old) (P.known peer.new) (λ events.
-        EndsBy desk.old.kind_dispatcher.costs desk.old.kind_dispatcher.held.instance
-        (left_of desk.old.kind_dispatcher.held) events result) }
+        EndsBy responder.old.kind_dispatcher.costs responder.old.kind_dispatcher.held.instance
+        (left_of responder.old.kind_dispatcher.held) events result) }
     ensures log { IfErr result (λ e. IsBeforeLog e → ⊥) }
     ensures handed { IsHandedOn (P.known peer.old) (P.known peer.new) ⊎ IsFailedWrite result }
     ensures may_stop { IfErr result (MayStopBy (P.may_read_fail peer.old) P.may_send_fail
         (P.known peer.old) (P.known peer.new)) }
 {
-    match talk(alloc, desk, peer) {
-        Ok(()) => match desk.ending() {
+    match talk(alloc, responder, peer) {
+        Ok(()) => match responder.ending() {
             Some(sums) => Ok(sums),
             None => Err(StreamFault::Log(RowFault::Header)),
         },

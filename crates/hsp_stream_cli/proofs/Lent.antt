@@ -27,11 +27,13 @@ use Rattle.hsp_stream_cli.specs.declared.files.Sources.{Sources}
 abbrev IsKept : Known → Known → Type 0
 IsKept old new = new.lent ≡ old.lent
 
+-- a peer at which nothing happened is kept
 as_it_was : (old new : Known) → new ≡ old → IsKept old new
 as_it_was old new same = ap (λ (k : Known). k.lent) same
 
 -- ---- places
 
+-- places that were stated up to a fault keep the peer
 until : (settings : List ℕ) (values : Option (List ℕ)) (old new : Known) (by : StreamFault)
     → ArePlacedUntil settings values old new by → IsKept old new
 until settings values old new (fault.Input e) (read, same) = as_it_was old new same
@@ -43,6 +45,7 @@ until settings values old new fault.OutOfMemory so = elim so [
 until settings values old new fault.BadUnit so = absurd so
 until settings values old new fault.BadFront so = absurd so
 
+-- places that were stated keep the peer
 pub places_keep : (sources : Sources) (ended : Ended) (old new : Known) → EndsPlaces sources ended old new
     → IsKept old new
 places_keep sources (Ok None) old new (sites, read, (events, goes, so)) = goes.same
@@ -55,20 +58,24 @@ places_keep sources (Err Write) old new so = absurd so
 
 -- ---- answers
 
+-- a run that was refused keeps the peer
 refused : (by : StreamFault) (run : Run) → Refuses by run → IsKept run.before run.after
 refused by run (same, answer) = as_it_was run.before run.after same
 
+-- answers by a certificate keep the peer
 by_claim : (portion : Portion) (costs : List CostEntry) (it : Instance) (claim : Claim) (run : Run)
     → AnswersAs portion costs it claim run → IsKept run.before run.after
 by_claim portion costs it (best c) run ends = elim ends [ inl refuses ↦ refused _ run refuses | inr so ↦ so.1.same ]
 by_claim portion costs it (short c) run refuses = refused _ run refuses
 
+-- so do answers by an accepted plan
 by_accepted : (portion : Portion) (inputs : Inputs) (accepted : Result Accepted Fault) (run : Run)
     → AnswersWhere portion inputs accepted run → IsKept run.before run.after
 by_accepted portion inputs (Ok accepted) run (costs, read, so) =
     by_claim portion costs accepted.instance accepted.certificate run so
 by_accepted portion inputs (Err e) run refuses = refused _ run refuses
 
+-- so do answers by a portion of it
 by_portion : (inputs : Inputs) (octets : List ℕ) (run : Run) (portion : Result Portion StreamFault)
     → AnswersPortion inputs octets run portion → IsKept run.before run.after
 by_portion inputs octets run (Err e) refuses = refused e run refuses
@@ -77,6 +84,7 @@ by_portion inputs octets run (Ok portion) so = elim so [
   | inr rest ↦ by_accepted portion inputs rest.0 run rest.2
 ]
 
+-- answers keep the peer
 pub answers_keep : (inputs : Inputs) (octets : List ℕ) (words : PortionWords) (ended : Ended) (old new : Known)
     → EndsAnswers inputs octets words ended old new → IsKept old new
 answers_keep inputs octets words (Ok (Some sums)) old new so = by_portion inputs octets _ (portion_at words) so
@@ -100,6 +108,7 @@ given_back Holds writer last before after back same so = subst Holds (sym (back 
 
 -- ---- outputs
 
+-- what a peer handed on is what the writer did
 pub hands : (old new : Known) (ended : Ended) → IsKnownHanded old new ⊎ IsFailedWrite ended
     → IsHandedOn old.written old.handed new.written new.handed ended
 hands old new ended (inl (inl none)) = inl (none.written, none.handed)
@@ -118,6 +127,7 @@ may_weaker MayReadFail DiskFails MayFail (Err (Refused (fault.Log other))) old n
 may_weaker MayReadFail DiskFails MayFail (Err (Refused other)) old new weaker may = tt
 may_weaker MayReadFail DiskFails MayFail ended old new weaker may = tt
 
+-- what is true of a reader that may fail is true where the disk may
 pub talks_weaker : (MayReadFail DiskFails MayFail : Type 0) (left old new : Option (List ℕ)) (ended : Ended)
     (Holds : Known → Known → Type 0) → (MayReadFail → DiskFails) →
     TalksOver MayReadFail MayFail left old new ended Holds → TalksOver DiskFails MayFail left old new ended Holds

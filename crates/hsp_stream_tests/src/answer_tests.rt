@@ -112,9 +112,9 @@ fn rows_are_answered_by_their_kinds(rt: HostRuntime) {
     );
 }
 
-// The region r3 has no row, and for r2 no row has the place of 10/1. A faulty row ends nothing. The bodies ask for 10/1,
-// for 10/1 with digits in upper case, and for 10. The others are none: digits that are no octets or odd in number, and a
-// body that is cut.
+// The region r3 has no row, and for r2 no row has the place of 10/1. A faulty row ends nothing. The bodies ask for
+// 10/1, for 10/1 with digits in upper case, and for 10. The others are none: digits that are no octets or odd in
+// number, and a body that is cut.
 #[test]
 fn other_rows_are_unknown_or_refused(rt: HostRuntime) {
     let cases: [(&[u8], &[u8], [u64; 4]); 2] = [
@@ -124,8 +124,10 @@ fn other_rows_are_unknown_or_refused(rt: HostRuntime) {
             [1, 0, 2, 2],
         ),
         (
-            b"\n\nregion,body\nr1,0000000431302f310000000000000000\nr1,0000000431302F310000000000000000\nr1,0000000231300000000000000000\nr1,zz\nr1,000\nr1,00000004\n",
-            b"assigned E 1 3\nassigned E 1 3\nrefused BadHandle NoSlash\nrefused BadBody\nrefused BadBody\nrefused BadBody\n",
+            b"\n\nregion,body\nr1,0000000431302f310000000000000000\nr1,0000000431302F310000000000000000\n\
+            r1,0000000231300000000000000000\nr1,zz\nr1,000\nr1,00000004\n",
+            b"assigned E 1 3\nassigned E 1 3\nrefused BadHandle NoSlash\nrefused BadBody\nrefused BadBody\n\
+            refused BadBody\n",
             [2, 0, 0, 4],
         ),
     ];
@@ -148,14 +150,15 @@ fn a_query_of_the_plan_stands_for_a_unit(rt: HostRuntime) {
         words,
         log,
         (
-            b"assigned E 1 3\nassigned E 1 3\nassigned E 1 3\nassigned E 1 3\nassigned W 2 9\nassigned E 0 7\nassigned E 0 7\nspent\n",
+            b"assigned E 1 3\nassigned E 1 3\nassigned E 1 3\nassigned E 1 3\nassigned W 2 9\nassigned E 0 7\n\
+            assigned E 0 7\nspent\n",
             [7, 1, 0, 0],
         ),
     );
 }
 
-// Of two queries each of two fronts has one; of one query the first front has it. Of 64 fronts the first has one query of
-// each row at each site, and the last has none.
+// Of two queries each of two fronts has one; of one query the first front has it. Of 64 fronts the first has one query
+// of each row at each site, and the last has none.
 #[test]
 fn a_front_answers_by_its_share(rt: HostRuntime) {
     let cases: [(&[u8], &[u8], &[u8], &[u8], [u64; 4]); 4] = [
@@ -348,7 +351,8 @@ fn longest_rows_are_answered(rt: HostRuntime) {
         WHOLE,
         &log,
         (
-            b"assigned E 1 3\nrefused BadHandle TooLong\nrefused BadHandle TooLong\nrefused BadHandle TooLong\nrefused TooLong\n",
+            b"assigned E 1 3\nrefused BadHandle TooLong\nrefused BadHandle TooLong\nrefused BadHandle TooLong\n\
+            refused TooLong\n",
             [1, 0, 0, 4],
         ),
     );

@@ -28,7 +28,8 @@ pub(crate) const VALUES: &[u8] = b"\0\0\0\x01\0\0\0\x01\0\0\0\x07HS_SITE\0\0\0\x
 /// Two queries of the first row go to the server 3 of E and one to the server 9 of W, and one of each other row goes to
 /// the server 7 of E.
 pub(crate) const PLAN: &[u8] =
-    b"HSPLAN 1\nPLAN\ncost 10\nuse 0 0 2\nuse 0 1 1\nuse 1 0 1\nuse 2 0 1\nrow 0 5\nrow 1 1\nrow 2 2\nserver 0 0\nserver 1 4\nserver 2 0\nserver 3 0\nserver 4 0\nEND\n";
+    b"HSPLAN 1\nPLAN\ncost 10\nuse 0 0 2\nuse 0 1 1\nuse 1 0 1\nuse 2 0 1\nrow 0 5\nrow 1 1\nrow 2 2\nserver 0 0\n\
+    server 1 4\nserver 2 0\nserver 3 0\nserver 4 0\nEND\n";
 
 /// The octets, owned.
 pub(crate) fn owned(alloc: Global, octets: &[u8]) -> Result<Vec<u8>, AllocError> {

@@ -28,6 +28,7 @@ new_among same laws (x ∷ earlier) row rest apart =
       new_among same laws earlier row rest apart.1,
     ) refl
 
+-- a number is not above a greater one
 pub nat_le-over : (m n : ℕ) → n < m → nat_le m n ≡ false
 nat_le-over m n below = grind (arith, nat_tests)
 
@@ -86,6 +87,7 @@ module _ (Item Row : Type 0) (most : ℕ) (many : TableFault) (row_in : ℕ → 
         let is = keyed_row earlier item row e in
         keyed_and_one most (λ _. Unit {0}) same laws earlier row are is.0 tt is.2
 
+    -- rows of different keys are read just where the items spell them
     pub reads_as_spelled : ReadsAsSpelled most row_in same read
     reads_as_spelled items rows = (
       λ e.

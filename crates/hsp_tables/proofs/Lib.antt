@@ -9,3 +9,5 @@ pub mod SettingsLists
 pub mod TableReading
 pub mod TableKinds
 pub mod KeyedReading
+mod FaultyRows
+mod FaultyLaws

@@ -32,6 +32,7 @@ value_found test is row_of number tells has [] = refl
 value_found test is row_of number tells has (e ∷ es) =
     grind (arith, tells e, has e, value_found test is row_of number tells has es)
 
+-- the map finds the cost of the row with both names
 pub cost_found : (region site : List ℕ) (es : List (PairName × ℕ))
     → lookup (λ (k : PairName). bytes_eq region k.first && bytes_eq site k.second) es
     ≡ option_map (λ (row : CostEntry). row.cost)
@@ -42,6 +43,7 @@ cost_found region site es =
     (λ (row : CostEntry). row.cost)
     (λ e. flipped region e.0.first site e.0.second) (λ e. refl) es
 
+-- the map finds the capacity of the row with site and server
 pub server_found : (site : List ℕ) (id : ℕ) (es : List (ServerKey × ℕ))
     → lookup (λ (k : ServerKey). bytes_eq site k.site.items && (k.server_id == id)) es
     ≡ option_map (λ (row : CapacityEntry). row.capacity)

@@ -11,7 +11,8 @@ use Rattle.hsp_tables.specs.Table.{first_seen}
 abbrev pub Octets : Type 0
 Octets = Vec ℕ Global
 
-name_among : (name : List ℕ) (names : List Octets)
+-- a name is in the set just where one of its texts is
+pub name_among : (name : List ℕ) (names : List Octets)
     → list_any (λ n. bytes_eq name n.items) names ≡ list_any (bytes_eq name) (names_in names)
 name_among name [] = refl
 name_among name (n ∷ names) = rw (name_among name names)

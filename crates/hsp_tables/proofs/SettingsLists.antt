@@ -41,23 +41,28 @@ pub record StatesSite (members : Members) (site : SiteEntry) : Type 0 where
   pub is_name : is_name site.name ≡ true
   pub source : IsStatedBy (get_member (codes "record") members) (get_member (codes "index") members) site.source
 
+-- a name that was read is the text of its key, and a name
 name_is : (n : ℕ) (value : Option Data) (name : List ℕ) → site_name n value ≡ Ok name
     → (value ≡ Some (toml.string name)) × (is_name name ≡ true)
 name_is n value name e = grind arith
 
+-- a source that was read is stated by one of its keys
 source_is : (n : ℕ) (a b : Option Data) (source : SiteSource) → site_source n a b ≡ Ok source → IsStatedBy a b source
 source_is n a b (octets bytes) e = grind (arith, nat_tests)
 source_is n a b (index i) e = grind (arith, nat_tests)
 
+-- a source that is stated is read
 source_is_read : (n : ℕ) (a b : Option Data) (source : SiteSource) → IsStatedBy a b source
     → site_source n a b ≡ Ok source
 source_is_read n a b (octets bytes) told = rw (told.1, told.2, told.3) refl
 source_is_read n a b (index i) told = rw (told.0, told.1, le-leb i greatest_of_32_bits told.2) refl
 
+-- a stated source keeps to its limits
 source_within : (a b : Option Data) (source : SiteSource) → IsStatedBy a b source → IsSource source
 source_within a b (octets bytes) told = tt
 source_within a b (index i) told = told.2
 
+-- a site that was read is stated by its table
 pub site_is : (n : ℕ) (value : Data) (site : SiteEntry) → site_at n value ≡ Ok site
     → (members : Members) × (value ≡ toml.table members) × StatesSite members site
 site_is n value site e =
@@ -73,6 +78,7 @@ site_is n value site e =
     let of = source_is n (get_member (codes "record") ms) (get_member (codes "index") ms) source sourced in
     (ms, table.1, rw (← same) (record { keys = tests; name = is.0; is_name = is.1; source = of }))
 
+-- a site that is stated is read
 pub site_is_read : (n : ℕ) (members : Members) (site : SiteEntry) → StatesSite members site
     → site_at n (toml.table members) ≡ Ok site
 site_is_read n ms site tells =
@@ -80,6 +86,7 @@ site_is_read n ms site tells =
     source_is_read n (get_member (codes "record") ms) (get_member (codes "index") ms) site.source tells.source in
     rw (tells.keys, tells.name, tells.is_name, source) refl
 
+-- a site that was read keeps to its limits
 site_entry : (n : ℕ) (value : Data) (site : SiteEntry) → site_at n value ≡ Ok site → IsSiteEntry site
 site_entry n value site e =
     let tells = (site_is n value site e).2 in
@@ -95,6 +102,7 @@ pub record StatesHost (members : Members) (host : HostEntry) : Type 0 where
   pub limit : get_member (codes "limit") members ≡ Some (toml.integer (pos host.limit))
   pub limited : host.limit ≤ GREATEST_LIMIT
 
+-- a host that was read is stated by its table
 pub host_is : (n : ℕ) (value : Data) (host : HostEntry) → host_at n value ≡ Ok host
     → (members : Members) × (value ≡ toml.table members) × StatesHost members host
 host_is n value host e =
@@ -108,6 +116,7 @@ host_is n value host e =
       record { keys = read.2; digits = read.3; address = read.4; decoded = read.5; limit = read.6; limited = read.7 },
     )
 
+-- a host that is stated is read
 pub host_is_read : (n : ℕ) (members : Members) (host : HostEntry) → StatesHost members host
     → host_at n (toml.table members) ≡ Ok host
 host_is_read n ms host tells =
@@ -131,6 +140,7 @@ AreAt value items = (value ≡ Some (toml.array items)) ⊎ ((value ≡ None) ×
 module _ {Row : Type 0} (bad : TableFault) (most : ℕ) (row_in : ℕ → Data → Result Row TableFault)
     (same : Row → Row → Bool) (read : Reading Data Row)
     (law : ReadsAsSpelled most row_in same read) where
+  -- the rows of an array are spelled by its elements, in order
   pub listed_is : (value : Option Data) (rows : List Row) → listed bad read value ≡ Ok rows
       → (items : Items) × AreAt value items × SpellKeyed most row_in same (elements_in items) rows
   listed_is None rows e = (toml.no_items, inr (refl, refl), (law [] rows).0 e)
@@ -139,11 +149,13 @@ module _ {Row : Type 0} (bad : TableFault) (most : ℕ) (row_in : ℕ → Data �
       grind arith in
       (array.0, inl (ap (λ (v : Data). Some v) array.1), (law (elements_in array.0) rows).0 array.2)
 
+  -- an array whose elements spell rows is read as these
   pub lists : (value : Option Data) (items : Items) (rows : List Row) → AreAt value items
       → SpellKeyed most row_in same (elements_in items) rows → listed bad read value ≡ Ok rows
   lists value items rows (inl is) spelled = rw is ((law (elements_in items) rows).1 spelled)
   lists value items rows (inr (none, no_items)) spelled = rw none ((law [] rows).1 (rw no_items at spelled))
 
+  -- the rows of an array are within their limits, no two of one key
   are_keyed : (Is : Row → Type 0) → ((n : ℕ) (value : Data) (row : Row) → row_in n value ≡ Ok row → Is row)
       → (value : Option Data) (rows : List Row) → listed bad read value ≡ Ok rows → AreKeyed most Is same rows
   are_keyed Is each value rows e =
@@ -154,16 +166,20 @@ module _ {Row : Type 0} (bad : TableFault) (most : ℕ) (row_in : ℕ → Data �
         apart = is.2.apart;
       }
 
+-- sites are the same by their names
 site_keys : IsEquivalence same_name
 site_keys = search (rules, comparing)
 
+-- hosts are the same by their addresses
 host_keys : IsEquivalence same_address
 host_keys = search (rules, comparing)
 
+-- sites are read just where elements spell them
 pub sites_read_as_spelled : ReadsAsSpelled MOST_SITES site_at same_name site_after
 sites_read_as_spelled =
     reads_as_spelled Data SiteEntry MOST_SITES fault.TooManySites site_at same_name fault.SiteTwice site_keys
 
+-- hosts are read just where elements spell them
 pub hosts_read_as_spelled : ReadsAsSpelled MOST_HOSTS host_at same_address host_after
 hosts_read_as_spelled =
     reads_as_spelled Data HostEntry MOST_HOSTS fault.TooManyHosts host_at same_address fault.HostTwice host_keys
@@ -182,6 +198,7 @@ hosts_are =
 
 -- ---- the document
 
+-- settings that were read are the sites and hosts of one document
 pub settings_parts : (text : List ℕ) (settings : SettingsEntries) → settings_of text ≡ Ok settings
     → (document : Members) × (is_utf8 text ≡ true) × (parse_document text ≡ Some document)
     × (list_all is_root_key (keys_in document) ≡ true)

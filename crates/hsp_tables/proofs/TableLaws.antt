@@ -52,6 +52,7 @@ module _ {Row : Type 0} (table : Table Row) where
 abbrev too_many : {Row : Type 0} → Table Row → List Row → Bool
 too_many table rows = nat_lt MOST_REGIONS (length (regions_of table rows))
 
+-- a number is not below one that is no greater
 pub nat_lt-upto : (m n : ℕ) → n ≤ m → nat_lt m n ≡ false
 nat_lt-upto m n upto = grind (arith, nat_tests)
 

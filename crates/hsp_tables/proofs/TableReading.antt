@@ -93,6 +93,7 @@ module _ {Row : Type 0} (table : Table Row) (keys : IsEquivalence table.same_key
         | inr (lacks, none) ↦ inl (lacks, cc (none, e))
       ]
 
+  -- the fault of the relation is the one that is read
   fault_is_read : (records : List Fields) (fault : TableFault) → IsTableFault table records fault
       → table_of table records ≡ Err fault
   fault_is_read records fault (inl (lacks, is)) =
@@ -114,6 +115,7 @@ module _ {Row : Type 0} (table : Table Row) (keys : IsEquivalence table.same_key
   -- rows by their fields, where the record of a row is its fields
   module _ (fields : Row → Fields) (Is : Row → Type 0)
       (reads : (n : ℕ) (one : Fields) (row : Row) → (table.row_in n one ≡ Ok row) ↔ ((one ≡ fields row) × Is row)) where
+    -- rows that records spell are those with their fields, each within its limits
     are_spelled : (n : ℕ) (body : List Fields) (rows : List Row) → SpellRows table n body rows
         → (body ≡ map fields rows) × AllByRecursion Is rows
     are_spelled n [] [] spells = (refl, tt)
@@ -124,6 +126,7 @@ module _ {Row : Type 0} (table : Table Row) (keys : IsEquivalence table.same_key
         let later = are_spelled (n + 1) body rows spells.1 in
         (cc (first.0, later.0), (first.1, later.1))
 
+    -- the fields of rows spell them
     spell : (n : ℕ) (rows : List Row) → AllByRecursion Is rows → SpellRows table n (map fields rows) rows
     spell n [] all = tt
     spell n (row ∷ rows) all = ((reads n (fields row) row).1 (refl, all.0), spell (n + 1) rows all.1)

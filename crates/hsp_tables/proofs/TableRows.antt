@@ -58,6 +58,7 @@ cost_fields row = row.region ∷ row.site ∷ decimal row.cost ∷ []
 abbrev pub capacity_fields : CapacityEntry → Fields
 capacity_fields row = row.site ∷ decimal row.server_id ∷ decimal row.capacity ∷ []
 
+-- a record is read as a row of demand just where it has that row's fields
 demand_is : (n : ℕ) (fields : Fields) (row : DemandEntry)
     → (demand_in n fields ≡ Ok row) ↔ ((fields ≡ demand_fields row) × IsDemandEntry row)
 demand_is n fields row = (
@@ -72,6 +73,7 @@ demand_is n fields row = (
   λ (same, is). rw (same, is.region, is.handle, whole_is_read GREATEST_COUNT row.count (omega arith) is.count) refl,
 )
 
+-- a record is read as a cost just where it has that row's fields
 cost_is : (n : ℕ) (fields : Fields) (row : CostEntry)
     → (cost_in n fields ≡ Ok row) ↔ ((fields ≡ cost_fields row) × IsCostEntry row)
 cost_is n fields row = (
@@ -86,18 +88,22 @@ cost_is n fields row = (
   λ (same, is). rw (same, is.region, is.site, whole_is_read GREATEST_COST row.cost (omega arith) is.cost) refl,
 )
 
+-- what is read as a name is a name
 name_is : (n : ℕ) (text name : List ℕ) → name_in n text ≡ Ok name → (text ≡ name) × (is_name text ≡ true)
 name_is n text name e = grind arith
 
+-- what is read as a number is whole and within its limit
 whole_was : (n most : ℕ) (text : List ℕ) (number : ℕ) → number_in n most text ≡ Ok number
     → whole_within most text ≡ Ok number
 whole_was n most text number e = grind arith
 
+-- a row of three fields was read in three steps
 three_steps : (a : Result (List ℕ) TableFault) (b c : Result ℕ TableFault) (row : CapacityEntry)
     → (a >>= λ s. b >>= λ i. c >>= λ k. Ok (record { site = s; server_id = i; capacity = k })) ≡ Ok row
     → (a ≡ Ok row.site) × (b ≡ Ok row.server_id) × (c ≡ Ok row.capacity)
 three_steps a b c row e = grind arith
 
+-- a record is read as a capacity just where it has that row's fields
 capacity_is : (n : ℕ) (fields : Fields) (row : CapacityEntry)
     → (capacity_in n fields ≡ Ok row) ↔ ((fields ≡ capacity_fields row) × IsCapacityEntry row)
 capacity_is n fields row = (
@@ -124,12 +130,15 @@ capacity_is n fields row = (
       ) refl,
 )
 
+-- rows of demand are the same by region and handle
 pub demand_keys : IsEquivalence same_demand
 demand_keys = search (rules, comparing)
 
+-- costs are the same by region and site
 pub cost_keys : IsEquivalence same_cost
 cost_keys = search (rules, comparing)
 
+-- capacities are the same by site and server
 pub capacity_keys : IsEquivalence same_capacity
 capacity_keys = search (rules, comparing)
 
@@ -139,10 +148,12 @@ pub demand_is_read : (records : List Fields) (rows : List DemandEntry)
     ↔ ((records ≡ demand_table.header ∷ map demand_fields rows) × AreDemand rows)
 demand_is_read = reads_rows demand_table demand_keys demand_fields IsDemandEntry demand_is
 
+-- records are read as costs just where they are a header and the fields of such rows
 pub costs_are : (records : List Fields) (rows : List CostEntry)
     → (table_of cost_table records ≡ Ok rows) ↔ ((records ≡ cost_table.header ∷ map cost_fields rows) × AreCosts rows)
 costs_are = reads_rows cost_table cost_keys cost_fields IsCostEntry cost_is
 
+-- records are read as capacities just where they are a header and the fields of such rows
 pub capacities_are : (records : List Fields) (rows : List CapacityEntry)
     → (table_of capacity_table records ≡ Ok rows)
     ↔ ((records ≡ capacity_table.header ∷ map capacity_fields rows) × AreCapacities rows)

@@ -45,6 +45,7 @@ pub record FaultPlace {Item Row : Type 0} (read : Reading Item Row) (earlier : L
   pub good : rows_after read earlier before ≡ Ok rows
   pub refused : read rows bad ≡ Err fault
 
+-- a result is a value or a fault
 pub result_cases : {A E : Type 0} (r : Result A E) → ((x : A) × (r ≡ Ok x)) ⊎ ((fault : E) × (r ≡ Err fault))
 result_cases (Ok x) = inl (x, refl)
 result_cases (Err fault) = inr (fault, refl)
@@ -99,6 +100,7 @@ keyed_and_one most Is same_key laws rows row are few is new = record {
   apart = IsDistinct-push laws rows row are.apart new;
 }
 
+-- no rows are within every limit
 pub none_keyed : {Row : Type 0} (most : ℕ) (Is : Row → Type 0) (same_key : Row → Row → Bool)
     → AreKeyed most Is same_key []
 unfolding IsDistinct
@@ -141,6 +143,7 @@ module _ {Item Row : Type 0} (read : Reading Item Row) (bad : List Row → Bool)
   passed_are_read (item ∷ items) earlier rows e =
       let later = λ (t : List Row). passed_are_read items t rows in grind (arith, later)
 
+  -- rows that pass the test are good ones
   pub passed_are_good : (items : List Item) (rows : List Row) → bad [] ≡ false → rows_after tested [] items ≡ Ok rows
       → bad rows ≡ false
   passed_are_good items rows none e =

@@ -1,5 +1,6 @@
 -- The table of capacities: how many queries the server of an identifier can take at a site.
-use Rattle.std.specs.Prelude.{◌≡◌, ◌≤◌, ◌==◌, ◌&&◌, Bool, true, false, ℕ, List, [], ◌∷◌, Result, Ok, codes}
+use Rattle.std.specs.Prelude.{◌≡◌, ◌≤◌, ◌==◌, ◌&&◌, Bool, true, false, ℕ, List, [], ◌∷◌, Result, Ok, codes, is_ok}
+use Rattle.std.specs.Prelude.{if◌then◌else◌}
 use Rattle.std.specs.Str.{bytes_eq}
 use Rattle.hsp_csv.specs.Records.{Fields}
 use Rattle.hsp_text.specs.Name.{is_name}
@@ -25,6 +26,13 @@ capacity_of row site server_id capacity = do
 abbrev pub capacity_in : ℕ → Fields → Result CapacityEntry TableFault
 capacity_in row fields = of_three capacity_of row fields
 
+-- what each field may be: a name, an identifier, a number
+abbrev pub is_capacity_field : ℕ → List ℕ → Bool
+is_capacity_field field octets =
+    if field == 0 then is_ok (name_in 0 octets)
+    else if field == 1 then is_ok (number_in 0 greatest_of_32_bits octets)
+    else is_ok (number_in 0 GREATEST_CAPACITY octets)
+
 -- the key is the site and the identifier
 abbrev pub same_capacity : CapacityEntry → CapacityEntry → Bool
 same_capacity a b = bytes_eq a.site b.site && (a.server_id == b.server_id)
@@ -34,6 +42,7 @@ capacity_table = record {
   header = codes "site" ∷ codes "server_id" ∷ codes "capacity" ∷ [];
   most_rows = MOST_CAPACITY_ROWS;
   row_in = capacity_in;
+  is_good = is_capacity_field;
   same_key = same_capacity;
   has_regions = false;
   region_of = λ (row : CapacityEntry). [];

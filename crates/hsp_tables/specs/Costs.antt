@@ -1,5 +1,6 @@
 -- The table of costs: what a query from a region costs at a site.
-use Rattle.std.specs.Prelude.{◌≡◌, ◌≤◌, ◌&&◌, Bool, true, ℕ, List, [], ◌∷◌, Result, Ok, codes}
+use Rattle.std.specs.Prelude.{◌≡◌, ◌≤◌, ◌==◌, ◌&&◌, Bool, true, ℕ, List, [], ◌∷◌, Result, Ok, codes, is_ok}
+use Rattle.std.specs.Prelude.{if◌then◌else◌}
 use Rattle.std.specs.Str.{bytes_eq}
 use Rattle.hsp_csv.specs.Records.{Fields}
 use Rattle.hsp_text.specs.Name.{is_name}
@@ -25,6 +26,11 @@ cost_of row region site cost = do
 abbrev pub cost_in : ℕ → Fields → Result CostEntry TableFault
 cost_in row fields = of_three cost_of row fields
 
+-- what each field may be: a name, another name, a number
+abbrev pub is_cost_field : ℕ → List ℕ → Bool
+is_cost_field field octets =
+    if field == 2 then is_ok (number_in 0 GREATEST_COST octets) else is_ok (name_in 0 octets)
+
 -- the key is the region and the site
 abbrev pub same_cost : CostEntry → CostEntry → Bool
 same_cost a b = bytes_eq a.region b.region && bytes_eq a.site b.site
@@ -34,6 +40,7 @@ cost_table = record {
   header = codes "region" ∷ codes "site" ∷ codes "cost" ∷ [];
   most_rows = MOST_COST_ROWS;
   row_in = cost_in;
+  is_good = is_cost_field;
   same_key = same_cost;
   has_regions = true;
   region_of = λ (row : CostEntry). row.region;

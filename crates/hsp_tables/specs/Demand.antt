@@ -1,5 +1,6 @@
 -- The table of demand: how many queries for a handle come from a region.
-use Rattle.std.specs.Prelude.{◌≡◌, ◌≤◌, ◌&&◌, Bool, true, ℕ, List, [], ◌∷◌, Result, Ok, codes}
+use Rattle.std.specs.Prelude.{◌≡◌, ◌≤◌, ◌==◌, ◌&&◌, Bool, true, ℕ, List, [], ◌∷◌, Result, Ok, codes, is_ok}
+use Rattle.std.specs.Prelude.{if◌then◌else◌}
 use Rattle.std.specs.Str.{bytes_eq}
 use Rattle.hsp_csv.specs.Records.{Fields}
 use Rattle.hsp_names.specs.Handle as names
@@ -26,6 +27,12 @@ demand_of row region handle count = do
 abbrev pub demand_in : ℕ → Fields → Result DemandEntry TableFault
 demand_in row fields = of_three demand_of row fields
 
+-- what each field may be: a name, a handle, a number
+abbrev pub is_demand_field : ℕ → List ℕ → Bool
+is_demand_field field octets =
+    if field == 0 then is_ok (name_in 0 octets)
+    else if field == 1 then is_ok (handle_in 0 octets) else is_ok (number_in 0 GREATEST_COUNT octets)
+
 -- the key is the region and the handle
 abbrev pub is_demand : List ℕ → List ℕ → DemandEntry → Bool
 is_demand region handle row = bytes_eq region row.region && bytes_eq handle row.handle
@@ -38,6 +45,7 @@ demand_table = record {
   header = codes "region" ∷ codes "handle" ∷ codes "count" ∷ [];
   most_rows = MOST_DEMAND_ROWS;
   row_in = demand_in;
+  is_good = is_demand_field;
   same_key = same_demand;
   has_regions = true;
   region_of = λ (row : DemandEntry). row.region;

@@ -10,3 +10,6 @@ pub mod LentKeys
 pub mod Rows
 pub mod Settings
 pub mod SettingsRows
+pub mod Faulty
+pub mod Kept
+pub mod TableChecks

@@ -1,7 +1,7 @@
 -- A table: the records of a text as rows under a header, or the first fault.
-use Rattle.std.specs.Prelude.{◌≡◌, ◌≢◌, ◌≤◌, ◌↔◌, ◌⊎◌, Bool, ℕ, List, [], ◌∷◌, ◌++◌, length, fold, map, nat_lt, Result}
+use Rattle.std.specs.Prelude.{◌≡◌, ◌≢◌, ◌≤◌, ◌↔◌, ◌⊎◌, Bool, ℕ, List, [], ◌∷◌, ◌++◌, length, fold, map, nat_le, nat_lt, Result}
 use Rattle.std.specs.Prelude.{Ok, Err, if◌then◌else◌}
-use Rattle.std.specs.List.{IsDistinct}
+use Rattle.std.specs.List.{IsDistinct, list_any}
 use Rattle.std.specs.Str.{bytes_eq}
 use Rattle.indexmap.specs.IndexSet.{insert_key}
 use Rattle.hsp_csv.specs.Header.{same_fields}
@@ -12,12 +12,14 @@ use Rattle.hsp_text.specs.declared.limits.TheConstants.{MOST_REGIONS}
 use Rattle.hsp_text.specs.Answers.{◌>>=◌}
 use Rattle.hsp_tables.specs.InTurn.{AreKeyed, Reading, SpellInTurn, keyed_after, rows_after}
 
--- a kind of table: its header, the limit of its rows, the row that the fields of a record spell by its number, when two
--- rows have one key, whether its rows are of regions, and the region of a row
+-- a kind of table: its header, the limit of its rows, the row that the fields of a record spell by its number, which
+-- octets the field of a number may be, when two rows have one key, whether its rows are of regions, and the region of a
+-- row
 pub record Table (Row : Type 0) : Type 0 where
   pub header : Fields
   pub most_rows : ℕ
   pub row_in : ℕ → Fields → Result Row TableFault
+  pub is_good : ℕ → List ℕ → Bool
   pub same_key : Row → Row → Bool
   pub has_regions : Bool
   pub region_of : Row → List ℕ
@@ -43,6 +45,14 @@ of_few_regions table earlier row =
 abbrev pub row_after : {Row : Type 0} → Table Row → Reading Fields Row
 row_after table earlier fields =
     keyed_after table.most_rows TooManyRows table.row_in table.same_key RowTwice earlier fields
+    >>= of_few_regions table earlier
+
+-- the same by a number that its row has whatever rows stand before it
+abbrev pub row_at : {Row : Type 0} → Table Row → ℕ → List Row → Fields → Result Row TableFault
+row_at table number earlier fields =
+    (if nat_le table.most_rows (length earlier) then Err TooManyRows
+    else table.row_in number fields >>= λ row. if list_any (table.same_key row) earlier
+    then Err (RowTwice number) else Ok row)
     >>= of_few_regions table earlier
 
 -- the rows that the records give, or the first fault

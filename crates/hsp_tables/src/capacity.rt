@@ -113,6 +113,14 @@ impl Kind for Capacities {
         Ok((ServerKey { site, server_id }, capacity))
     }
 
+    fn is_good(field: u32, octets: &[u8]) -> bool {
+        match field {
+            0 => name_in(0, octets).is_ok(),
+            1 => number_in(0, octets, u32::MAX as u64).is_ok(),
+            _ => number_in(0, octets, GREATEST_CAPACITY).is_ok(),
+        }
+    }
+
     fn region_of(_key: &ServerKey) -> Option<&[u8]> {
         None
     }

@@ -112,6 +112,13 @@ impl Kind for Costs {
         Ok((PairKey::new(alloc, region, site)?, cost))
     }
 
+    fn is_good(field: u32, octets: &[u8]) -> bool {
+        match field {
+            2 => number_in(0, octets, GREATEST_COST).is_ok(),
+            _ => name_in(0, octets).is_ok(),
+        }
+    }
+
     fn region_of(key: &PairKey) -> Option<&[u8]> {
         Some(key.first())
     }

@@ -134,6 +134,14 @@ impl Kind for Demand {
         Ok((PairKey::new(alloc, region, handle.bytes())?, count))
     }
 
+    fn is_good(field: u32, octets: &[u8]) -> bool {
+        match field {
+            0 => name_in(0, octets).is_ok(),
+            1 => handle_in(0, octets).is_ok(),
+            _ => number_in(0, octets, GREATEST_COUNT).is_ok(),
+        }
+    }
+
     fn region_of(key: &PairKey) -> Option<&[u8]> {
         Some(key.first())
     }

@@ -3,6 +3,7 @@
 ghost use Rattle.std.specs.Prelude.{◌≡◌, ◌++◌, [], length, OnOk, IfOk, IfErr};
 ghost use Rattle.std.specs.Cmp.Rules.{comparing, hashing};
 ghost use Rattle.std.specs.Hash as fed;
+ghost use Rattle.std.specs.List.{list_any};
 ghost use Rattle.std.specs.Str.{bytes_eq};
 ghost use Rattle.std.proofs.Common.{rules};
 ghost use Rattle.indexmap.specs.IndexSet.{insert_key};
@@ -182,6 +183,13 @@ impl Regions {
         ensures { result ≡ length self.now }
     {
         self.names.len()
+    }
+
+    // Whether a region was seen.
+    pub(crate) fn has(&self, region: &[u8]) -> bool
+        ensures { result ≡ list_any (bytes_eq region.now) self.now }
+    {
+        self.names.contains(region)
     }
 
     // Adds a region to those that were seen.

@@ -4,13 +4,13 @@ ghost use Rattle.hsp_text.specs.declared.limits.TheConstants.{MOST_HOSTS, MOST_S
 ghost use Rattle.hsp_tables.specs.Capacities.{capacity_table};
 ghost use Rattle.hsp_tables.specs.Costs.{cost_table};
 ghost use Rattle.hsp_tables.specs.Demand.{demand_table};
+ghost use Rattle.hsp_tables.specs.Faulty.{BeginsWithTheFault, HasItsField};
 ghost use Rattle.hsp_tables.specs.InTurn.{FaultStays, ReadsAsSpelled};
 ghost use Rattle.hsp_tables.specs.Settings.{host_after, host_at, same_address, same_name, site_after, site_at};
 ghost use Rattle.hsp_tables.specs.Table.{KeepsFirstFault, ReadsAsItsRelation};
 
 /// A table reads as its relation says: exactly the rows that its records spell under the header, where they are within
 /// the limits and no two have the same key; otherwise exactly its first fault.
-#[tactic(auto, using(crate::proofs::TableKinds::demand_is_its_relation, crate::proofs::TableKinds::costs_are_their_relation, crate::proofs::TableKinds::capacities_are_their_relation))]
 pub fn reading_is_the_relation()
     ensures demand { ReadsAsItsRelation demand_table }
     ensures costs { ReadsAsItsRelation cost_table }
@@ -38,4 +38,21 @@ pub fn settings_are_as_spelled()
 pub fn fault_of_settings_is_first()
     ensures sites { FaultStays site_after }
     ensures hosts { FaultStays host_after }
+{}
+
+/// The list of the faulty rows of a table begins with the fault by which the table is refused, and is empty where the
+/// table is read.
+#[tactic(auto, using(crate::proofs::FaultyLaws::demand_begins, crate::proofs::FaultyLaws::costs_begin, crate::proofs::FaultyLaws::capacities_begin))]
+pub fn faults_begin_with_the_first()
+    ensures demand { BeginsWithTheFault demand_table }
+    ensures costs { BeginsWithTheFault cost_table }
+    ensures capacity { BeginsWithTheFault capacity_table }
+{}
+
+/// A fault of one field has a field: the first one that is not as it should be.
+#[tactic(auto, using(crate::proofs::FaultyLaws::demand_has_its_field, crate::proofs::FaultyLaws::costs_have_their_field, crate::proofs::FaultyLaws::capacities_have_their_field))]
+pub fn faults_have_their_field()
+    ensures demand { HasItsField demand_table }
+    ensures costs { HasItsField cost_table }
+    ensures capacity { HasItsField capacity_table }
 {}

@@ -1,6 +1,6 @@
 // Tables: rows under a header, each found by its key.
 
-ghost use Rattle.std.specs.Prelude.{◌≡◌, ◌≢◌, ◌⊎◌, [], ◌∷◌, ℕ, Some, None, Ok, Err, length, map, option_map};
+ghost use Rattle.std.specs.Prelude.{◌≡◌, ◌≢◌, ◌<◌, ◌≤◌, ◌^◌, ◌⊎◌, [], ◌∷◌, ℕ, Some, None, Ok, Err, length, map, nat_lt, option_map};
 ghost use Rattle.std.specs.Prelude.{if◌then◌else◌, OnOk, IfErr};
 ghost use Rattle.csv.specs.Records.{fields_of};
 ghost use Rattle.std.specs.Str.{bytes_eq};
@@ -11,7 +11,7 @@ ghost use Rattle.hsp_text.specs.Answers.{GivesUnless};
 ghost use Rattle.hsp_tables.specs.declared.fault.TableFault.TheVariants.{Fields, OutOfMemory};
 ghost use Rattle.hsp_tables.specs.Fields.{lent};
 ghost use Rattle.hsp_tables.specs.InTurn.{rows_after, with_row};
-ghost use Rattle.hsp_tables.specs.Table.{Table, regions_of, row_after, seen_with, table_of};
+ghost use Rattle.hsp_tables.specs.Table.{Table, regions_of, row_after, row_at, seen_with, table_of};
 
 use crate::fault::TableFault;
 use crate::keyed::Regions;
@@ -48,6 +48,10 @@ pub(crate) trait Kind {
         ensures { GivesUnless OutOfMemory entry result (table.row_in row
             (fields.entry.0.now ∷ fields.entry.1.now ∷ fields.entry.2.now ∷ [])) };
 
+    /// Whether the field of a number may have these octets.
+    fn is_good(field: u32, octets: &[u8]) -> bool
+        ensures { result ≡ table.is_good field octets.now };
+
     /// The region of the row of a key, where rows are of regions.
     fn region_of(key: &Self::Key) -> Option<&[u8]>
         ensures { (number : ℕ) → option_map (λ o. o.now) result
@@ -74,37 +78,79 @@ fn see_region<K: Kind>(alloc: Global, regions: &mut Regions, key: &K::Key) -> Re
     }
 }
 
-// Adds the row of a further record to the rows and its region to the regions.
-fn add_record<K: Kind>(
+// Whether the region of the row of a key is one too many, where rows are of regions.
+fn is_one_too_many<K: Kind>(regions: &Regions, key: &K::Key) -> bool
+    requires { length regions.now ≤ MOST_REGIONS }
+    ensures { (number : ℕ) → result
+        ≡ nat_lt MOST_REGIONS (length (seen_with K.table regions.now (K.entry (key.now, number)))) }
+{
+    match K::region_of(key) {
+        Some(region) => regions.len() == MOST_REGIONS && !regions.has(region),
+        None => false,
+    }
+}
+
+// Adds the row of a further record, which has a number, to the rows and its region to the regions. Where the record has a
+// fault, they stay as they are.
+pub(crate) fn add_record<K: Kind>(
+    alloc: Global,
+    rows: &mut IndexMap<K::Key, u64>,
+    regions: &mut Regions,
+    row: u32,
+    fields: &ByteRecord,
+) -> Result<(), TableFault>
+    requires regions { regions.old ≡ regions_of K.table (map K.entry rows.old.entries) }
+    requires few { length regions.old ≤ MOST_REGIONS }
+    ensures ok { OnOk result (with_row (row_at K.table row)
+        (map K.entry rows.old.entries) (fields_of fields.now) ≡ Ok (map K.entry rows.new.entries)) }
+    ensures regions { OnOk result (
+        regions.new ≡ regions_of K.table (map K.entry rows.new.entries)) }
+    ensures few { OnOk result (length regions.new ≤ MOST_REGIONS) }
+    ensures numbered { OnOk result (length rows.new.entries < 2 ^ 32) }
+    ensures err { IfErr result (λ e. (e ≡ OutOfMemory) ⊎ (with_row (row_at K.table row)
+        (map K.entry rows.old.entries) (fields_of fields.now) ≡ Err e)) }
+    ensures kept { IfErr result (λ e. (e ≡ OutOfMemory)
+        ⊎ ((rows.new ≡ rows.old) × (regions.new ≡ regions.old))) }
+{
+    if rows.len() >= K::most_rows() as usize {
+        return Err(TableFault::TooManyRows);
+    }
+    let Some(fields) = three_fields(fields) else {
+        return Err(TableFault::Fields { row });
+    };
+    let (key, number) = K::row_of(alloc, row, fields)?;
+    if rows.contains_key(&key) {
+        return Err(TableFault::RowTwice { row });
+    }
+    if is_one_too_many::<K>(regions, &key) {
+        return Err(TableFault::TooManyRegions);
+    }
+    see_region::<K>(alloc, regions, &key)?;
+    rows.insert(key, number)?;
+    Ok(())
+}
+
+// Adds the row of a further record of a table without faults, by the number of rows before it.
+fn add_next<K: Kind>(
     alloc: Global,
     rows: &mut IndexMap<K::Key, u64>,
     regions: &mut Regions,
     fields: &ByteRecord,
 ) -> Result<(), TableFault>
-    requires { regions.old ≡ regions_of K.table (map K.entry rows.old.entries) }
+    requires regions { regions.old ≡ regions_of K.table (map K.entry rows.old.entries) }
+    requires few { length regions.old ≤ MOST_REGIONS }
+    requires numbered { length rows.old.entries < 2 ^ 32 }
     ensures ok { OnOk result (with_row (row_after K.table)
         (map K.entry rows.old.entries) (fields_of fields.now) ≡ Ok (map K.entry rows.new.entries)) }
     ensures regions { OnOk result (
         regions.new ≡ regions_of K.table (map K.entry rows.new.entries)) }
+    ensures few { OnOk result (length regions.new ≤ MOST_REGIONS) }
+    ensures numbered { OnOk result (length rows.new.entries < 2 ^ 32) }
     ensures err { IfErr result (λ e. (e ≡ OutOfMemory) ⊎ (with_row (row_after K.table)
         (map K.entry rows.old.entries) (fields_of fields.now) ≡ Err e)) }
 {
-    if rows.len() >= K::most_rows() as usize {
-        return Err(TableFault::TooManyRows);
-    }
     let row = rows.len() as u32;
-    let Some(fields) = three_fields(fields) else {
-        return Err(TableFault::Fields { row });
-    };
-    let (key, number) = K::row_of(alloc, row, fields)?;
-    see_region::<K>(alloc, regions, &key)?;
-    if rows.insert(key, number)?.is_some() {
-        return Err(TableFault::RowTwice { row });
-    }
-    if regions.len() > MOST_REGIONS {
-        return Err(TableFault::TooManyRegions);
-    }
-    Ok(())
+    add_record::<K>(alloc, rows, regions, row, fields)
 }
 
 // The rows that a reader has left, each found by its key, or their first fault.
@@ -121,7 +167,7 @@ fn rows_left<K: Kind>(
     let mut rows = IndexMap::new(alloc);
     let mut regions = Regions::new(alloc);
     'rows: while take_record(records, fields)? {
-        add_record::<K>(alloc, &mut rows, &mut regions, fields)?;
+        add_next::<K>(alloc, &mut rows, &mut regions, fields)?;
     }
     Ok(rows)
 }

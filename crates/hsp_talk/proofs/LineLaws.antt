@@ -8,6 +8,7 @@ use Rattle.hsp_talk.specs.Talk.{last_line, whole_lines}
 abbrev with_ends : List (List ℕ) → List ℕ
 with_ends lines = flat_map (λ line. line ++ 10 ∷ []) lines
 
+-- what was begun and the octets after it are their lines, each with its end, and a last line
 joined : (begun octets : List ℕ) → begun ++ octets ≡ with_ends (whole_lines begun octets) ++ last_line begun octets
 joined begun [] = append-nil begun
 joined begun (x ∷ xs) =
@@ -21,14 +22,17 @@ joined begun (x ∷ xs) =
       | false ↦ λ f. sym (append_assoc begun (x ∷ []) xs) ∙ joined (begun ++ x ∷ []) xs
     ] refl
 
+-- the lines of a text, with their ends, make the text
 pub octets_again : LinesMakeOctets
 octets_again octets = joined [] octets
 
+-- a line stays one line by an octet that is no line feed
 one_more : (line : List ℕ) (x : ℕ) → IsOneLine line → (x == 10) ≡ false → IsOneLine (line ++ x ∷ [])
 one_more line x so f =
     All-append (λ c. c ≢ 10) line (x ∷ []) so
     (All-cons (λ c. c ≢ 10) x [] (λ e. true≢false (sym (eq-eqb x 10 e) ∙ f)) (All-nil (λ c. c ≢ 10)))
 
+-- each line that octets are cut into, the last too, has no line feed
 apart : (begun octets : List ℕ) → IsOneLine begun
     → All IsOneLine (whole_lines begun octets) × IsOneLine (last_line begun octets)
 apart begun [] so = (All-nil IsOneLine, so)
@@ -43,5 +47,6 @@ apart begun (x ∷ xs) so =
       | false ↦ λ f. apart (begun ++ x ∷ []) xs (one_more begun x so f)
     ] refl
 
+-- each line has one line feed, at its end
 pub each_one_line : LinesEndOnce
 each_one_line octets = apart [] octets (All-nil (λ c. c ≢ 10))

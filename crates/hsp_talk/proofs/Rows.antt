@@ -1,4 +1,4 @@
--- Lines, rows, and desks that take them.
+-- Lines, rows, and responders that take them.
 use Rattle.std.proofs.Common.{◌≡◌, ℕ, zero, suc, min, ◌+◌, ◌-◌, ◌<◌, ◌≤◌, ◌==◌, Bool, true, false, cond, ltb, not, Some}
 use Rattle.std.proofs.Common.{None, get_or, take, drop, length-drop, List, [], ◌∷◌, ◌++◌, length, if◌then◌else◌, refl}
 use Rattle.std.proofs.Common.{ap, sym, ◌∙◌, subst, append_assoc, append-nil, arith, add-one, eq-eqb, eqb-true}
@@ -18,6 +18,7 @@ use Rattle.hsp_talk.specs.declared.stop.Refusal.TheVariants as refusal
 
 -- ---- lines
 
+-- the lines of two pieces are those of the first, and those of the second behind what it began
 pub lines_then : (begun xs ys : List ℕ)
     → whole_lines begun (xs ++ ys) ≡ whole_lines begun xs ++ whole_lines (last_line begun xs) ys
 lines_then begun [] ys = refl
@@ -29,6 +30,7 @@ lines_then begun (x ∷ xs) ys =
       | false ↦ lines_then (begun ++ x ∷ []) xs ys
     ]
 
+-- the line that two pieces begin is the one that the second begins behind the first
 pub last_then : (begun xs ys : List ℕ) → last_line begun (xs ++ ys) ≡ last_line (last_line begun xs) ys
 last_then begun [] ys = refl
 last_then begun (x ∷ xs) ys =
@@ -38,6 +40,7 @@ last_then begun (x ∷ xs) ys =
       | false ↦ last_then (begun ++ x ∷ []) xs ys
     ]
 
+-- rows of two runs of lines stand one after the other
 pub rows_of-append : (rs bs : List (List ℕ)) → rows_of (rs ++ bs) ≡ rows_of rs ++ rows_of bs
 rows_of-append [] bs = refl
 rows_of-append ([] ∷ rs) bs = rows_of-append rs bs
@@ -45,6 +48,7 @@ rows_of-append ((x ∷ xs) ∷ rs) bs = ap (λ rows. cut (x ∷ xs) ∷ rows) (r
 
 -- ---- cut lines
 
+-- a beginning is the same whether the first part was cut before
 taken_again : (n : ℕ) (a b : List ℕ) → take n (take n a ++ b) ≡ take n (a ++ b)
 taken_again zero a b = refl
 taken_again (suc n) [] b = refl
@@ -55,13 +59,16 @@ pub cut_then : (a b : List ℕ) → cut (cut a ++ b) ≡ cut (a ++ b)
 unfolding cut
 cut_then a b = taken_again (LONGEST_ROW + 1) a b
 
+-- what was cut stays as it is
 pub cut_twice : (a : List ℕ) → cut (cut a) ≡ cut a
 cut_twice a = ap cut (sym (append-nil (cut a))) ∙ cut_then a [] ∙ ap cut (append-nil a)
 
+-- a line within the limit is not cut
 pub cut_short : (a : List ℕ) → length a ≤ LONGEST_ROW + 1 → cut a ≡ a
 unfolding cut
 cut_short a few = take_all (LONGEST_ROW + 1) a few
 
+-- a cut line is within the limit
 pub within_cut : (a : List ℕ) → length (cut a) ≤ LONGEST_ROW + 1
 unfolding cut
 within_cut a = omega (arith, length-take (LONGEST_ROW + 1) a)
@@ -72,9 +79,11 @@ taken_after n a b few =
     let e : n ≡ length a + (n - length a) =
     omega arith in ap (λ k. take k (a ++ b)) e ∙ take-append-add a b (n - length a)
 
+-- as many octets as there are, up to a bound, are the beginning up to the bound
 taken_least : (n count : ℕ) (b : List ℕ) → count ≡ min (length b) n → take count b ≡ take n b
 taken_least n count b e = let least : count ≡ min n (length b) = omega arith in rw least (take_min n b)
 
+-- filling a line up to the limit cuts the longer line
 pub cut_within : (a b : List ℕ) (count : ℕ) → length a ≤ LONGEST_ROW + 1
     → count ≡ min (length b) (LONGEST_ROW + 1 - length a) → a ++ take count b ≡ cut (a ++ b)
 unfolding cut
@@ -92,6 +101,7 @@ all_after octets more place is =
 goes_on_so : (a b more : List ℕ) → cut a ≡ cut b → cut (a ++ more) ≡ cut (b ++ more)
 goes_on_so a b more e = sym (cut_then a more) ∙ ap (λ c. cut (c ++ more)) e ∙ cut_then b more
 
+-- a cut line with an octet is not empty
 not_none_cut : (n y : ℕ) (b : List ℕ) → take (suc n) [] ≡ take (suc n) (y ∷ b) → ⊥
 not_none_cut n y b e = let none : [] ≡ y ∷ take n b = e in cc none
 
@@ -103,6 +113,7 @@ row_so [] (y ∷ b) lines e = absurd (not_none_cut LONGEST_ROW y b e)
 row_so (x ∷ a) [] lines e = absurd (not_none_cut LONGEST_ROW x a (sym e))
 row_so (x ∷ a) (y ∷ b) lines e = ap (λ row. row ∷ rows_of lines) e
 
+-- rows go by what lines are cut to
 pub rows_so : (a b octets : List ℕ) → cut a ≡ cut b → rows_of (whole_lines a octets) ≡ rows_of (whole_lines b octets)
 rows_so a b [] e = refl
 rows_so a b (x ∷ xs) e =
@@ -113,6 +124,7 @@ rows_so a b (x ∷ xs) e =
       | false ↦ rows_so (a ++ x ∷ []) (b ++ x ∷ []) xs (goes_on_so a b (x ∷ []) e)
     ]
 
+-- what a last line is cut to goes by what its beginning is cut to
 pub last_so : (a b octets : List ℕ) → cut a ≡ cut b → cut (last_line a octets) ≡ cut (last_line b octets)
 last_so a b [] e = e
 last_so a b (x ∷ xs) e =
@@ -123,6 +135,7 @@ last_so a b (x ∷ xs) e =
       | false ↦ last_so (a ++ x ∷ []) (b ++ x ∷ []) xs (goes_on_so a b (x ∷ []) e)
     ]
 
+-- the rows that a piece ends go by what the line before it is cut to
 pub ended_so : (a b piece : List ℕ) → cut a ≡ cut b → rows_ended_by a piece ≡ rows_ended_by b piece
 ended_so a b [] e = row_so a b [] e
 ended_so a b (x ∷ xs) e = rows_so a b (x ∷ xs) e
@@ -136,6 +149,7 @@ pub record EndsAt (line octets : List ℕ) (place : ℕ) : Type 0 where
   pub lines : whole_lines line octets ≡ (line ++ take place octets) ∷ whole_lines [] (drop (suc place) octets)
   pub last : last_line line octets ≡ last_line [] (drop (suc place) octets)
 
+-- the first line feed ends the line
 ends_there : (line octets : List ℕ) (place : ℕ) → place < length octets → is_line_feed (get_or octets place 0) ≡ true
     → ((k : ℕ) → k < place → is_line_feed (get_or octets k 0) ≡ false) → EndsAt line octets place
 ends_there line [] place less here before = absurd (omega arith)
@@ -152,6 +166,7 @@ ends_there line (x ∷ octets) (suc place) less here before =
       last = rw first more.last;
     }
 
+-- the line ends where a line feed is found first
 pub ends_at : (line octets : List ℕ) (place : ℕ) → position is_line_feed octets ≡ Some place → EndsAt line octets place
 ends_at line octets place e =
     let p = position-Some is_line_feed octets place 0 e in ends_there line octets place p.0 p.1 p.2
@@ -160,6 +175,7 @@ pub record HasNoEnd (line octets : List ℕ) : Type 0 where
   pub lines : whole_lines line octets ≡ []
   pub last : last_line line octets ≡ line ++ octets
 
+-- an octet that is no line feed leaves a line without an end
 by_no_octet : (line octets : List ℕ) (x later : ℕ) (b : Bool) → (x == 10) ≡ b
     → ((later < length octets → ⊥) → HasNoEnd (line ++ x ∷ []) octets)
     → (cond (not b) (1 + later) 0 < length (x ∷ octets) → ⊥)
@@ -169,11 +185,13 @@ by_no_octet line octets x later false is rest none =
     let more = rest (λ less. none (omega arith)) in
     record { lines = rw is more.lines; last = rw is (more.last ∙ append_assoc line (x ∷ []) octets) }
 
+-- a line has no end where the octets have no line feed
 no_end_there : (line octets : List ℕ) → (first_end octets < length octets → ⊥) → HasNoEnd line octets
 no_end_there line [] none = record { lines = refl; last = sym (append-nil line) }
 no_end_there line (x ∷ octets) none =
     by_no_octet line octets x (first_end octets) (x == 10) refl (no_end_there (line ++ x ∷ []) octets) none
 
+-- a line has no end where no line feed is found
 pub no_end : (line octets : List ℕ) → position is_line_feed octets ≡ None → HasNoEnd line octets
 no_end line octets e = by (ltb (first_end octets) (length octets)) refl e
   where
@@ -182,6 +200,7 @@ no_end line octets e = by (ltb (first_end octets) (length octets)) refl e
     by true is same = cc same
     by false is same = no_end_there line octets (λ less. let most = ltb-false _ _ is in omega arith)
 
+-- nothing is cut to nothing
 pub cut_none : cut [] ≡ []
 unfolding cut
 cut_none = refl
@@ -194,17 +213,20 @@ cut_at_end line (x ∷ piece) none few = absurd (omega arith)
 
 -- ---- rows
 
+-- a line with octets, within the limit, is a row
 pub one_row : (line : List ℕ) → (length line ≡ 0 → ⊥) → length line ≤ LONGEST_ROW + 1 → rows_of (line ∷ []) ≡ line ∷ []
 one_row [] ne few = absurd (ne refl)
 one_row (x ∷ xs) ne few = ap (λ row. row ∷ []) (cut_short (x ∷ xs) few)
 
+-- an empty line is no row
 pub no_row : (line : List ℕ) → length line ≡ 0 → rows_of (line ∷ []) ≡ []
 no_row [] e = refl
 no_row (x ∷ xs) e = absurd (omega arith)
 
--- ---- desks
+-- ---- responders
 
 module _ {D : Type 0} (Takes : TakesRow D) where
+  -- rows that are taken in two runs are taken in one
   pub taken_then : (first : D) (rs : List (List ℕ)) (at : D) (for_as bs : List (List ℕ)) (last : D)
       (for_bs : List (List ℕ)) →
       AreTaken Takes first rs at for_as → AreTaken Takes at bs last for_bs
@@ -215,6 +237,7 @@ module _ {D : Type 0} (Takes : TakesRow D) where
   taken_then first [] at (x ∷ xs) bs last for_bs so after = absurd so
   taken_then first (a ∷ rs) at [] bs last for_bs so after = absurd so
 
+  -- each row that is taken has one answer
   pub as_many : (first : D) (rs : List (List ℕ)) (last : D) (answers : List (List ℕ))
       → AreTaken Takes first rs last answers → length rs ≡ length answers
   as_many first [] last [] so = refl
@@ -222,9 +245,11 @@ module _ {D : Type 0} (Takes : TakesRow D) where
   as_many first [] last (x ∷ xs) so = absurd so
   as_many first (a ∷ rs) last [] so = absurd so
 
+  -- no rows owe nothing more
   pub none_owed : (at : D) (owed : List ℕ) → AreOwed Takes at at [] owed owed
   none_owed at owed = ([], refl, sym (append-nil owed))
 
+  -- what two runs of rows owe is owed one after the other
   pub owed_then : (first at last : D) (rs bs : List (List ℕ)) (owed now after : List ℕ) →
       AreOwed Takes first at rs owed now → AreOwed Takes at last bs now after
       → AreOwed Takes first last (rs ++ bs) owed after
@@ -252,6 +277,7 @@ module _ {D : Type 0} (Takes : TakesRow D) where
     pub taken : AreOwed Takes first at rows owed now
     pub begun : begins ≡ cut (last_line line rest)
 
+  -- at the beginning no row was taken
   pub so_far : (first : D) (line octets rest owed : List ℕ) → octets ≡ rest →
       SoFar first first (rows_of (whole_lines line octets)) (cut (last_line line octets)) line rest owed owed
   so_far first line octets rest owed e = record {
@@ -293,6 +319,7 @@ module _ {D : Type 0} (Takes : TakesRow D) where
       subst (λ rows. AreOwed Takes first at rows owed now)
       (sym (so.left ∙ ap (λ l. so.rows ++ rows_of l) (no_end line rest none).lines ∙ append-nil so.rows)) so.taken
 
+  -- where no line feed is left, the rest begins the next row
   pub all_begun : (first at : D) (all : List (List ℕ)) (begins line rest owed now : List ℕ)
       → SoFar first at all begins line rest owed now → position is_line_feed rest ≡ None
       → cut (line ++ rest) ≡ begins
@@ -301,6 +328,7 @@ module _ {D : Type 0} (Takes : TakesRow D) where
   -- ---- refusals
 
   module _ {F : Type 0} (Refuses : RefusesRow D F) where
+    -- a row that was refused stays refused, whatever comes later
     refused_then : (at : D) (rows more : List (List ℕ)) (last : D) (by : Refusal F) → IsRefused Refuses at rows last by
         → IsRefused Refuses at (rows ++ more) last by
     refused_then at rows more last (refusal.Fault fault) so = (so.0, so.1 ++ more, ap (λ r. r ++ more) so.2, so.3)
@@ -329,6 +357,7 @@ module _ {D : Type 0} (Takes : TakesRow D) where
       refused = refused_then cut.at cut.later later last by cut.refused;
     }
 
+    -- the next line ends, and its row is taken or refused
     pub line_cut : (first at last : D) (all : List (List ℕ)) (begins line rest owed now after : List ℕ) (by : Refusal F)
         (so : SoFar first at all begins line rest owed now) (place : ℕ)
         → position is_line_feed rest ≡ Some place → (ended : List ℕ) → ended ≡ cut (line ++ take place rest)
@@ -354,13 +383,15 @@ module _ {D : Type 0} (Takes : TakesRow D) where
 
 -- ---- tests
 
+-- a number that is not zero by the test
 pub not_none : (n : ℕ) → (n == 0) ≡ false → (n ≡ 0 → ⊥)
 not_none n f e = true≢false (sym (eq-eqb n 0 e) ∙ f)
 
+-- a number that is zero by the test
 pub is_none : (n : ℕ) → (n == 0) ≡ true → n ≡ 0
 is_none n t = eqb-true n 0 t
 
--- why a desk refuses a row
+-- why a responder refuses a row
 pub refused_by : {D F : Type 0} (Refuses : RefusesRow D F) (at last : D) (line : List ℕ) (by : Refusal F)
     → (length line ≡ 0 → ⊥) → length line ≤ LONGEST_ROW + 1 → IsRefusal (Refuses at line last) by →
     IsRefused Refuses at (rows_of (line ∷ [])) last by

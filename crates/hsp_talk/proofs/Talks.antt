@@ -22,6 +22,7 @@ use Rattle.hsp_talk.proofs.Rows.{taken_then}
 
 -- ---- events
 
+-- no element stands in an empty list
 not_within : {X : Type 0} (x : X) (xs ys : List X) → [] ≡ xs ++ x ∷ ys → ⊥
 not_within x [] ys e = cc
 not_within x (y ∷ xs) ys e = cc
@@ -30,6 +31,7 @@ abbrev is_sent : Event → Bool
 is_sent (received octets) = false
 is_sent (sent octets) = true
 
+-- what is received in two runs of events stands one after the other
 pub received_then : (events more : List Event) → received_in (events ++ more) ≡ received_in events ++ received_in more
 received_then [] more = refl
 received_then (received octets ∷ events) more =
@@ -37,12 +39,14 @@ received_then (received octets ∷ events) more =
     ∙ sym (append_assoc octets (received_in events) (received_in more))
 received_then (sent octets ∷ events) more = received_then events more
 
+-- what is sent in two runs of events stands one after the other
 pub sent_then : (events more : List Event) → sent_in (events ++ more) ≡ sent_in events ++ sent_in more
 sent_then [] more = refl
 sent_then (received octets ∷ events) more = sent_then events more
 sent_then (sent octets ∷ events) more =
     ap (λ r. octets ++ r) (sent_then events more) ∙ sym (append_assoc octets (sent_in events) (sent_in more))
 
+-- the reads of two runs of events stand one after the other
 reads_then : (events more : List Event) → reads_in (events ++ more) ≡ reads_in events ++ reads_in more
 reads_then [] more = refl
 reads_then (received octets ∷ events) more = ap (λ r. octets ∷ r) (reads_then events more)
@@ -55,6 +59,7 @@ ended_then (received [] ∷ events) more e = absurd (true≢false e)
 ended_then (received (octet ∷ octets) ∷ events) more e = ended_then events more e
 ended_then (sent octets ∷ events) more e = ended_then events more e
 
+-- sending does not end a talk
 ended_as : (events : List Event) (octets : List ℕ) → has_ended (events ++ sent octets ∷ []) ≡ has_ended events
 ended_as [] octets = refl
 ended_as (received [] ∷ events) octets = refl
@@ -63,35 +68,43 @@ ended_as (sent more ∷ events) octets = ended_as events octets
 
 -- ---- what is known of a peer
 
+-- two additions make one
 more_then : {X : Type 0} (a b c : Option (List X)) (xs ys : List X) → AreMore a b xs → AreMore b c ys
     → AreMore a c (xs ++ ys)
 more_then (Some a) (Some b) (Some c) xs ys f g = g ∙ ap (λ e. e ++ ys) f ∙ append_assoc a xs ys
 more_then a b c xs ys f g = search
 
+-- only a read of nothing ends a talk
 none_received : (octets : List ℕ) → has_ended (received octets ∷ []) ≡ true → octets ≡ []
 none_received [] e = refl
 none_received (x ∷ octets) e = absurd (true≢false (sym e))
 
+-- sending receives nothing
 received_by : (octets : List ℕ) → received_in (sending octets) ≡ []
 received_by [] = refl
 received_by (x ∷ octets) = refl
 
+-- sending reads nothing
 read_by : (octets : List ℕ) → reads_in (sending octets) ≡ []
 read_by [] = refl
 read_by (x ∷ octets) = refl
 
+-- sending ends no talk
 never_ended : (octets : List ℕ) → has_ended (sending octets) ≡ false
 never_ended [] = refl
 never_ended (x ∷ octets) = refl
 
+-- the octets that are handed on are sent
 sent_by : (octets : List ℕ) → sent_in (sending octets) ≡ octets
 sent_by [] = refl
 sent_by (x ∷ octets) = append-nil (x ∷ octets)
 
+-- nothing was added yet
 none_added : {X : Type 0} (a : Option (List X)) → AreMore a a []
 none_added None = tt
 none_added (Some a) = sym (append-nil a)
 
+-- nothing is left of nothing
 none_left : (xs ys : List ℕ) → [] ≡ xs ++ ys → ys ≡ []
 none_left [] ys e = sym e
 none_left (x ∷ xs) ys e = absurd cc
@@ -102,6 +115,7 @@ none_later : (a b c : Option (List ℕ)) (xs ys : List ℕ) → Consumes a b xs 
 none_later (Some a) (Some b) (Some c) xs ys f g end = none_left ys c (sym end ∙ g)
 none_later a b c xs ys f g end = search
 
+-- what has no more later had no more octets to come
 none_then : (a b c : Option (List ℕ)) (xs : List ℕ) → Consumes a b xs → HasNoMore b c → HasNoMore a c
 none_then (Some a) (Some b) c xs f end = end
 none_then a b c xs f end = search
@@ -119,6 +133,7 @@ octets_come old new octets unknown read came at_end kept same = record {
   same = same;
 }
 
+-- a peer of which only the octets are known goes on by sending them
 pub octets_go : (old new : Known) (octets : List ℕ) → old.events ≡ None → new.reads ≡ old.reads
     → new.coming ≡ old.coming → Appends old.written new.written octets →
     new.lent ≡ old.lent → GoesOn old new (sending octets)
@@ -131,6 +146,7 @@ octets_go old new octets unknown read kept went same = record {
   same = same;
 }
 
+-- where nothing happens, the peer stays
 pub none_goes : (at : Known) → GoesOn at at []
 none_goes at = record {
   added = none_added at.events;
@@ -166,6 +182,7 @@ goes_then a b c xs ys f g = record {
 abbrev pub HasRead : ℕ → List Event → Type 0
 HasRead count events = length (reads_in events) ≡ count
 
+-- nothing was read yet
 pub none_read : (at : Known) → Went at at (HasRead 0)
 none_read at = ([], none_goes at, refl)
 
@@ -184,9 +201,11 @@ one_more_read start old now new count piece owed (events, goes, so) read sends =
 
 -- ---- what is handed on
 
+-- with nothing written, all is handed on
 pub none_written : (at : Known) → IsHandedOn at at
 none_written at = inl (record { written = refl; handed = refl })
 
+-- what is handed on twice is handed on
 pub handed_then : (start old new : Known) → IsHandedOn start old → IsHandedOn old new → IsHandedOn start new
 handed_then start old new so (inr all) = inr all
 handed_then start old new (inl none) (inl kept) =
@@ -200,11 +219,13 @@ abbrev rows_by : Bool → List ℕ → List (List ℕ)
 rows_by false octets = rows_of (whole_lines [] octets ++ [])
 rows_by true octets = rows_of (whole_lines [] octets ++ last_line [] octets ∷ [])
 
+-- the rows of events go by what was received and by whether it ended
 rows_are : (events : List Event) (ended : Bool) → has_ended events ≡ ended
     → rows_in events ≡ rows_by ended (received_in events)
 rows_are events false e = rw e refl
 rows_are events true e = rw e refl
 
+-- before the end, rows are the lines that ended
 rows_before_end : (events : List Event) → has_ended events ≡ false
     → rows_in events ≡ rows_of (whole_lines [] (received_in events))
 rows_before_end events e = rows_are events false e ∙ ap rows_of (append-nil (whole_lines [] (received_in events)))
@@ -229,6 +250,7 @@ rows_then events (c ∷ piece) e =
     ∙ rows_of-append (whole_lines [] octets) (whole_lines (last_line [] octets) (c ∷ piece))
     ∙ ap (λ r. r ++ rows_of (whole_lines (last_line [] octets) (c ∷ piece))) (sym (rows_before_end events e))
 
+-- sending adds nothing to what was received
 received_as : (events : List Event) (octets : List ℕ) → received_in (events ++ sent octets ∷ []) ≡ received_in events
 received_as events octets = received_then events (sent octets ∷ []) ∙ append-nil (received_in events)
 
@@ -239,9 +261,11 @@ rows_as events octets =
     ∙ ap (rows_by (has_ended events)) (received_as events octets)
     ∙ sym (rows_are events (has_ended events) refl)
 
+-- sending adds its octets to what was sent
 sent_as : (events : List Event) (octets : List ℕ) → sent_in (events ++ sent octets ∷ []) ≡ sent_in events ++ octets
 sent_as events octets = sent_then events (sent octets ∷ []) ∙ ap (λ s. sent_in events ++ s) (append-nil octets)
 
+-- a read sends nothing
 sent_by_read : (events : List Event) (octets : List ℕ) → sent_in (events ++ received octets ∷ []) ≡ sent_in events
 sent_by_read events octets = sent_then events (received octets ∷ []) ∙ append-nil (sent_in events)
 
@@ -264,6 +288,7 @@ reads_more P (x ∷ events) event each last (b ∷ before) after octets e =
     (reads_more (λ l. P (x ∷ l)) events event
     (λ before after octets so. each (x ∷ before) after octets (ap (λ l. x ∷ l) so)) last before after octets rest)
 
+-- a talk that owes nothing stays prompt by a read
 pub prompt_read : (answers : List (List ℕ)) (events : List Event) (piece : List ℕ) → IsPrompt answers events →
     (sent_in events ≡ concat (take (length (rows_in events)) answers)) × (has_ended events ≡ false)
     → IsPrompt answers (events ++ received piece ∷ [])
@@ -272,6 +297,7 @@ prompt_read answers events piece each due =
     (λ before. (sent_in before ≡ concat (take (length (rows_in before)) answers)) × (has_ended before ≡ false))
     events (received piece) each (λ octets e. due)
 
+-- a talk stays prompt by sending
 pub prompt_sent : (answers : List (List ℕ)) (events : List Event) (octets : List ℕ) → IsPrompt answers events
     → IsPrompt answers (events ++ sent octets ∷ [])
 prompt_sent answers events octets each =
@@ -304,15 +330,16 @@ module _ {D : Type 0} (Takes : TakesRow D) (first : D) where
   }
 
   -- a piece came in, and rows that it ended were taken
-  after_read : (desk at : D) (line piece : List ℕ) (events : List Event) (owed : List ℕ) (rows later : List (List ℕ)) →
-      StandsSo Takes first desk line events → rows_ended_by line piece ≡ rows ++ later
-      → AreOwed Takes desk at rows [] owed →
+  after_read : (responder at : D) (line piece : List ℕ) (events : List Event) (owed : List ℕ)
+      (rows later : List (List ℕ)) →
+      StandsSo Takes first responder line events → rows_ended_by line piece ≡ rows ++ later
+      → AreOwed Takes responder at rows [] owed →
       Owing at (events ++ received piece ∷ []) owed later
-  after_read desk at line piece events owed rows later so parted more =
+  after_read responder at line piece events owed rows later so parted more =
       let due = λ (also : List (List ℕ)).
       so.all_sent ∙ ap concat (sym (take-append_seam so.answers also))
       ∙ ap (λ n. concat (take n (so.answers ++ also)))
-      (sym (as_many Takes first (rows_in events) desk so.answers so.taken)) in
+      (sym (as_many Takes first (rows_in events) responder so.answers so.taken)) in
       record {
         rows = rows_in events ++ rows;
         answers = so.answers ++ more.0;
@@ -323,7 +350,7 @@ module _ {D : Type 0} (Takes : TakesRow D) (first : D) where
             (sym (cut_twice (last_line [] (received_in events))) ∙ ap cut (sym so.begun)))
             ∙ ap (λ r. rows_in events ++ r) parted
             ∙ sym (append_assoc (rows_in events) rows later);
-        taken = taken_then Takes first (rows_in events) desk so.answers rows at more.0 so.taken more.1;
+        taken = taken_then Takes first (rows_in events) responder so.answers rows at more.0 so.taken more.1;
         prompt = λ also.
             subst (λ a. IsPrompt a (events ++ received piece ∷ [])) (sym (append_assoc so.answers more.0 also))
             (prompt_read (so.answers ++ (more.0 ++ also)) events piece (so.prompt (more.0 ++ also))
@@ -361,14 +388,17 @@ module _ {D : Type 0} (Takes : TakesRow D) (first : D) where
   after_all at events owed later so =
       after_sending at events owed [] later (subst (λ o. Owing at events o later) (sym (append-nil owed)) so)
 
+  -- where no octets are owed, all answers were sent
   none_owing : (at : D) (events : List Event) (later : List (List ℕ)) (so : Owing at events [] later)
       → sent_in events ≡ concat so.answers
   none_owing at events later so = sym (so.owing ∙ append-nil (sent_in events))
 
+  -- sending what is owed does not end a talk
   ended_by_all : (events : List Event) (owed : List ℕ) → has_ended (events ++ sending owed) ≡ has_ended events
   ended_by_all events [] = ap has_ended (append-nil events)
   ended_by_all events (c ∷ owed) = ended_as events (c ∷ owed)
 
+  -- sending what is owed receives nothing
   received_by_all : (events : List Event) (owed : List ℕ) → received_in (events ++ sending owed) ≡ received_in events
   received_by_all events [] = ap received_in (append-nil events)
   received_by_all events (c ∷ owed) = received_as events (c ∷ owed)
@@ -376,15 +406,16 @@ module _ {D : Type 0} (Takes : TakesRow D) (first : D) where
   -- ---- talks, from what is known before them
 
   -- no more octets come, and nothing was owed
-  pub talk_ends : (desk at : D) (line piece before owed : List ℕ) (start old now new : Known) → piece ≡ [] → before ≡ []
-      → IsAt Takes first desk line start old →
-      GoesOn old now (received piece ∷ []) → AreOwed Takes desk at (rows_ended_by line piece) before owed
+  pub talk_ends : (responder at : D) (line piece before owed : List ℕ) (start old now new : Known) → piece ≡ []
+      → before ≡ []
+      → IsAt Takes first responder line start old →
+      GoesOn old now (received piece ∷ []) → AreOwed Takes responder at (rows_ended_by line piece) before owed
       → GoesOn now new (sending owed) → Went start new (HeldToTheEnd Takes first at)
-  talk_ends desk at line [] [] owed start old now new is_end none (events, goes, so) read more sends =
+  talk_ends responder at line [] [] owed start old now new is_end none (events, goes, so) read more sends =
       let piece = received [] ∷ [] in
       let owing =
       after_all at (events ++ piece) owed []
-      (after_read desk at line [] events owed (rows_ended_by line []) [] so
+      (after_read responder at line [] events owed (rows_ended_by line []) [] so
       (sym (append-nil (rows_ended_by line []))) more) in (
         events ++ piece ++ sending owed,
         goes_then start now new (events ++ piece) (sending owed) (goes_then start old now events piece goes read) sends,
@@ -395,21 +426,23 @@ module _ {D : Type 0} (Takes : TakesRow D) (first : D) where
           ended_by_all (events ++ piece) owed ∙ ended_then events piece so.not_ended,
         ),
       )
-  talk_ends desk at line piece before owed start old now new is_end none so read more sends = absurd cc
+  talk_ends responder at line piece before owed start old now new is_end none so read more sends = absurd cc
 
   -- a turn ends, and the next read may come
-  pub talk_goes_on : (desk at : D) (line piece next owed : List ℕ) (start old now new : Known) → (length piece ≡ 0 → ⊥)
-      → IsAt Takes first desk line start old →
-      GoesOn old now (received piece ∷ []) → AreOwed Takes desk at (rows_ended_by line piece) [] owed
+  pub talk_goes_on : (responder at : D) (line piece next owed : List ℕ) (start old now new : Known)
+      → (length piece ≡ 0 → ⊥)
+      → IsAt Takes first responder line start old →
+      GoesOn old now (received piece ∷ []) → AreOwed Takes responder at (rows_ended_by line piece) [] owed
       → next ≡ cut (last_line line piece) → GoesOn now new (sending owed) →
       IsAt Takes first at next start new
-  talk_goes_on desk at line [] next owed start old now new some so read more begun sends = absurd (some refl)
-  talk_goes_on desk at line (c ∷ octets) next owed start old now new some (events, goes, so) read more begun sends =
+  talk_goes_on responder at line [] next owed start old now new some so read more begun sends = absurd (some refl)
+  talk_goes_on responder at line (c ∷ octets) next owed start old now new some (events, goes, so) read more begun
+      sends =
       let piece = received (c ∷ octets) ∷ [] in
       let rows = rows_ended_by line (c ∷ octets) in
       let owing =
       after_all at (events ++ piece) owed []
-      (after_read desk at line (c ∷ octets) events owed rows [] so (sym (append-nil rows)) more) in (
+      (after_read responder at line (c ∷ octets) events owed rows [] so (sym (append-nil rows)) more) in (
         events ++ piece ++ sending owed,
         goes_then start now new (events ++ piece) (sending owed) (goes_then start old now events piece goes read) sends,
         record {
@@ -431,6 +464,7 @@ module _ {D : Type 0} (Takes : TakesRow D) (first : D) where
         },
       )
 
+  -- a talk begins with nothing received and nothing owed
   pub talk_begins : (start : Known) → IsAt Takes first first [] start start
   talk_begins start = (
     [],
@@ -447,9 +481,10 @@ module _ {D : Type 0} (Takes : TakesRow D) (first : D) where
 
   module _ {F : Type 0} (Refuses : RefusesRow D F) where
     -- no further read gives octets
-    pub no_more_turns : (desk : D) (line : List ℕ) (start old : Known) → IsAt Takes first desk line start old →
-        Went start old (λ events. StoppedBy Takes Refuses first desk events stop.ReadFailed)
-    no_more_turns desk line start old (events, goes, so) = (
+    pub no_more_turns : (responder : D) (line : List ℕ) (start old : Known) → IsAt Takes first responder line start old
+        →
+        Went start old (λ events. StoppedBy Takes Refuses first responder events stop.ReadFailed)
+    no_more_turns responder line start old (events, goes, so) = (
       events,
       goes,
       (
@@ -467,26 +502,27 @@ module _ {D : Type 0} (Takes : TakesRow D) (first : D) where
     )
 
     -- a read fails
-    pub read_fails : (desk : D) (line : List ℕ) (start old new : Known) → IsAt Takes first desk line start old
+    pub read_fails : (responder : D) (line : List ℕ) (start old new : Known) → IsAt Takes first responder line start old
         → GoesOn old new [] →
-        Went start new (λ events. StoppedBy Takes Refuses first desk events stop.ReadFailed)
-    read_fails desk line start old new (events, goes, so) read =
-        no_more_turns desk line start new
+        Went start new (λ events. StoppedBy Takes Refuses first responder events stop.ReadFailed)
+    read_fails responder line start old new (events, goes, so) read =
+        no_more_turns responder line start new
         (events, subst (GoesOn start new) (append-nil events) (goes_then start old new events [] goes read), so)
 
     -- a write fails after some rows were taken
-    pub write_fails : (desk at last : D) (line piece owed : List ℕ) (rows later : List (List ℕ))
-        (start old now new : Known) → IsAt Takes first desk line start old →
+    pub write_fails : (responder at last : D) (line piece owed : List ℕ) (rows later : List (List ℕ))
+        (start old now new : Known) → IsAt Takes first responder line start old →
         GoesOn old now (received piece ∷ []) → rows_ended_by line piece ≡ rows ++ later
-        → AreOwed Takes desk at rows [] owed → SendsSome now new owed →
+        → AreOwed Takes responder at rows [] owed → SendsSome now new owed →
         Went start new (λ events. StoppedBy Takes Refuses first last events stop.WriteFailed)
-    write_fails desk at last line piece owed rows later start old now new (events, goes, so) read parted more sends =
+    write_fails responder at last line piece owed rows later start old now new (events, goes, so) read parted more
+        sends =
         let came = events ++ received piece ∷ [] in
         let gone = take sends.0 owed in
         let left = drop sends.0 owed in
         let owing : Owing at (came ++ sending gone) left later = after_sending at came gone left later
         (subst (λ o. Owing at came o later) (sym (take-append-drop sends.0 owed))
-        (after_read desk at line piece events owed rows later so parted more)) in (
+        (after_read responder at line piece events owed rows later so parted more)) in (
           came ++ sending gone,
           goes_then start now new came (sending gone) (goes_then start old now events (received piece ∷ []) goes read)
               sends.1,
@@ -494,19 +530,22 @@ module _ {D : Type 0} (Takes : TakesRow D) (first : D) where
         )
 
     -- the same, whether a row was refused or not
-    pub write_fails_after : (desk last : D) (line piece before owed : List ℕ) (taken : Result (Unit {0}) (Refusal F))
+    pub write_fails_after : (responder last : D) (line piece before owed : List ℕ)
+        (taken : Result (Unit {0}) (Refusal F))
         (start old now new : Known) → before ≡ [] →
-        IsAt Takes first desk line start old → GoesOn old now (received piece ∷ [])
-        → OnOk taken (AreOwed Takes desk last (rows_ended_by line piece) before owed) →
-        IfErr taken (AreCut Takes Refuses desk last (rows_ended_by line piece) before owed) → SendsSome now new owed →
+        IsAt Takes first responder line start old → GoesOn old now (received piece ∷ [])
+        → OnOk taken (AreOwed Takes responder last (rows_ended_by line piece) before owed) →
+        IfErr taken (AreCut Takes Refuses responder last (rows_ended_by line piece) before owed)
+        → SendsSome now new owed →
         Went start new (λ events. StoppedBy Takes Refuses first last events stop.WriteFailed)
-    write_fails_after desk last line piece before owed (Ok u) start old now new none so read more cut sends =
+    write_fails_after responder last line piece before owed (Ok u) start old now new none so read more cut sends =
         let rows = rows_ended_by line piece in
-        write_fails desk last last line piece owed rows [] start old now new so read (sym (append-nil rows))
-        (subst (λ o. AreOwed Takes desk last rows o owed) none more) sends
-    write_fails_after desk last line piece before owed (Err by) start old now new none so read more cut sends =
-        let is = subst (λ o. AreCut Takes Refuses desk last (rows_ended_by line piece) o owed by) none cut in
-        write_fails desk is.at last line piece owed is.rows is.later start old now new so read is.parted is.taken sends
+        write_fails responder last last line piece owed rows [] start old now new so read (sym (append-nil rows))
+        (subst (λ o. AreOwed Takes responder last rows o owed) none more) sends
+    write_fails_after responder last line piece before owed (Err by) start old now new none so read more cut sends =
+        let is = subst (λ o. AreCut Takes Refuses responder last (rows_ended_by line piece) o owed by) none cut in
+        write_fails responder is.at last line piece owed is.rows is.later start old now new so read is.parted is.taken
+        sends
 
     -- a row is refused, or memory runs out
     stopped : (at last : D) (events : List Event) (later : List (List ℕ)) (by : Refusal F)
@@ -524,18 +563,21 @@ module _ {D : Type 0} (Takes : TakesRow D) (first : D) where
     stopped at last events later refusal.OutOfMemory refused owing =
         (at, took at events [] later owing, none_owing at events later owing)
 
-    pub row_refused : (desk last : D) (line piece before owed : List ℕ) (by : Refusal F) (start old now new : Known)
-        → before ≡ [] → IsAt Takes first desk line start old →
-        GoesOn old now (received piece ∷ []) → AreCut Takes Refuses desk last (rows_ended_by line piece) before owed by
+    -- a row that is refused stops the talk, with the answers before it sent
+    pub row_refused : (responder last : D) (line piece before owed : List ℕ) (by : Refusal F)
+        (start old now new : Known)
+        → before ≡ [] → IsAt Takes first responder line start old →
+        GoesOn old now (received piece ∷ [])
+        → AreCut Takes Refuses responder last (rows_ended_by line piece) before owed by
         → GoesOn now new (sending owed) →
         Went start new (λ events. StoppedBy Takes Refuses first last events (stop_by by))
-    row_refused desk last line piece [] owed by start old now new none (events, goes, so) read cut sends =
+    row_refused responder last line piece [] owed by start old now new none (events, goes, so) read cut sends =
         let came = events ++ received piece ∷ [] in (
           came ++ sending owed,
           goes_then start now new came (sending owed) (goes_then start old now events (received piece ∷ []) goes read)
               sends,
           stopped cut.at last (came ++ sending owed) cut.later by cut.refused
               (after_all cut.at came owed cut.later
-              (after_read desk cut.at line piece events owed cut.rows cut.later so cut.parted cut.taken)),
+              (after_read responder cut.at line piece events owed cut.rows cut.later so cut.parted cut.taken)),
         )
-    row_refused desk last line piece (c ∷ before) owed by start old now new none so read cut sends = absurd cc
+    row_refused responder last line piece (c ∷ before) owed by start old now new none so read cut sends = absurd cc

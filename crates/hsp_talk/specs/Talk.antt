@@ -75,11 +75,11 @@ rows_in events =
 
 -- ---- answers
 
--- `Takes desk row next answer`: a desk takes a row with this answer, and is the next desk then
+-- `Takes responder row next answer`: a responder takes a row with this answer, and is the next responder then
 abbrev pub TakesRow : Type 0 → Type 1
 TakesRow D = D → List ℕ → D → List ℕ → Type 0
 
--- rows are taken in turn, from the first desk to the last, each with its answer
+-- rows are taken in turn, from the first responder to the last, each with its answer
 abbrev pub AreTaken : {D : Type 0} → TakesRow D → D → List (List ℕ) → D → List (List ℕ) → Type 0
 AreTaken Takes first [] last [] = last ≡ first
 AreTaken {D} Takes first (row ∷ rows) last (answer ∷ answers) =
@@ -109,7 +109,7 @@ HeldToTheEnd Takes first last events =
     (took : Took Takes first last events) × (took.later ≡ []) × (sent_in events ≡ concat took.answers)
     × (has_ended events ≡ true)
 
--- `Refuses desk row next fault`: a desk refuses a row by this fault, and is the next desk then
+-- `Refuses responder row next fault`: a responder refuses a row by this fault, and is the next responder then
 abbrev pub RefusesRow : Type 0 → Type 0 → Type 1
 RefusesRow D F = D → List ℕ → D → F → Type 0
 

@@ -2,18 +2,18 @@
 // whoever asks.
 #![tactic(auto)]
 
-mod desk;
 pub mod laws;
 mod limits;
 mod peer;
+mod responder;
 mod sink;
 mod source;
 mod stop;
 mod talking;
 
-pub use desk::Desk;
 pub use limits::LONGEST_ROW;
 pub use peer::{Joined, Peer};
+pub use responder::Responder;
 pub use sink::Sink;
 pub use source::Source;
 pub use stop::{Failed, Refusal, Stop};

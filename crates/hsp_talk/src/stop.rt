@@ -7,10 +7,10 @@ ghost use Rattle.hsp_talk.specs.Refusals.{stop_by};
 #[derive(Clone, Copy, Debug, Drop)]
 pub struct Failed;
 
-/// Why a desk does not take a row.
+/// Why a responder does not take a row.
 #[derive(Debug, Drop)]
 pub enum Refusal<F> {
-    /// A fault of the desk's own: the row is refused, and the talk stops.
+    /// A fault of the responder's own: the row is refused, and the talk stops.
     Fault(F),
     /// Memory ran out.
     OutOfMemory,
@@ -25,11 +25,11 @@ pub enum Stop<F> {
     WriteFailed,
     /// Memory ran out.
     OutOfMemory,
-    /// The desk refused a row.
+    /// The responder refused a row.
     Fault(F),
 }
 
-/// Why a talk stops when its desk does not take a row.
+/// Why a talk stops when its responder does not take a row.
 pub(crate) fn stop_for<F>(refusal: Refusal<F>) -> Stop<F>
     ensures { result ≡ stop_by refusal }
 {

@@ -8,9 +8,9 @@ ghost use Rattle.hsp_talk.specs.Stopping.{IsFailedWrite, MayStop};
 ghost use Rattle.hsp_talk.specs.Talk.{HeldToTheEnd, StoppedBy, cut, is_line_feed, last_line, rows_of, whole_lines};
 ghost use Rattle.hsp_talk.specs.Turns.{AreCut, AreOwed, rows_ended_by};
 
-use crate::desk::Desk;
 use crate::limits::LONGEST_ROW;
 use crate::peer::Peer;
+use crate::responder::Responder;
 use crate::stop::{Failed, Refusal, Stop, stop_for};
 use std::alloc::{AllocError, Global};
 
@@ -18,23 +18,23 @@ use std::alloc::{AllocError, Global};
 const PIECE: usize = 8192;
 
 // Takes a line, if it is a row, and adds its answer to those that are owed.
-fn take_line<D: Desk>(
-    desk: &mut D,
+fn take_line<D: Responder>(
+    responder: &mut D,
     line: &[u8],
     answer: &mut Vec<u8>,
     owed: &mut Vec<u8>,
 ) -> Result<(), Refusal<D::Fault>>
     requires { length line.now ≤ LONGEST_ROW + 1 }
-    ensures taken { OnOk result (AreOwed D.Takes desk.old desk.new
+    ensures taken { OnOk result (AreOwed D.Takes responder.old responder.new
         (rows_of (line.now ∷ [])) owed.old.items owed.new.items) }
-    ensures cut { IfErr result (AreCut D.Takes D.Refuses desk.old desk.new
+    ensures cut { IfErr result (AreCut D.Takes D.Refuses responder.old responder.new
         (rows_of (line.now ∷ [])) owed.old.items owed.new.items) }
 {
     if line.is_empty() {
         return Ok(());
     }
     answer.clear();
-    if let Err(refusal) = desk.take(line, answer) {
+    if let Err(refusal) = responder.take(line, answer) {
         return Err(refusal);
     }
     match owed.extend_from_slice(answer) {
@@ -63,18 +63,18 @@ fn lengthen(line: &mut Vec<u8>, octets: &[u8]) -> Result<(), AllocError>
 }
 
 // Takes the lines that these octets end. What they begin is kept.
-fn take_lines<D: Desk>(
-    desk: &mut D,
+fn take_lines<D: Responder>(
+    responder: &mut D,
     octets: &[u8],
     line: &mut Vec<u8>,
     answer: &mut Vec<u8>,
     owed: &mut Vec<u8>,
 ) -> Result<(), Refusal<D::Fault>>
     requires { length line.old.items ≤ LONGEST_ROW + 1 }
-    ensures taken { OnOk result (AreOwed D.Takes desk.old desk.new
+    ensures taken { OnOk result (AreOwed D.Takes responder.old responder.new
         (rows_of (whole_lines line.old.items octets.now)) owed.old.items owed.new.items) }
     ensures begun { OnOk result (line.new.items ≡ cut (last_line line.old.items octets.now)) }
-    ensures cut { IfErr result (AreCut D.Takes D.Refuses desk.old desk.new
+    ensures cut { IfErr result (AreCut D.Takes D.Refuses responder.old responder.new
         (rows_of (whole_lines line.old.items octets.now)) owed.old.items owed.new.items) }
 {
     let mut rest = octets;
@@ -83,7 +83,7 @@ fn take_lines<D: Desk>(
         let Ok(()) = lengthen(line, ended) else {
             return Err(Refusal::OutOfMemory);
         };
-        if let Err(refusal) = take_line(desk, line, answer, owed) {
+        if let Err(refusal) = take_line(responder, line, answer, owed) {
             return Err(refusal);
         }
         line.clear();
@@ -96,24 +96,24 @@ fn take_lines<D: Desk>(
 }
 
 // Takes the rows that a piece ends. Where no more octets come, the last line has ended too.
-fn take_piece<D: Desk>(
-    desk: &mut D,
+fn take_piece<D: Responder>(
+    responder: &mut D,
     piece: &[u8],
     line: &mut Vec<u8>,
     answer: &mut Vec<u8>,
     owed: &mut Vec<u8>,
 ) -> Result<(), Refusal<D::Fault>>
     requires { length line.old.items ≤ LONGEST_ROW + 1 }
-    ensures taken { OnOk result (AreOwed D.Takes desk.old desk.new
+    ensures taken { OnOk result (AreOwed D.Takes responder.old responder.new
         (rows_ended_by line.old.items piece.now) owed.old.items owed.new.items) }
     ensures begun { OnOk result (line.new.items ≡ cut (last_line line.old.items piece.now)) }
-    ensures cut { IfErr result (AreCut D.Takes D.Refuses desk.old desk.new
+    ensures cut { IfErr result (AreCut D.Takes D.Refuses responder.old responder.new
         (rows_ended_by line.old.items piece.now) owed.old.items owed.new.items) }
 {
     if piece.is_empty() {
-        take_line(desk, line, answer, owed)
+        take_line(responder, line, answer, owed)
     } else {
-        take_lines(desk, piece, line, answer, owed)
+        take_lines(responder, piece, line, answer, owed)
     }
 }
 
@@ -136,26 +136,26 @@ fn send_owed<P: Peer>(peer: &mut P, owed: &mut Vec<u8>) -> Result<(), Failed>
     Ok(())
 }
 
-/// Receives rows, one a line, and sends the desk's answers until no more rows come.
+/// Receives rows, one a line, and sends the responder's answers until no more rows come.
 ///
 /// Every answer is sent before the next read, which may wait. A line ends with a line feed; a carriage return before
 /// it belongs to the line. An empty line is no row. The last line may lack its end, and is taken when no more octets
 /// come.
 ///
 /// Of a line with more than [`LONGEST_ROW`] octets, the first [`LONGEST_ROW`] and one more are the row, and the rest is
-/// passed over. So memory is bounded whatever comes, and the desk sees that the row is too long.
+/// passed over. So memory is bounded whatever comes, and the responder sees that the row is too long.
 ///
-/// Where the desk refuses a row, the answers to the rows before it are sent first. The same holds where memory runs
-/// out. There are at most 2^64 - 1 reads: where octets come even then, a failed read is reported.
-pub fn talk<P: Peer, D: Desk>(
+/// Where the responder refuses a row, the answers to the rows before it are sent first. The same holds where memory
+/// runs out. There are at most 2^64 - 1 reads: where octets come even then, a failed read is reported.
+pub fn talk<P: Peer, D: Responder>(
     alloc: Global,
-    desk: &mut D,
+    responder: &mut D,
     peer: &mut P,
 ) -> Result<(), Stop<D::Fault>>
     ensures whole { OnOk result (Went (P.known peer.old) (P.known peer.new)
-        (HeldToTheEnd D.Takes desk.old desk.new)) }
+        (HeldToTheEnd D.Takes responder.old responder.new)) }
     ensures stops { IfErr result (λ stop. Went (P.known peer.old) (P.known peer.new)
-        (λ events. StoppedBy D.Takes D.Refuses desk.old desk.new events stop)) }
+        (λ events. StoppedBy D.Takes D.Refuses responder.old responder.new events stop)) }
     // No octet of an answer waits in a buffer of the peer, unless a write failed.
     ensures handed { IsHandedOn (P.known peer.old) (P.known peer.new) ⊎ IsFailedWrite result }
     // A failure is reported only of what may fail.
@@ -170,7 +170,13 @@ pub fn talk<P: Peer, D: Desk>(
         let Ok(count) = peer.receive(&mut piece) else {
             return Err(Stop::ReadFailed);
         };
-        let taken = take_piece(desk, &piece[..count], &mut line, &mut answer, &mut owed);
+        let taken = take_piece(
+            responder,
+            &piece[..count],
+            &mut line,
+            &mut answer,
+            &mut owed,
+        );
         let Ok(()) = send_owed(peer, &mut owed) else {
             return Err(Stop::WriteFailed);
         };

@@ -1,8 +1,9 @@
-// Peers that give pieces and note what happens, a reader and a writer whose first calls fail, and a desk that counts.
+// Peers that give pieces and note what happens, a reader and a writer whose first calls fail, and a responder that
+// counts.
 
 ghost use Rattle.std.specs.Prelude.{⊤};
 
-use hsp_talk::{Desk, Failed, Peer, Refusal};
+use hsp_talk::{Failed, Peer, Refusal, Responder};
 use std::alloc::AllocError;
 use std::io;
 use std::io::{ErrorKind, Read, Write};
@@ -193,18 +194,18 @@ impl Write for FakeWriter {
     }
 }
 
-/// A row that a desk refuses.
+/// A row that a responder refuses.
 #[derive(Clone, Copy, Debug, Drop)]
 pub struct BadRow;
 
 /// Counts rows, and answers each by its number and itself. `-` has no answer, `=` has two lines, `!` is a bad row, and
 /// at `?` memory runs out.
 #[derive(Drop)]
-pub struct CountingDesk {
+pub struct CountingResponder {
     pub taken: u8,
 }
 
-impl Desk for CountingDesk {
+impl Responder for CountingResponder {
     type Fault = BadRow;
 
     ghost Takes = { λ old row new answer. ⊤ };

@@ -2,7 +2,7 @@
 // place is expensive to prove.
 
 use crate::fakes::{
-    BadRow, CountingDesk, FakePeer, FakeReader, FakeWriter, First, Note, RepeatingPeer,
+    BadRow, CountingResponder, FakePeer, FakeReader, FakeWriter, First, Note, RepeatingPeer,
 };
 use hsp_talk::{Joined, Stop, talk};
 use std::alloc::Global;
@@ -34,14 +34,14 @@ fn ending(held: Result<(), Stop<BadRow>>) -> &'static [u8] {
 
 // Holds a talk, and notes how it ended.
 fn note_of(alloc: Global, pieces: &[&[u8]], limits: Limits) -> Note {
-    let mut desk = CountingDesk { taken: 0 };
+    let mut responder = CountingResponder { taken: 0 };
     let mut peer = FakePeer {
         pieces,
         reads: limits.reads,
         writes: limits.writes,
         note: Note::none(),
     };
-    let held = talk(alloc, &mut desk, &mut peer);
+    let held = talk(alloc, &mut responder, &mut peer);
     let mut note = peer.note;
     note.add(b'.', ending(held));
     note
@@ -59,7 +59,7 @@ pub fn goes(rt: &impl Abort, alloc: Global, pieces: &[&[u8]], limits: Limits, wa
 
 // Holds a talk with a reader and a writer over the rows `a` and `b`, and notes how it ended, and after how many reads.
 fn note_joined(alloc: Global, first: First) -> Note {
-    let mut desk = CountingDesk { taken: 0 };
+    let mut responder = CountingResponder { taken: 0 };
     let mut writer = FakeWriter {
         note: Note::none(),
         first,
@@ -72,7 +72,7 @@ fn note_joined(alloc: Global, first: First) -> Note {
         },
         writer: &mut writer,
     };
-    let held = talk(alloc, &mut desk, &mut peer);
+    let held = talk(alloc, &mut responder, &mut peer);
     let reads = peer.reader.reads;
     writer.note.add(b'.', ending(held));
     writer.note.add(b'<', &[b'0'.saturating_add(reads)]);
@@ -91,14 +91,14 @@ pub fn goes_joined(rt: &impl Abort, alloc: Global, first: First, wanted: &[u8]) 
 
 // Holds a talk in which a piece comes so many times. How it ended, and how many sends there were, and octets in them.
 fn sums_of(alloc: Global, piece: &[u8], times: u32) -> (&'static [u8], u32, usize) {
-    let mut desk = CountingDesk { taken: 0 };
+    let mut responder = CountingResponder { taken: 0 };
     let mut peer = RepeatingPeer {
         piece,
         times,
         sends: 0,
         octets: 0,
     };
-    let held = talk(alloc, &mut desk, &mut peer);
+    let held = talk(alloc, &mut responder, &mut peer);
     (ending(held), peer.sends, peer.octets)
 }
 

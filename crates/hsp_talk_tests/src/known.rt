@@ -4,7 +4,7 @@ ghost use Rattle.std.specs.Prelude.{◌≡◌, [], None, OnOk, Some};
 ghost use Rattle.hsp_talk.specs.Talk.{HeldToTheEnd};
 ghost use Rattle.hsp_talk_tests.specs.Known.{events_of};
 
-use hsp_talk::{Desk, Failed, Peer, Stop, talk};
+use hsp_talk::{Failed, Peer, Responder, Stop, talk};
 use std::alloc::Global;
 
 /// What happened at a peer.
@@ -59,14 +59,14 @@ impl<'a> Peer for KnownPeer<'a> {
 }
 
 /// Holds a talk with a peer at which nothing happened yet.
-pub fn hold<D: Desk>(
+pub fn hold<D: Responder>(
     alloc: Global,
-    desk: &mut D,
+    responder: &mut D,
     peer: &mut KnownPeer<'_>,
 ) -> Result<(), Stop<D::Fault>>
     requires { peer.old.turns.items ≡ [] }
     ensures { OnOk result
-        (HeldToTheEnd D.Takes desk.old desk.new (events_of peer.new.turns.items)) }
+        (HeldToTheEnd D.Takes responder.old responder.new (events_of peer.new.turns.items)) }
 {
-    talk(alloc, desk, peer)
+    talk(alloc, responder, peer)
 }

@@ -1,4 +1,4 @@
-use crate::fakes::{CountingDesk, First, Note};
+use crate::fakes::{CountingResponder, First, Note};
 use crate::held::{ALL, Limits, goes, goes_joined, repeats};
 use crate::known::{KnownPeer, Turn, hold};
 
@@ -81,8 +81,8 @@ fn a_reader_and_a_writer_are_a_peer(rt: HostRuntime) {
     }
 }
 
-// Pieces that are a row each; a row of more octets than may reach a desk, of which 1,048,577 do; and a piece of rows
-// that have two lines each.
+// Pieces that are a row each; a row of more octets than may reach a responder, of which 1,048,577 do; and a piece of
+// rows that have two lines each.
 #[test]
 fn long_rows_and_many_rows_are_answered(rt: HostRuntime) {
     let long = [b'x'; 8192];
@@ -99,7 +99,7 @@ fn long_rows_and_many_rows_are_answered(rt: HostRuntime) {
 
 #[test]
 fn a_known_talk_is_held(rt: HostRuntime) {
-    let mut desk = CountingDesk { taken: 0 };
+    let mut responder = CountingResponder { taken: 0 };
     let mut peer = KnownPeer {
         alloc: rt.alloc(),
         text: b"a\nb",
@@ -107,7 +107,7 @@ fn a_known_talk_is_held(rt: HostRuntime) {
     };
     let mut note = Note::none();
     // Where a growth is refused, nothing is asked of the turns.
-    if hold(rt.alloc(), &mut desk, &mut peer).is_ok() {
+    if hold(rt.alloc(), &mut responder, &mut peer).is_ok() {
         for turn in &peer.turns {
             match turn {
                 Turn::Received(octets) => note.add(b'<', octets),

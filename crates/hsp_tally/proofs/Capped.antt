@@ -8,6 +8,7 @@ use Rattle.hsp_kinds.specs.Tables.{counted, counted_all}
 use Rattle.hsp_kinds.proofs.Tabling.{kinds_are_classes}
 use Rattle.hsp_tally.specs.Tally.{CappedKindsAreClasses, IsKept, TablesAreCapped, by_capped, capped, capped_row}
 
+-- kinds of capped rows are kinds of rows
 pub capped_kinds_are_classes : CappedKindsAreClasses
 capped_kinds_are_classes costs sites =
     let are = kinds_are_classes costs sites in
@@ -24,6 +25,7 @@ capped_kinds_are_classes costs sites =
     named a n = record { region = a.region; handle = a.handle; count = n }
 
 module _ (costs : List CostEntry) (sites : List Site) where
+  -- one row more is counted up to the greatest sum
   one_more : (table : List Row) (row : Row) → IsKept row
       → counted (by_capped costs sites) (map capped_row table) row
       ≡ map capped_row (counted (by_kind costs sites) table row)
@@ -32,6 +34,7 @@ module _ (costs : List CostEntry) (sites : List Site) where
       ap (λ n. record { region = row.region; handle = row.handle; count = n } ∷ []) same
   one_more (first ∷ table) row kept = grind (arith, one_more table row kept)
 
+  -- all rows are counted up to the greatest sum
   all_more : (table rows : List Row) → AllByRecursion IsKept rows
       → counted_all (by_capped costs sites) (map capped_row table) rows
       ≡ map capped_row (counted_all (by_kind costs sites) table rows)
@@ -40,5 +43,6 @@ module _ (costs : List CostEntry) (sites : List Site) where
       ap (λ t. counted_all (by_capped costs sites) t rows) (one_more table row kept.0)
       ∙ all_more (counted (by_kind costs sites) table row) rows kept.1
 
+-- a table with capped sums is the table of the rows, capped
 pub tables_are_capped : TablesAreCapped
 tables_are_capped costs sites rows kept = all_more costs sites [] rows kept

@@ -23,10 +23,12 @@ use Rattle.hsp_tally.specs.Keys.{KeyEntry}
 use Rattle.hsp_tally.specs.KindKeys.{key_in}
 use Rattle.hsp_tally.specs.declared.keys.KindKey.{KindKey}
 use Rattle.hsp_text.proofs.Lists.{all_push}
+use Rattle.hsp_instance.proofs.Lists.{all_so}
 
 -- ---- positions
 
 module _ {A : Type 0} where
+  -- the first place in a longer list is the old one, or that of the new element
   from_next : (p : A → Bool) (n : ℕ) (xs : List A) (x : A)
       → position_from p n (xs ++ x ∷ []) ≡ or_else (position_from p n xs) (cond (p x) (Some (n + length xs)) None)
   from_next p n [] x = rw add-zero refl
@@ -57,10 +59,7 @@ module _ {A : Type 0} where
   take_next : (xs : List A) (n : ℕ) (x : A) → slice_get xs n ≡ Some x → take (n + 1) xs ≡ take n xs ++ x ∷ []
   take_next xs n x e = rw (get_or_from_slice_get xs n x x e) at (take_more xs n x (slice_get_within xs n x e))
 
-  all_so : (P Q : A → Type 0) (xs : List A) → ((x : A) → P x → Q x) → AllByRecursion P xs → AllByRecursion Q xs
-  all_so P Q [] each all = tt
-  all_so P Q (x ∷ xs) each all = (each x all.0, all_so P Q xs each all.1)
-
+  -- as many elements stand before a place as it says
   length_before : (xs : List A) (n : ℕ) (x : A) → slice_get xs n ≡ Some x → length (take n xs) ≡ n
   length_before xs n x e = omega (arith, length-take n xs, slice_get_within xs n x e)
 

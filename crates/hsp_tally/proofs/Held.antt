@@ -25,10 +25,12 @@ use Rattle.hsp_tally.proofs.SeenMaps.{found_has, put_all}
 module _ (keys : Sought) (kinds : List KindEntry) (seen : List Seen) (held : AreHeld keys kinds seen)
     (region handle : List ℕ) (number count : ℕ)
     (at : option_map number_of (find (of_row region handle) seen) ≡ Some number) where
+  -- the row that was seen is of the kind that its number names
   seen_is : IsSeenAs keys.costs keys.sites (map row_in kinds)
       (record { region = region; handle = handle; number = number })
   seen_is = found_has (IsSeenAs keys.costs keys.sites (map row_in kinds)) region handle seen number held.placed at
 
+  -- its kind stands at that number
   seen_place : (position_or_len
       (λ r. is_same_kind keys.costs keys.sites r (record { region = region; handle = handle; count = count }))
       (map row_in kinds) ≡ number) × (number < length (map row_in kinds))
@@ -37,6 +39,7 @@ module _ (keys : Sought) (kinds : List KindEntry) (seen : List Seen) (held : Are
       (λ r. is_same_kind keys.costs keys.sites r (record { region = region; handle = handle; count = count }))
       (map row_in kinds) number seen_is.place
 
+  -- its kind is in the table
   seen_there : list_any
       (λ r. is_same_kind keys.costs keys.sites r (record { region = region; handle = handle; count = count }))
       (map row_in kinds) ≡ true
@@ -44,9 +47,11 @@ module _ (keys : Sought) (kinds : List KindEntry) (seen : List Seen) (held : Are
       kind_there keys.costs keys.sites (record { region = region; handle = handle; count = count }) (map row_in kinds)
       (rw (seen_place.0) (seen_place.1))
 
+  -- that number is in the table
   pub seen_within : number < length kinds
   seen_within = omega (arith, seen_place.1, length-map kinds row_in)
 
+  -- a count at that number counts the row
   pub seen_counted : map row_in (joined kinds number count)
       ≡ counted (by_capped keys.costs keys.sites) (map row_in kinds)
       (record { region = region; handle = handle; count = count })
@@ -55,6 +60,7 @@ module _ (keys : Sought) (kinds : List KindEntry) (seen : List Seen) (held : Are
       ∙ joined_rows keys.costs keys.sites (record { region = region; handle = handle; count = count }) kinds
       (rw (seen_place.0) (seen_place.1))
 
+  -- what the table holds stays held
   pub seen_held : AreHeld keys (joined kinds number count) seen
   seen_held = record {
     keyed = joined_keyed keys.costs keys.sites kinds number count held.keyed;
@@ -66,6 +72,7 @@ module _ (keys : Sought) (kinds : List KindEntry) (seen : List Seen) (held : Are
         seen held.placed);
   }
 
+  -- no region is new
   pub seen_regions : regions_of (map row_in (joined kinds number count)) ≡ regions_of (map row_in kinds)
   seen_regions =
       ap regions_of seen_counted
@@ -74,6 +81,7 @@ module _ (keys : Sought) (kinds : List KindEntry) (seen : List Seen) (held : Are
       ∙ known_region keys.costs keys.sites (record { region = region; handle = handle; count = count })
       (map row_in kinds) seen_there
 
+  -- such a row is counted without a fault
   pub seen_well : keys.regions ≡ regions_of (map row_in kinds)
       → with_counted keys.costs keys.sites (map row_in kinds)
       (record { region = region; handle = handle; count = count }) ≡ Ok (map row_in (joined kinds number count))
@@ -87,11 +95,13 @@ module _ (keys : Sought) (kinds : List KindEntry) (seen : List Seen) (held : Are
       (rw known held.few_regions) (rw (← seen_counted) more)
       ∙ ap Ok (sym seen_counted)
 
+  -- its names are within their limits
   pub seen_named : IsNamed (record { region = region; handle = handle; count = count })
   seen_named = record { region = seen_is.named.region; handle = seen_is.named.handle }
 
 -- ---- a row that is counted by its key
 
+-- what is a handle is read as one
 pub handle_is : (handle : List ℕ) → is_handle handle ≡ true → handle_in handle ≡ Ok handle
 handle_is handle is = grind arith
 
@@ -102,6 +112,7 @@ module _ (keys : Sought) (old new : List KindEntry) (seen : List Seen) (held : A
   own = record { region = lent.region.now; handle = handle; count = count }
 
   module _ (is : map keyed_in new ≡ counted by_key (map keyed_in old) (lent_row lent handle count)) where
+    -- the row of a new kind is counted as one
     pub new_counted : map row_in new
         ≡ counted (by_capped keys.costs keys.sites) (map row_in old)
         (record { region = lent.region.now; handle = handle; count = count })

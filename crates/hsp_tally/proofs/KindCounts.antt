@@ -24,30 +24,36 @@ use Rattle.hsp_tally.proofs.KindLists.{counted_last, place_is}
 
 -- ---- regions
 
+-- what is in a list is in a longer one
 any_append : (p : List ℕ → Bool) (xs ys : List (List ℕ)) → list_any p xs ≡ true → list_any p (xs ++ ys) ≡ true
 any_append p [] ys e = absurd (false≢true e)
 any_append p (x ∷ xs) ys e = grind (arith, any_append p xs ys)
 
+-- what is put last is in the list
 any_last : (p : List ℕ → Bool) (xs : List (List ℕ)) (y : List ℕ) → p y ≡ true → list_any p (xs ++ y ∷ []) ≡ true
 any_last p [] y e = grind arith
 any_last p (x ∷ xs) y e = grind (arith, any_last p xs y)
 
 module _ (name : List ℕ) where
+  -- a name that is there stays when another is put in
   inserted_kept : (names : List (List ℕ)) (other : List ℕ) → list_any (bytes_eq name) names ≡ true
       → list_any (bytes_eq name) (insert_key bytes_eq names other) ≡ true
   inserted_kept names other e = grind (arith, any_append (bytes_eq name) names (other ∷ []) e)
 
+  -- a name that is put in is there
   inserted_there : (names : List (List ℕ)) (other : List ℕ) → bytes_eq name other ≡ true
       → list_any (bytes_eq name) (insert_key bytes_eq names other) ≡ true
   inserted_there names other e =
       let is : name ≡ other = (bytes_decides name other).0 e in
       grind (arith, any_last (bytes_eq name) names other e)
 
+  -- a name that is there stays when more are put in
   all_kept : (more names : List (List ℕ)) → list_any (bytes_eq name) names ≡ true
       → list_any (bytes_eq name) (fold (insert_key bytes_eq) names more) ≡ true
   all_kept [] names e = e
   all_kept (other ∷ more) names e = all_kept more (insert_key bytes_eq names other) (inserted_kept names other e)
 
+  -- each name of those that are put in is there
   all_there : (more names : List (List ℕ)) → list_any (bytes_eq name) more ≡ true
       → list_any (bytes_eq name) (fold (insert_key bytes_eq) names more) ≡ true
   all_there [] names e = absurd (false≢true e)
@@ -55,6 +61,7 @@ module _ (name : List ℕ) where
       let with = insert_key bytes_eq names other in
       grind (arith, all_kept more with, inserted_there names other, all_there more with)
 
+-- a region that is there is not put in again
 pub there_already : (regions : List (List ℕ)) (region : List ℕ) → list_any (bytes_eq region) regions ≡ true
     → with_region regions region ≡ regions
 there_already regions region e = rw e refl
@@ -66,6 +73,7 @@ pub few_regions : (regions : List (List ℕ)) (region : List ℕ) → length reg
 few_regions regions region few (inl known) = rw (there_already regions region known) few
 few_regions regions region few (inr room) = grind (arith, length-append regions (region ∷ []))
 
+-- one row more adds its region
 pub region_added : (rows : List Row) (row : Row)
     → regions_of (rows ++ row ∷ []) ≡ with_region (regions_of rows) row.region
 region_added rows row =
@@ -73,6 +81,7 @@ region_added rows row =
     ∙ first_seen-append (map (λ (r : Row). r.region) rows) row.region
 
 module _ (costs : List CostEntry) (sites : List Site) (row : Row) where
+  -- a row of a known kind has a known region
   region_there : (rows : List Row) → list_any (λ r. is_same_kind costs sites r row) rows ≡ true
       → list_any (bytes_eq row.region) (map (λ (r : Row). r.region) rows) ≡ true
   region_there [] e = absurd (false≢true e)
@@ -85,6 +94,7 @@ module _ (costs : List CostEntry) (sites : List Site) (row : Row) where
       there_already (regions_of rows) row.region
       (all_there row.region (map (λ (r : Row). r.region) rows) [] (region_there rows e))
 
+  -- counting a row of a known kind leaves the regions
   same_regions : (rows : List Row) → list_any (λ r. is_same_kind costs sites r row) rows ≡ true
       → map (λ (r : Row). r.region) (counted (by_capped costs sites) rows row) ≡ map (λ (r : Row). r.region) rows
   same_regions [] e = absurd (false≢true e)
@@ -100,11 +110,13 @@ module _ (costs : List CostEntry) (sites : List Site) (row : Row) where
 
   -- ---- what is counted
 
+  -- a row is counted where regions and kinds keep to their limits
   pub counted_well : (rows : List Row) → length (with_region (regions_of rows) row.region) ≤ MOST_REGIONS
       → length (counted (by_capped costs sites) rows row) ≤ MOST_DEMAND_ROWS
       → with_counted costs sites rows row ≡ Ok (counted (by_capped costs sites) rows row)
   counted_well rows regions kinds = grind (arith, region_added rows row)
 
+  -- a kind more than the limit is the fault
   pub kinds_too_many : (rows : List Row) → length (with_region (regions_of rows) row.region) ≤ MOST_REGIONS
       → nat_lt MOST_DEMAND_ROWS (length (counted (by_capped costs sites) rows row)) ≡ true
       → with_counted costs sites rows row ≡ Err TooManyKinds
@@ -135,6 +147,7 @@ joined_keyed costs sites (e ∷ es) (suc number) count all = (all.0, joined_keye
 
 -- ---- rows that were seen
 
+-- the place of what was found is in the list
 pub place_within : {A : Type 0} (p : A → Bool) (xs : List A) (i : ℕ) → position p xs ≡ Some i
     → (position_or_len p xs ≡ i) × (i < length xs)
 place_within p xs i e = grind arith
@@ -153,6 +166,7 @@ module _ (costs : List CostEntry) (sites : List Site) (row : Row) where
   longer [] = omega arith
   longer (first ∷ rows) = grind (arith, longer rows)
 
+  -- a row that was seen stays of its kind
   pub seen_stays : (rows : List Row) (seen : Seen) → IsSeenAs costs sites rows seen
       → IsSeenAs costs sites (counted (by_capped costs sites) rows row) seen
   seen_stays rows seen is =
@@ -165,6 +179,7 @@ module _ (costs : List CostEntry) (sites : List Site) (row : Row) where
             (place_stays (seen_row seen) rows (rw (at.0) (at.1)) ∙ at.0) (omega (arith, longer rows));
       }
 
+-- all rows that were seen stay of their kinds
 pub all_stay : (costs : List CostEntry) (sites : List Site) (row : Row) (rows : List Row) (seen : List Seen)
     → AllByRecursion (IsSeenAs costs sites rows) seen
     → AllByRecursion (IsSeenAs costs sites (counted (by_capped costs sites) rows row)) seen

@@ -37,19 +37,23 @@ joined_keys [] number count = refl
 joined_keys (e ∷ es) zero count = refl
 joined_keys (e ∷ es) (suc number) count = ap (λ t. e.0 ∷ t) (joined_keys es number count)
 
+-- counting at a number leaves as many kinds
 pub joined_length : (es : List KindEntry) (number count : ℕ) → length (joined es number count) ≡ length es
 joined_length [] number count = refl
 joined_length (e ∷ es) zero count = refl
 joined_length (e ∷ es) (suc number) count = ap suc (joined_length es number count)
 
+-- each kind has a key
 pub keys_length : (es : List KindEntry) → length (keys_of es) ≡ length es
 keys_length [] = refl
 keys_length (e ∷ es) = ap suc (keys_length es)
 
+-- the place of a key that was found
 pub at_place : (lent : LentKind) (es : List KindEntry) (i : ℕ) → position (is_key lent) (keys_of es) ≡ Some i
     → position_or_len (is_key lent) (keys_of es) ≡ i
 at_place lent es i e = grind arith
 
+-- what stands first at a place is found there
 pub place_is : {A : Type 0} (p : A → Bool) (xs : List A) (i : ℕ) → position_or_len p xs ≡ i → i < length xs
     → position p xs ≡ Some i
 place_is p xs i at less = grind arith
@@ -60,6 +64,7 @@ pub counted_last : {A : Type 0} (by : Kinding A) (rows : List A) (row : A) → l
 counted_last by [] row none = refl
 counted_last by (f ∷ rows) row none = grind (arith, counted_last by rows row)
 
+-- a kind is in the list just where its key is
 key_among : (lent : LentKind) (handle : List ℕ) (count : ℕ) (es : List KindEntry)
     → list_any (λ f. by_key.same f (lent_row lent handle count)) (map keyed_in es) ≡ list_any (is_key lent) (keys_of es)
 key_among lent handle count [] = refl
@@ -89,9 +94,11 @@ equal_keys a b = bytes_eq a.region.items b.region.items && bytes_eq a.places.ite
 -- a kind whose key is new stands last
 module _ (lent : LentKind) (handle : List ℕ) (count : ℕ) (key : KindKey) (kind : KindCount)
     (region : key.region.items ≡ lent.region.now) (same_places : key.places.items ≡ lent.places.now) where
+  -- the map's test of a key is that of the lent one
   test_is : (e : KindEntry) → equal_keys key e.0 ≡ is_key lent e.0
   test_is e = rw (region, same_places) refl
 
+  -- a kind that is new is put last
   pub added_by : (es : List KindEntry) → kind.handle.items ≡ handle → kind.count ≡ count
       → list_any (is_key lent) (keys_of es) ≡ false
       → map keyed_in (insert_entry equal_keys es key kind)
@@ -99,11 +106,13 @@ module _ (lent : LentKind) (handle : List ℕ) (count : ℕ) (key : KindKey) (ki
   added_by [] h n none = rw (region, same_places, h, n) refl
   added_by (e ∷ es) h n none = grind (arith, test_is e, added_by es h n)
 
+  -- then there is one kind more
   pub added_length : (es : List KindEntry) → list_any (is_key lent) (keys_of es) ≡ false
       → length (insert_entry equal_keys es key kind) ≡ suc (length es)
   added_length [] none = refl
   added_length (e ∷ es) none = grind (arith, test_is e, added_length es)
 
+  -- then its key stands last
   added_at : (es : List KindEntry) → list_any (is_key lent) (keys_of es) ≡ false
       → position_or_len (is_key lent) (keys_of (insert_entry equal_keys es key kind)) ≡ length es
   added_at [] none =
@@ -111,6 +120,7 @@ module _ (lent : LentKind) (handle : List ℕ) (count : ℕ) (key : KindKey) (ki
       rw (region, same_places, same lent.region.now, same lent.places.now) refl
   added_at (e ∷ es) none = grind (arith, test_is e, added_at es)
 
+  -- then its key is found at the last place
   pub added_place : (es : List KindEntry) → list_any (is_key lent) (keys_of es) ≡ false
       → position (is_key lent) (keys_of (insert_entry equal_keys es key kind)) ≡ Some (length es)
   added_place es none =
@@ -122,6 +132,7 @@ module _ (lent : LentKind) (handle : List ℕ) (count : ℕ) (key : KindKey) (ki
 abbrev pub row_of : KeyEntry × Row → Row
 row_of e = e.1
 
+-- the rows of kinds with their keys are the rows of kinds
 pub rows_are : (es : List KindEntry) → map row_of (map keyed_in es) ≡ map row_in es
 rows_are [] = refl
 rows_are (e ∷ es) = ap (λ t. row_in e ∷ t) (rows_are es)
@@ -137,10 +148,12 @@ module _ (costs : List CostEntry) (sites : List Site) where
   abbrev pub IsKeyed : KeyEntry × Row → Type 0
   IsKeyed e = e.0 ≡ key_of costs sites e.1
 
+  -- kinds of their keys make rows of their keys
   keyed_list : (es : List KindEntry) → AllByRecursion (HasKey costs sites) es → AllByRecursion IsKeyed (map keyed_in es)
   keyed_list [] all = tt
   keyed_list (e ∷ es) all = (all.0, keyed_list es all.1)
 
+  -- rows of their keys make kinds of their keys
   keyed_map : (es : List KindEntry) → AllByRecursion IsKeyed (map keyed_in es) → AllByRecursion (HasKey costs sites) es
   keyed_map [] all = tt
   keyed_map (e ∷ es) all = (all.0, keyed_map es all.1)
@@ -149,15 +162,18 @@ module _ (costs : List CostEntry) (sites : List Site) where
     abbrev pub keyed_row : KeyEntry × Row
     keyed_row = (key_of costs sites row, row)
 
+    -- two keys are the same just where the rows are of one kind
     test_at : (e : KeyEntry × Row) → IsKeyed e
         → same_key e.0 (key_of costs sites row) ≡ is_same_kind costs sites e.1 row
     test_at e is = ap (λ k. same_key k (key_of costs sites row)) is ∙ same_by_key e.1 row
 
+    -- counting by keys counts by kinds
     rows_by_key : (es : List (KeyEntry × Row)) → AllByRecursion IsKeyed es
         → map row_of (counted by_key es keyed_row) ≡ counted (by_capped costs sites) (map row_of es) row
     rows_by_key [] all = refl
     rows_by_key (e ∷ es) all = grind (arith, test_at e all.0, rows_by_key es all.1)
 
+    -- each row keeps its key
     keyed_kept : (es : List (KeyEntry × Row)) → AllByRecursion IsKeyed es
         → AllByRecursion IsKeyed (counted by_key es keyed_row)
     keyed_kept [] all = (refl, tt)
@@ -170,10 +186,12 @@ module _ (costs : List CostEntry) (sites : List Site) where
   module _ (lent : LentKind) (handle : List ℕ) (count : ℕ)
       (found : lent.places.now ≡ places_at (sites_for costs sites lent.region.now) handle) (old : List KindEntry)
       (all : AllByRecursion (HasKey costs sites) old) where
+    -- the row of a lent key is one with its own key
     lent_is : lent_row lent handle count
         ≡ keyed_row (record { region = lent.region.now; handle = handle; count = count })
     lent_is = rw found refl
 
+    -- by keys there are as many kinds as by rows
     pub counted_length : length (counted by_key (map keyed_in old) (lent_row lent handle count))
         ≡ length
         (counted (by_capped costs sites) (map row_in old)
@@ -191,6 +209,7 @@ module _ (costs : List CostEntry) (sites : List Site) where
 
     module _ (new : List KindEntry)
         (is : map keyed_in new ≡ counted by_key (map keyed_in old) (lent_row lent handle count)) where
+      -- by keys the rows are those that are counted
       pub counted_rows : map row_in new
           ≡ counted (by_capped costs sites) (map row_in old)
           (record { region = lent.region.now; handle = handle; count = count })
@@ -203,6 +222,7 @@ module _ (costs : List CostEntry) (sites : List Site) where
           counted (by_capped costs sites) rows
           (record { region = lent.region.now; handle = handle; count = count })) (rows_are old)
 
+      -- each kind has its key still
       pub counted_keyed : AllByRecursion (HasKey costs sites) new
       counted_keyed =
           keyed_map new
@@ -210,6 +230,7 @@ module _ (costs : List CostEntry) (sites : List Site) where
           (keyed_kept (record { region = lent.region.now; handle = handle; count = count }) (map keyed_in old)
           (keyed_list old all)))
 
+  -- the place of a key is that of the row's kind
   place_or_len_of_kind : (lent : LentKind) (row : Row)
       → record { region = lent.region.now; places = lent.places.now } ≡ key_of costs sites row
       → (es : List KindEntry) → AllByRecursion (HasKey costs sites) es

@@ -16,6 +16,7 @@ pub record IsKindTable (costs : List CostEntry) (sites : List Site) (rows : List
   pub regions : length (regions_of rows) ≤ MOST_REGIONS
   pub apart : IsDistinct (is_same_kind costs sites) rows
 
+-- the empty table is one of kinds
 pub no_kinds : (costs : List CostEntry) (sites : List Site) → IsKindTable costs sites []
 unfolding IsDistinct
 no_kinds costs sites = record { named = tt; few = omega arith; regions = omega arith; apart = tt }
@@ -31,6 +32,7 @@ counted_is costs sites rows row next is =
     (same, rw (same, regions) (grind arith), grind arith)
 
 module _ (costs : List CostEntry) (sites : List Site) (row : Row) where
+  -- rows of names within the limits stay so
   named_more : (rows : List Row) → AllByRecursion IsNamed rows → IsNamed row
       → AllByRecursion IsNamed (counted (by_capped costs sites) rows row)
   named_more [] all own = (own, tt)
@@ -39,6 +41,7 @@ module _ (costs : List CostEntry) (sites : List Site) (row : Row) where
     | inr f ↦ rw f (all.0, named_more rows all.1 own)
   ]
 
+  -- a kind that differs from all differs from the counted ones
   apart_more : (first : Row) (rows : List Row) → is_same_kind costs sites first row ≡ false
       → AllByRecursion (λ y. is_same_kind costs sites first y ≡ false) rows
       → AllByRecursion (λ y. is_same_kind costs sites first y ≡ false) (counted (by_capped costs sites) rows row)
@@ -48,6 +51,7 @@ module _ (costs : List CostEntry) (sites : List Site) (row : Row) where
     | inr f ↦ rw f (all.0, apart_more first rows own all.1)
   ]
 
+  -- no two rows of the table are of one kind
   apart_still : (rows : List Row) → IsDistinct (is_same_kind costs sites) rows
       → IsDistinct (is_same_kind costs sites) (counted (by_capped costs sites) rows row)
   unfolding IsDistinct

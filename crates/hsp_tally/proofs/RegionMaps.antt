@@ -30,17 +30,20 @@ module _ (costs : List CostEntry) (sites : List Site) (region : List ℕ) (n : �
   abbrev has_cost : Site → Bool
   has_cost s = is_some (cost_of costs region s.name)
 
+  -- one site more has costs of the region or has none
   more_sites : sites_for costs (take (n + 1) sites) region ≡ sites_for costs (take n sites) region
       ++ cond (has_cost site) (site ∷ []) []
   more_sites =
       rw (get_or_from_slice_get sites n site site at) at
       (filter_more has_cost sites n site (slice_get_within sites n site at))
 
+  -- a site with a cost is put behind the others
   pub next_site : is_some (cost_of costs region site.name) ≡ true
       → map hash_of (sites_for costs (take (n + 1) sites) region) ≡ map hash_of (sites_for costs (take n sites) region)
       ++ hash_of site ∷ []
   next_site is = rw (more_sites, is) (map-append hash_of (sites_for costs (take n sites) region) (site ∷ []))
 
+  -- a site without a cost is left out
   pub no_next_site : is_some (cost_of costs region site.name) ≡ false
       → map hash_of (sites_for costs (take (n + 1) sites) region) ≡ map hash_of (sites_for costs (take n sites) region)
   no_next_site is = rw (more_sites, is, append-nil) refl
@@ -58,6 +61,7 @@ site_there (Some site) name option servers n o s =
     let c : length site.servers ≡ servers = cc s in
     (site, refl, a, rw (b, c) refl)
 
+-- the site at a number with its name
 pub site_named : (o : Option Site) (name : List ℕ) → option_map (λ (s : Site). s.name) o ≡ Some name
     → (site : Site) × (o ≡ Some site) × (site.name ≡ name)
 site_named None name n = let none : ◌≡◌ {A = Option (List ℕ)} None (Some name) = n in cc
@@ -74,6 +78,7 @@ all_have_servers p (site ∷ sites) all = elim (cases_Bool (p site)) [
 
 -- ---- the map
 
+-- the names of the map are its keys
 pub names_are : (es : List KnownSites) → names_of es ≡ names_in (keys_of es)
 names_are [] = refl
 names_are (e ∷ es) = ap (λ t. name_of e ∷ t) (names_are es)
@@ -85,6 +90,7 @@ is_name name key = bytes_eq name key.items
 abbrev pub same : Vec ℕ Global → Vec ℕ Global → Bool
 same a b = bytes_eq a.items b.items
 
+-- a name is in the map just where it is a key
 among_names : (name : List ℕ) (es : List KnownSites)
     → list_any (is_name name) (keys_of es) ≡ list_any (bytes_eq name) (names_of es)
 among_names name [] = refl
@@ -101,6 +107,7 @@ pub known_before : (name : List ℕ) (es : List KnownSites) → is_some (lookup 
 known_before name es there =
     rw (names_are es) (seen_before name (keys_of es) (sym (is_some-lookup (is_name name) es) ∙ there))
 
+-- what stands at the place of a name has that name
 stands : (name : List ℕ) (es : List KnownSites) → position_or_len (is_name name) (keys_of es) < length es
     → option_map name_of (slice_get es (position_or_len (is_name name) (keys_of es))) ≡ Some name
 stands name [] less = absurd (omega arith)

@@ -12,6 +12,7 @@ use Rattle.hsp_pair_map.specs.Pairs.{Pair}
 use Rattle.hsp_tally.specs.Seen.{Seen, is_left_out, number_of, of_row, put_in}
 use Rattle.hsp_tally.specs.SeenPairs.{AreApart, seen_in}
 use Rattle.hsp_tables.proofs.Lookups.{is_named}
+use Rattle.hsp_text.proofs.Lists.{all_push}
 
 -- there are as many rows as numbers
 pub seen_length : (pairs : List Pair) (numbers : List ℕ) → length pairs ≡ length numbers
@@ -22,6 +23,7 @@ seen_length (pair ∷ pairs) (number ∷ numbers) many = ap suc (seen_length pai
 
 -- ---- rows by their names
 
+-- names that pass the test are the same
 same_names : (region handle a b : List ℕ) → bytes_eq region a && bytes_eq handle b ≡ true → (region ≡ a) × (handle ≡ b)
 same_names region handle a b is =
     let parts = and_parts (bytes_eq region a) (bytes_eq handle b) is in
@@ -31,6 +33,7 @@ module _ (region handle : List ℕ) where
   abbrev names : Pair
   names = record { first = region; second = handle }
 
+  -- a pair that passes the test is that of the names
   is_pair : (pair : Pair) → bytes_eq region pair.first && bytes_eq handle pair.second ≡ true → pair ≡ names
   is_pair pair is = let same = same_names region handle pair.first pair.second is in rw (same.0, same.1) refl
 
@@ -73,6 +76,7 @@ module _ (region handle : List ℕ) where
 
 -- ---- one row more
 
+-- a row that is put last is seen with its number
 pub seen_more : (pairs : List Pair) (numbers : List ℕ) (pair : Pair) (number : ℕ) → length pairs ≡ length numbers
     → seen_in (pairs ++ pair ∷ []) (numbers ++ number ∷ []) ≡ seen_in pairs numbers
     ++ record { region = pair.first; handle = pair.second; number = number } ∷ []
@@ -82,6 +86,7 @@ seen_more (p ∷ pairs) [] pair number many = absurd (omega (arith, many))
 seen_more (p ∷ pairs) (m ∷ numbers) pair number many =
     rw (seen_more pairs numbers pair number (omega (arith, many))) refl
 
+-- a pair of the longer list is an old one or the new one
 at_more : (pairs : List Pair) (pair other : Pair) (k : ℕ) → slice_get (pairs ++ pair ∷ []) k ≡ Some other
     → (slice_get pairs k ≡ Some other) ⊎ (pair ≡ other)
 at_more [] pair other zero e = inr cc
@@ -89,6 +94,7 @@ at_more [] pair other (suc k) e = absurd cc
 at_more (p ∷ pairs) pair other zero e = inl e
 at_more (p ∷ pairs) pair other (suc k) e = at_more pairs pair other k e
 
+-- a pair that was not there keeps all pairs apart
 pub apart_more : (pairs : List Pair) (pair : Pair) → AreApart pairs → ((n : ℕ) → slice_get pairs n ≢ Some pair)
     → AreApart (pairs ++ pair ∷ [])
 apart_more [] pair apart new = (λ k e. let none : ◌≡◌ {A = Option Pair} None (Some pair) = e in absurd cc, tt)
@@ -103,15 +109,11 @@ apart_more (p ∷ pairs) pair apart new = (
 -- ---- what holds of each
 
 module _ (P : Seen → Type 0) where
-  all_with : (rows : List Seen) (row : Seen) → AllByRecursion P rows → P row → AllByRecursion P (rows ++ row ∷ [])
-  all_with [] row all p = (p, tt)
-  all_with (first ∷ rest) row all p = (all.0, all_with rest row all.1 p)
-
   -- what holds of each row that was seen, and of one that is put in
   pub put_all : (rows : List Seen) (row : Seen) → AllByRecursion P rows → P row → AllByRecursion P (put_in rows row)
   put_all rows row all p = elim (cases_Bool (is_left_out rows row.region row.handle)) [
     | inl out ↦ rw out all
-    | inr taken ↦ rw taken (all_with rows row all p)
+    | inr taken ↦ rw taken (all_push P rows row all p)
   ]
 
 -- a row that is found by a region and a handle is of these, and so is what holds of it

@@ -16,6 +16,7 @@ use Rattle.std.specs.Char.{digit_value}
 use Rattle.hsp_text.specs.declared.whole.WholeFault.TheVariants.{TooLarge}
 use Rattle.hsp_text.specs.Whole.{is_whole, whole_within, DigitsSpellTheirNumber}
 
+-- texts of ASCII digits and what they spell make a model of numerals
 ascii : IsNumeralModel (λ ds. all_ascii_digits ds ≡ true) (digits_value 10)
 ascii = numerals_by_value (λ ds. all_ascii_digits ds ≡ true) tells_all_ascii_digits
 
@@ -38,6 +39,7 @@ last_digit n low high =
 pub at_most_39 : (n : ℕ) → n < 2 ^ 128 → length (decimal n) ≤ 39
 at_most_39 n h = length-decimal-le_wide 39 n (omega arith) (omega arith) (omega arith)
 
+-- a number of up to 128 bits is written as its tenth part and its last digit
 pub last_digit_wide : (n : ℕ) → 10 ≤ n → n < 2 ^ 128
     → (decimal n ≡ decimal (n / 10) ++ (48 + n % 10) ∷ []) × (length (decimal n) ≡ length (decimal (n / 10)) + 1)
 last_digit_wide n low high =
@@ -55,6 +57,7 @@ passes_limit : (max n : ℕ) (text rest : List ℕ) → is_whole text ≡ true
     → digits_value_after 10 n rest ≡ digits_value 10 text → max < n → whole_within max text ≡ Err TooLarge
 passes_limit max n text rest w e h = above_limit max text w (let g = number_grows n rest in omega (arith, e, g))
 
+-- the loop stops too large where one digit more passes the limit
 pub passes_limit_at : (max n i : ℕ) (whole : Bool) (text : List ℕ) → whole ≡ is_whole text → whole ≡ true
     → i < length text → all_ascii_digits (drop i text) ≡ true →
     digits_value_after 10 n (drop i text) ≡ digits_value 10 text → max < n * 10 + (get_or text i 0 - 48)
@@ -81,10 +84,12 @@ parts (d ∷ ds) w =
       ],
     )
 
+-- a whole text is the decimal of the number that it spells
 whole_is_decimal : (text : List ℕ) → is_whole text ≡ true → digits_value 10 text < 2 ^ 64
     → text ≡ decimal (digits_value 10 text)
 whole_is_decimal text w h = let p = parts text w in sym (decimal-digits_value ascii text p.1 p.0 p.2 h)
 
+-- digits that do not begin with a zero, or one digit, are a whole text
 whole_from_parts : (text : List ℕ) → 0 < length text → all_ascii_digits text ≡ true
     → (get_or text 0 0 ≡ 48 → length text ≡ 1) → is_whole text ≡ true
 whole_from_parts [] h w z = absurd (omega arith)
@@ -94,6 +99,7 @@ whole_from_parts (d ∷ ds) h w z =
       | inr other ↦ or_left (not (d == 48)) (length ds == 0) (not_from_false (d == 48) (ne_eqb d 48 other))
     ])
 
+-- the decimal of a number is a whole text
 decimal_is_whole : (n : ℕ) → n < 2 ^ 64 → is_whole (decimal n) ≡ true
 decimal_is_whole n h =
     let numeral = decimal_is_IsNumeral n h in
@@ -102,6 +108,7 @@ decimal_is_whole n h =
       | inr below ↦ let none : n ≡ 0 = omega arith in rw (none, decimal_digit 0 (omega arith)) refl
     ])
 
+-- a decimal is read back as its number
 pub digits_spell_their_number : DigitsSpellTheirNumber
 digits_spell_their_number n text h = (
   λ (whole, value). whole_is_decimal text whole (rw value h) ∙ ap decimal value,

@@ -29,6 +29,7 @@ module _ {A : Type 0} (n : Network A) (d : A) (count : ℕ) (many : length n.arc
     cost = cost;
   }
 
+  -- a sum over arcs is the sum over their numbers
   sums : (f : A → ℕ) (g : ℕ → ℕ) → ((k : ℕ) → k < length n.arcs → f (slice_index_or n.arcs k d) ≡ g k)
       → sum_by f n.arcs ≡ sum_by g (range_with_len 0 count)
   sums f g same =
@@ -36,17 +37,21 @@ module _ {A : Type 0} (n : Network A) (d : A) (count : ℕ) (many : length n.arc
       ∙ sym (sum_numbers g count)
 
   module _ (f : A → ℕ) (g : ℕ → ℕ) (flows : (k : ℕ) → k < length n.arcs → f (slice_index_or n.arcs k d) ≡ g k) where
+    -- each server has the same load
     load_alike : (j : ℕ) → load n f j ≡ load numbered g j
     load_alike j = sums _ _ (λ k l. ap₂ (λ s x. if s == j then x else 0) (servers k l) (flows k l))
 
+    -- each host has the same load
     host_alike : (h : ℕ) → host_load n f h ≡ host_load numbered g h
     host_alike h =
         sum_below_same (length n.capacities) _ _
         (λ j l. ap (λ x. if is_on (n.host_of j) h then x else 0) (load_alike j))
 
+    -- the flow costs the same
     pub cost_alike : total_cost n f ≡ sum_below count (λ k. cost k * g k)
     cost_alike = sums _ _ (λ k l. ap₂ (λ c x. c * x) (costs k l) (flows k l)) ∙ sum_numbers (λ k. cost k * g k) count
 
+    -- a flow that is feasible by numbers is feasible
     pub feasible_alike : IsFeasible numbered g → IsFeasible n f
     feasible_alike feasible = record {
       met = λ i l. sums _ _ (λ k m. ap₂ (λ s x. if s == i then x else 0) (sources k m) (flows k m)) ∙ feasible.met i l;
@@ -68,6 +73,7 @@ module _ {A : Type 0} (n : Network A) (d : A) (count : ℕ) (many : length n.arc
     abbrev whole : List ℕ → List ℕ → ℕ → ℕ
     whole p q k = cost k + price_at n p q (server k)
 
+    -- prices of the flow by numbers are prices of the flow
     pub prices_alike : (u p q : List ℕ) → HasPrices numbered g u p q → HasPrices n f u p q
     prices_alike u p q prices = record {
       below =
@@ -84,6 +90,7 @@ module _ {A : Type 0} (n : Network A) (d : A) (count : ℕ) (many : length n.arc
       idle_host = λ h l less. prices.idle_host h l (rw (sym (host_alike h)) less);
     }
 
+    -- prices of the flow are prices of the flow by numbers
     pub prices_back : (u p q : List ℕ) → HasPrices n f u p q → HasPrices numbered g u p q
     prices_back u p q prices = record {
       below = all_numbers (λ k. slice_index u (source k) ≤ whole p q k) count (λ k l.
@@ -98,6 +105,7 @@ module _ {A : Type 0} (n : Network A) (d : A) (count : ℕ) (many : length n.arc
     }
 
   module _ (s t : ℕ → Bool) (same : (i : ℕ) → s i ≡ t i) where
+    -- a set reaches the same capacity at each server
     room_alike : (j : ℕ) → reached_capacity n s j ≡ reached_capacity numbered t j
     room_alike j = ap (λ r. if r then slice_index n.capacities j else 0) (
         any_place (λ a. s (n.source a) && n.server a == j) d n.arcs
@@ -107,10 +115,12 @@ module _ {A : Type 0} (n : Network A) (d : A) (count : ℕ) (many : length n.arc
         ∙ ap (λ c. any_below c (λ k. t (source k) && server k == j)) many
         ∙ sym (any_number (λ k. t (source k) && server k == j) count))
 
+    -- a set has the same demand
     pub demand_alike : demand_of n s ≡ demand_of numbered t
     demand_alike =
         sum_below_same (length n.demands) _ _ (λ i l. ap (λ r. if r then slice_index n.demands i else 0) (same i))
 
+    -- a set has the same capacity
     pub capacity_alike : capacity_of n s ≡ capacity_of numbered t
     capacity_alike = ap₂ (λ x y. x + y)
         (sum_below_same (length n.capacities) _ _

@@ -17,6 +17,7 @@ module _ {A : Type 0} (n : Network A) (hosts : List (Option ℕ)) (same : n.host
       ≡ (if test (n.host_of j) then reached_capacity n set j else 0)
   room_when test j l = ap₂ (λ o room. if test o then room else 0) (sym (ap (λ of. of j) same)) (rooms_are j l)
 
+  -- the sums of a cut add up to the capacity of its set
   pub capacity_is : free_sum hosts rooms (length hosts) + hosted_sum n.limits sums (length n.limits) ≡ capacity_of n set
   capacity_is = ap₂ (λ a b. a + b)
       (ap (free_sum hosts rooms) hosts_many ∙ sum_below_same (length n.capacities) _ _ (room_when is_none))

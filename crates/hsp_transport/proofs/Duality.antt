@@ -58,6 +58,7 @@ split_host host_of g n m in' =
     each None x = omega (arith, zero-mul x)
     each (Some h) x = omega (arith, one-mul x)
 
+-- each product may be written the other way round
 turned : (xs ys : List ℕ) → sum_below (length xs) (λ k. slice_index ys k * slice_index xs k) ≡ times xs ys
 turned xs ys = sum_below_same (length xs) _ _ (λ k l. mul_comm (slice_index ys k) (slice_index xs k))
 

@@ -62,6 +62,7 @@ idle_alike own other f g p same loads idle j l less = idle j (rw same l) (rw (sa
 
 module _ {A : Type 0} (site : A → ℕ) (n m : Network A) (kind : ℕ → ℕ) (n-is : IsNetwork n) (m-is : IsNetwork m)
     (are : AreKinds site n m kind) (x : Plan) (u of_kinds p q : List ℕ) (own : ArePricesOfKinds n kind u of_kinds) where
+  -- a server is priced the same among rows and among kinds
   paid_alike : (j : ℕ) → price_at n p q j ≡ price_at m p q j
   paid_alike j = ap (λ o. slice_index p j + at_host o (λ h. slice_index q h)) (are.host_of j)
 
@@ -86,6 +87,7 @@ module _ {A : Type 0} (site : A → ℕ) (n m : Network A) (kind : ℕ → ℕ) 
   abbrev alike : AreAlikeIn site n m x (pooled n kind x)
   alike = pooled_alike site n m kind n-is m-is are x
 
+  -- prices of kinds are prices of their rows
   pub to_rows : HasPrices m (planned site m (pooled n kind x)) of_kinds p q → HasPrices n (planned site n x) u p q
   to_rows prices = record {
     below = of_all site n RowLow (length n.demands) n.arcs n-is.sources (λ i l.
@@ -106,6 +108,7 @@ module _ {A : Type 0} (site : A → ℕ) (n m : Network A) (kind : ℕ → ℕ) 
       → All P (links_of site m k)
   in_kind P i k l e all = rw (← e, ← are.arcs i l) all
 
+  -- prices of rows, one for each kind, are prices of the kinds
   pub to_kinds : HasPrices n (planned site n x) u p q → HasPrices m (planned site m (pooled n kind x)) of_kinds p q
   to_kinds prices = record {
     below = of_all site m KindLow (length m.demands) m.arcs m-is.sources (λ k l.
@@ -129,20 +132,24 @@ module _ {A : Type 0} (site : A → ℕ) (n m : Network A) (kind : ℕ → ℕ) 
 module _ {A : Type 0} (site : A → ℕ) (n m : Network A) (kind : ℕ → ℕ) (n-is : IsNetwork n) (m-is : IsNetwork m)
     (are : AreKinds site n m kind) (x y : Plan)
     (as-much : IsPooled n m kind x y) where
+  -- the plan of the kinds is the plan of their rows, pooled
   same_flows : All (λ a. planned site m (pooled n kind x) a ≡ planned site m y a) m.arcs
   same_flows =
       All-weaker (λ a. m.source a < length m.demands) _ (λ a l. as-much (m.source a) (site a) l) m.arcs m-is.sources
 
+  -- each server has the same load by the pooled plan
   same_load : (j : ℕ) → load m (planned site m y) j ≡ load m (planned site m (pooled n kind x)) j
   same_load j =
       sum_by_same_all _ _ m.arcs
       (All-weaker (λ a. planned site m (pooled n kind x) a ≡ planned site m y a) _
       (λ a e. ap (λ v. when (m.server a == j) v) (sym e)) m.arcs same_flows)
 
+  -- each host has the same load by the pooled plan
   same_host_load : (h : ℕ) → host_load m (planned site m y) h ≡ host_load m (planned site m (pooled n kind x)) h
   same_host_load h =
       sum_below_same (length m.capacities) _ _ (λ j l. ap (λ v. when (is_on (m.host_of j) h) v) (same_load j))
 
+  -- prices of a plan of kinds are prices of the plan that is spread from it
   pub prices_spread : (u of_kinds p q : List ℕ) → ArePricesOfKinds n kind u of_kinds
       → HasPrices m (planned site m y) of_kinds p q →
       HasPrices n (planned site n x) u p q

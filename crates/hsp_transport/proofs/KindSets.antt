@@ -54,6 +54,7 @@ module _ (caps limits : List ℕ) where
   abbrev hosted : (ℕ → Option ℕ) → (ℕ → Bool) → ℕ → ℕ
   hosted host_of passes h = min (slice_index limits h) (sum_below (length caps) (together_on host_of passes h))
 
+  -- a set that reaches more servers has at least as much capacity
   more_room : (a b : ℕ → Option ℕ) (r q : ℕ → Bool) → ((j : ℕ) → a j ≡ b j) → ((j : ℕ) → r j ≡ true → q j ≡ true) →
       sum_below (length caps) (unhosted a r) + sum_below (length limits) (hosted a r)
       ≤ sum_below (length caps) (unhosted b q) + sum_below (length limits) (hosted b q)
@@ -82,11 +83,13 @@ abbrev pub has_row : ℕ → (ℕ → ℕ) → (ℕ → Bool) → ℕ → Bool
 has_row zero kind set k = false
 has_row (suc rows) kind set k = (kind rows == k && set rows) || has_row rows kind set k
 
+-- the kind of a chosen row is a chosen kind
 pub has_row_of : (rows : ℕ) (kind : ℕ → ℕ) (set : ℕ → Bool) (i : ℕ) → i < rows → set i ≡ true
     → has_row rows kind set (kind i) ≡ true
 has_row_of zero kind set i l e = absurd (omega arith)
 has_row_of (suc rows) kind set i l e = grind (arith, has_row_of rows kind set i, eq-eqb (kind i) (kind i) refl)
 
+-- a chosen kind has a chosen row
 pub row_of_kind : (rows : ℕ) (kind : ℕ → ℕ) (set : ℕ → Bool) (k : ℕ) → has_row rows kind set k ≡ true
     → (i : ℕ) × (i < rows) × (kind i ≡ k) × (set i ≡ true)
 row_of_kind zero kind set k e = absurd (false≢true e)
@@ -95,11 +98,13 @@ row_of_kind (suc rows) kind set k e = elim (or_cases (kind rows == k && set rows
   | inr more ↦ let r = row_of_kind rows kind set k more in (r.0, omega (arith, r.1), r.2, r.3)
 ]
 
+-- two conditions may be asked in either order
 swapped : (s t : Bool) (v : ℕ) → when s (when t v) ≡ when t (when s v)
 swapped s t v = grind arith
 
 module _ {A : Type 0} (site : A → ℕ) (n m : Network A) (kind : ℕ → ℕ) (n-is : IsNetwork n) (m-is : IsNetwork m)
     (are : AreKinds site n m kind) where
+  -- a condition on each term is a condition on the sum
   sum_when : (t : Bool) (f : ℕ → ℕ) (rows : ℕ) → sum_below rows (λ i. when t (f i)) ≡ when t (sum_below rows f)
   sum_when true f rows = refl
   sum_when false f rows = sum_below_zero rows (λ i. 0) (λ i l. refl)
@@ -113,11 +118,13 @@ module _ {A : Type 0} (site : A → ℕ) (n m : Network A) (kind : ℕ → ℕ) 
       ∙ sum_when (set k) (λ i. when (kind i == k) (slice_index n.demands i)) (length n.demands)
       ∙ ap (λ v. when (set k) v) (sym (are.demands k l)))
 
+  -- what rows of chosen kinds reach, their kinds reach
   rows_reach : (set : ℕ → Bool) (j : ℕ) → reaches n (λ i. set (kind i)) j ≡ true → reaches m set j ≡ true
   rows_reach set j e =
       let r = some_row site n (length n.demands) n.arcs n-is.sources (λ i. set (kind i)) j e in
       reached_by site m m.arcs set (kind r.0) j r.2 (ap (λ arcs. leads_to arcs j) (sym (are.arcs r.0 r.1)) ∙ r.3)
 
+  -- what chosen kinds reach, their rows reach
   kinds_reach : (set : ℕ → Bool) (j : ℕ) → reaches m set j ≡ true → reaches n (λ i. set (kind i)) j ≡ true
   kinds_reach set j e =
       let k = some_row site m (length m.demands) m.arcs m-is.sources set j e in
@@ -125,6 +132,7 @@ module _ {A : Type 0} (site : A → ℕ) (n m : Network A) (kind : ℕ → ℕ) 
       reached_by site n n.arcs (λ i. set (kind i)) row.0 j (ap set row.2 ∙ k.2)
       (ap (λ arcs. leads_to arcs j) (are.arcs row.0 row.1 ∙ ap (links_of site m) row.2) ∙ k.3)
 
+  -- what the kinds of chosen rows reach, a row reaches
   kinds_of_reach : (set : ℕ → Bool) (j : ℕ) → reaches m (has_row (length n.demands) kind set) j ≡ true
       → reaches n set j ≡ true
   kinds_of_reach set j e =
@@ -133,10 +141,12 @@ module _ {A : Type 0} (site : A → ℕ) (n m : Network A) (kind : ℕ → ℕ) 
       reached_by site n n.arcs set row.0 j row.3
       (ap (λ arcs. leads_to arcs j) (are.arcs row.0 row.1 ∙ ap (links_of site m) row.2) ∙ k.3)
 
+  -- a set that reaches no more has no more capacity
   less_back : (s t : ℕ → Bool) → ((j : ℕ) → reaches m s j ≡ true → reaches n t j ≡ true)
       → capacity_of m s ≤ capacity_of n t
   less_back s t more = less_capacity m n s t (sym are.capacities) (sym are.limits) (λ j. sym (are.host_of j)) more
 
+  -- short sets of kinds are short sets of rows, and the other way round
   pub kept_sets : ShortSetsAreKept n m kind
   kept_sets = record {
     of_kinds = λ set.

@@ -11,6 +11,7 @@ use Rattle.hsp_transport.proofs.Rowwise.{allowed_by, when}
 use Rattle.hsp_transport.proofs.Pooling.{sent_is}
 use Rattle.hsp_transport.proofs.Spreading.{above, all_below, along_sites, over_sites}
 
+-- a condition keeps the order of two numbers
 no_more : (t : Bool) (v w : ℕ) → v ≤ w → when t v ≤ when t w
 no_more t v w l = grind arith
 

@@ -17,6 +17,7 @@ any_same zero f g h = refl
 any_same (suc n) f g h = ap₂ (λ a b. a || b) (any_same n f g (λ k l. h k (omega arith))) (h n (omega arith))
 
 module _ {A : Type 0} (p : A → Bool) (d : A) (xs : List A) where
+  -- whether one of the first elements passes is asked place by place
   any_along : (n : ℕ) → n ≤ length xs → list_any p (take n xs) ≡ any_below n (λ k. p (slice_index_or xs k d))
   any_along zero l = refl
   any_along (suc n) l =
@@ -38,17 +39,20 @@ sum_numbers f n =
     ∙ ap (λ m. sum_below m (λ k. f (slice_index_or (range_with_len 0 n) k 0))) (length-range_with_len 0 n)
     ∙ sum_below_same n _ _ (λ k l. ap f (at_place n k 0 l))
 
+-- whether a number below a bound passes is whether one in the list of these numbers does
 pub any_number : (p : ℕ → Bool) (n : ℕ) → list_any p (range_with_len 0 n) ≡ any_below n p
 any_number p n =
     any_place p 0 (range_with_len 0 n)
     ∙ ap (λ m. any_below m (λ k. p (slice_index_or (range_with_len 0 n) k 0))) (length-range_with_len 0 n)
     ∙ any_same n _ _ (λ k l. ap p (at_place n k 0 l))
 
+-- what holds of each number below a bound holds of all in the list of them
 pub all_numbers : (P : ℕ → Type 0) (n : ℕ) → ((k : ℕ) → k < n → P k) → All P (range_with_len 0 n)
 all_numbers P n each k d l =
     let below : k < n = omega (arith, length-range_with_len 0 n) in
     subst P (sym (at_place n k d below)) (each k below)
 
+-- what holds of all numbers in the list holds of each below the bound
 pub each_number : (P : ℕ → Type 0) (n : ℕ) → All P (range_with_len 0 n) → (k : ℕ) → k < n → P k
 each_number P n all k l = subst P (at_place n k 0 l) (all k 0 (omega (arith, length-range_with_len 0 n)))
 

@@ -19,9 +19,11 @@ weighed site n c x = sum_by (λ a. c (link_of site n a) * planned site n x a) n.
 abbrev pub at_server : ℕ → Link → ℕ
 at_server j a = cond (a.server == j) 1 0
 
+-- a condition is a factor of one or zero
 once : (t : Bool) (v : ℕ) → when t v ≡ cond t 1 0 * v
 once t v = grind (arith, one-mul v, zero-mul v)
 
+-- the load of a server is the sum of the plan weighed by whether an arc leads there
 load_is : {A : Type 0} (site : A → ℕ) (n : Network A) (x : Plan) (j : ℕ)
     → load n (planned site n x) j ≡ weighed site n (at_server j) x
 load_is site n x j = same_by _ _ n.arcs (λ a. once (n.server a == j) (planned site n x a))
@@ -75,6 +77,7 @@ module _ {A : Type 0} (site : A → ℕ) (n m : Network A) (kind : ℕ → ℕ) 
       ∙ sum_below_same (length m.demands) _ _ (λ k l. sym (kind_sends c x (links_of site m k) k))
       ∙ sym (by_rows site m (length m.demands) m.arcs m-is.sources (λ k a. c a * pooled n kind x k a.site))
 
+  -- the pooled plan has the same weighed sums as the plan of the sources
   pub pooled_alike : (x : Plan) → AreAlikeIn site n m x (pooled n kind x)
   pooled_alike x = alike_by site n m x (pooled n kind x) are.capacities are.host_of (λ c. carried_over c x)
 
@@ -101,6 +104,7 @@ module _ {A : Type 0} (site : A → ℕ) (n m : Network A) (kind : ℕ → ℕ) 
       allowed_by site n n.arcs i s ∙ ap (λ arcs. list_any (λ a. a.site == s) arcs) (are.arcs i l)
       ∙ sym (allowed_by site m m.arcs (kind i) s)
 
+  -- a feasible plan of sources is pooled to a feasible plan of kinds
   pub pool_feasible : (x : Plan) → Feasible site n x → Feasible site m (pooled n kind x)
   pool_feasible x feasible =
       let alike = pooled_alike x in

@@ -13,12 +13,15 @@ use Rattle.hsp_transport.specs.Kinds.{Link, link_of, links_in}
 abbrev pub when : Bool → ℕ → ℕ
 when t v = if t then v else 0
 
+-- a term that is asked for counts
 pub when_here : (i : ℕ) (v : ℕ) → when (i == i) v ≡ v
 when_here i v = rw (eq-eqb i i refl)
 
+-- a term that is not asked for is zero
 pub when_there : (i k v : ℕ) → (i ≡ k → ⊥) → when (i == k) v ≡ 0
 when_there i k v ne = rw (ne_eqb i k ne)
 
+-- zero stays zero under a condition
 pub when_zero : (t : Bool) → when t 0 ≡ 0
 when_zero t = grind arith
 
@@ -90,15 +93,18 @@ pub sum_by_none : {A : Type 0} (xs : List A) → sum_by (λ (a : A). 0) xs ≡ 0
 sum_by_none [] = refl
 sum_by_none (x ∷ xs) = omega (arith, sum_by-cons (λ a. 0) x xs, sum_by_none xs)
 
+-- a condition on each term of a list is one on their sum
 pub sum_by_when : {A : Type 0} (t : Bool) (f : A → ℕ) (xs : List A)
     → sum_by (λ a. when t (f a)) xs ≡ when t (sum_by f xs)
 sum_by_when true f xs = refl
 sum_by_when false f xs = sum_by_none xs
 
+-- a factor of a sum is a factor of each term
 pub sum_below_times : (n c : ℕ) (f : ℕ → ℕ) → c * sum_below n f ≡ sum_below n (λ i. c * f i)
 sum_below_times zero c f = mul-zero c
 sum_below_times (suc n) c f = mul-add c (sum_below n f) (f n) ∙ ap (λ v. v + c * f n) (sum_below_times n c f)
 
+-- a factor may stand inside a condition
 pub times_when : (c v : ℕ) (t : Bool) → c * when t v ≡ when t (c * v)
 times_when c v t = grind (arith, mul-zero c)
 

@@ -43,6 +43,7 @@ abbrev pub above : {A : Type 0} → (A → ℕ) → List A → ℕ
 above site [] = 0
 above site (a ∷ arcs) = site a + 1 + above site arcs
 
+-- the sites of a row's arcs lie below the bound of all sites
 pub all_below : {A : Type 0} (site : A → ℕ) (n : Network A) (arcs : List A) (i : ℕ)
     → All (λ (a : Link). a.site < above site arcs) (links_in site n arcs i)
 all_below site n [] i = All-nil (λ (a : Link). a.site < 0)
@@ -156,11 +157,13 @@ module _ {A : Type 0} (site : A → ℕ) (n m : Network A) (kind : ℕ → ℕ) 
       (All-weaker (λ a. m.source a < length m.demands) _
       (λ a l. ap (λ v. c (link_of site m a) * v) (rows_of_kind (m.source a) (site a) l)) m.arcs m-is.sources)
 
+  -- the spread plan has the same weighed sums as the plan of the kinds
   spread_alike : AreAlikeIn site n m (spread n kind y) y
   spread_alike =
       alike_by site n m (spread n kind y) y are.capacities are.host_of
       (λ c. carried_over site n m kind n-is m-is are c (spread n kind y) ∙ same_weighed c)
 
+  -- a feasible plan of kinds is spread to a feasible plan of sources
   spread_feasible : Feasible site n (spread n kind y)
   spread_feasible = record {
     allowed = spread_allowed;
@@ -175,6 +178,7 @@ module _ {A : Type 0} (site : A → ℕ) (n m : Network A) (kind : ℕ → ℕ) 
     };
   }
 
+  -- a best plan of kinds is spread to a best plan of sources
   spread_best : Best site m y → Best site n (spread n kind y)
   spread_best best = record {
     feasible = spread_feasible;

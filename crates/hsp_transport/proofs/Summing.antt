@@ -21,6 +21,7 @@ sum_below_le (suc n) f g h =
     let b : f n ≤ g n = h n (omega arith) in
     omega arith
 
+-- terms that are zero add up to zero
 pub sum_below_zero : (n : ℕ) (f : ℕ → ℕ) → ((k : ℕ) → k < n → f k ≡ 0) → sum_below n f ≡ 0
 sum_below_zero zero f h = refl
 sum_below_zero (suc n) f h =
@@ -28,6 +29,7 @@ sum_below_zero (suc n) f h =
     let b : f n ≡ 0 = h n (omega arith) in
     omega arith
 
+-- the sum of two terms each is the sum of the two sums
 pub sum_below_add : (n : ℕ) (f g : ℕ → ℕ) → sum_below n (λ k. f k + g k) ≡ sum_below n f + sum_below n g
 sum_below_add zero f g = refl
 sum_below_add (suc n) f g =
@@ -50,6 +52,7 @@ sum_below_one (suc n) f i l h = elim (cases_eq n i) [
 ]
 
 module _ {A : Type 0} where
+  -- equal terms of a list add up to the same
   pub sum_by_same_all : (f g : A → ℕ) (xs : List A) → All (λ a. f a ≡ g a) xs → sum_by f xs ≡ sum_by g xs
   sum_by_same_all f g [] h = refl
   sum_by_same_all f g (x ∷ xs) h =
@@ -57,6 +60,7 @@ module _ {A : Type 0} where
       let b : sum_by f xs ≡ sum_by g xs = sum_by_same_all f g xs (All-tail (λ a. f a ≡ g a) x xs h) in
       sum_by-cons f x xs ∙ ap₂ (λ m n. m + n) a b ∙ sym (sum_by-cons g x xs)
 
+  -- terms that are no greater add up to no more
   pub sum_by_le_all : (f g : A → ℕ) (xs : List A) → All (λ a. f a ≤ g a) xs → sum_by f xs ≤ sum_by g xs
   sum_by_le_all f g [] h = omega arith
   sum_by_le_all f g (x ∷ xs) h =
@@ -64,6 +68,7 @@ module _ {A : Type 0} where
       let b : sum_by f xs ≤ sum_by g xs = sum_by_le_all f g xs (All-tail (λ a. f a ≤ g a) x xs h) in
       omega (arith, sum_by-cons f x xs, sum_by-cons g x xs)
 
+  -- the sum of two terms for each element is the sum of the two sums
   pub sum_by_add : (f g : A → ℕ) (xs : List A) → sum_by (λ a. f a + g a) xs ≡ sum_by f xs + sum_by g xs
   sum_by_add f g [] = refl
   sum_by_add f g (x ∷ xs) =
@@ -97,11 +102,13 @@ module _ {A : Type 0} where
 
 -- the sum over a list is the sum over its places
 module _ {A : Type 0} (g : A → ℕ) (d : A) (xs : List A) where
+  -- the sum over the first elements goes place by place
   along_take : (n : ℕ) → n ≤ length xs → sum_by g (take n xs) ≡ sum_below n (λ k. g (slice_index_or xs k d))
   along_take zero l = refl
   along_take (suc n) l =
       let here : n < length xs = omega arith in
       rw add-one at (sum_by_more g xs n d here) ∙ ap (λ s. s + g (slice_index_or xs n d)) (along_take n (omega arith))
 
+  -- the sum over a list goes place by place
   pub by_place : sum_by g xs ≡ sum_below (length xs) (λ k. g (slice_index_or xs k d))
   by_place = ap (λ ys. sum_by g ys) (sym (take_all (length xs) xs (omega arith))) ∙ along_take (length xs) (omega arith)

@@ -12,7 +12,7 @@ returns-clause-answered g c =
     (portion_of c.args.portion (plan_of c.args.accepted.now.certificate))
     c.answer_rows.result (g.P.Peer.known c.args.peer.now) (g.P.Peer.known c.answer_rows.new.peer)
     c.in_ok-dispatcher.ensures.instance c.in_ok-dispatcher.ensures.plan
-    (rw c.in_ok-desk.ensures at c.answer_rows.ensures.answered))
+    (rw c.in_ok-responder.ensures at c.answer_rows.ensures.answered))
 
 pub returns-clause-untouched : goal.returns-clause-untouched
 returns-clause-untouched g c = untouched_so _ c.answer_rows.result c.answer_rows.ensures.log

@@ -7,7 +7,7 @@ pub returns-then-has_header-clause-whole : goal.returns-then-has_header-clause-w
 returns-then-has_header-clause-whole g c = (
   c.in_ok-sites.sites,
   c.in_ok-sites.ensures,
-  all_answered c.in_ok-sites.sites c.new-desk.result c.talk.new.desk c.new-desk.ensures _ _
+  all_answered c.in_ok-sites.sites c.new-responder.result c.talk.new.responder c.new-responder.ensures _ _
       (sym c.has_header.ensures ∙ c.if-has_header.true) c.in-Ok.ensures.whole,
 )
 
@@ -15,7 +15,7 @@ pub returns-in-Ok-clause-stops : goal.returns-in-Ok-clause-stops
 returns-in-Ok-clause-stops g c = (
   c.in_ok-sites.sites,
   c.in_ok-sites.ensures,
-  no_header c.in_ok-sites.sites c.new-desk.result c.talk.new.desk c.new-desk.ensures _ _
+  no_header c.in_ok-sites.sites c.new-responder.result c.talk.new.responder c.new-responder.ensures _ _
       (sym c.has_header.ensures ∙ c.if-has_header.false) c.in-Ok.ensures.whole,
 )
 
@@ -23,7 +23,8 @@ pub returns-in-Err-ReadFailed-clause-stops : goal.returns-in-Err-ReadFailed-clau
 returns-in-Err-ReadFailed-clause-stops g c = (
   c.in_ok-sites.sites,
   c.in_ok-sites.ensures,
-  has_stopped c.in_ok-sites.sites c.new-desk.result c.talk.new.desk c.new-desk.ensures _ _ c.in-Err-ReadFailed.field-0
+  has_stopped c.in_ok-sites.sites c.new-responder.result c.talk.new.responder c.new-responder.ensures _ _
+      c.in-Err-ReadFailed.field-0
       stop.ReadFailed _ c.in-Err-ReadFailed.field-0-is (λ events so. inl so) c.in-Err-ReadFailed.ensures.stops,
 )
 
@@ -31,7 +32,8 @@ pub returns-in-Err-WriteFailed-clause-stops : goal.returns-in-Err-WriteFailed-cl
 returns-in-Err-WriteFailed-clause-stops g c = (
   c.in_ok-sites.sites,
   c.in_ok-sites.ensures,
-  has_stopped c.in_ok-sites.sites c.new-desk.result c.talk.new.desk c.new-desk.ensures _ _ c.in-Err-WriteFailed.field-0
+  has_stopped c.in_ok-sites.sites c.new-responder.result c.talk.new.responder c.new-responder.ensures _ _
+      c.in-Err-WriteFailed.field-0
       stop.WriteFailed _ c.in-Err-WriteFailed.field-0-is (λ events so. inl so) c.in-Err-WriteFailed.ensures.stops,
 )
 
@@ -40,7 +42,7 @@ returns-in-Err-OutOfMemory-clause-stops g c =
     inr (
       c.in_ok-sites.sites,
       c.in_ok-sites.ensures,
-      has_stopped c.in_ok-sites.sites c.new-desk.result c.talk.new.desk c.new-desk.ensures _ _
+      has_stopped c.in_ok-sites.sites c.new-responder.result c.talk.new.responder c.new-responder.ensures _ _
           c.in-Err-OutOfMemory.field-0 stop.OutOfMemory _ c.in-Err-OutOfMemory.field-0-is (λ events so. so)
           c.in-Err-OutOfMemory.ensures.stops,
     )
@@ -49,7 +51,8 @@ pub returns-clause-stops : goal.returns-clause-stops
 returns-clause-stops g c = (
   c.in_ok-sites.sites,
   c.in_ok-sites.ensures,
-  has_stopped c.in_ok-sites.sites c.new-desk.result c.talk.new.desk c.new-desk.ensures _ _ c.in-Err-Fault.field-0
+  has_stopped c.in_ok-sites.sites c.new-responder.result c.talk.new.responder c.new-responder.ensures _ _
+      c.in-Err-Fault.field-0
       (stop.Fault c.in-Err-Fault.fault) _ c.in-Err-Fault.field-0-is (by_fault c.in_ok-sites.sites c.in-Err-Fault.fault)
       c.in-Err-Fault.ensures.stops,
 )

@@ -1,4 +1,4 @@
-use Rattle.std.proofs.Common.{refl, sym}
+use Rattle.std.proofs.Common.{arith, refl, sym}
 use Rattle.hsp_tables.proofs.TableLaws.{regions_of-none}
 use Rattle.hsp_tables.proofs.table.rows_left.Goals as goal
 
@@ -7,5 +7,7 @@ rows-init g c = record {
   reading = c.requires.reading;
   known = c.requires.known;
   regions = rw (c.new-rows.ensures.empty, c.new-regions.ensures) (sym (regions_of-none g.K.Kind.table));
+  few = rw c.new-regions.ensures (omega arith);
+  numbered = rw c.new-rows.ensures.empty (omega arith);
   so_far = rw c.new-rows.ensures.empty refl;
 }

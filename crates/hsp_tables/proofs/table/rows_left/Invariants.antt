@@ -1,5 +1,6 @@
-use Rattle.std.proofs.Common.{◌≡◌, [], length, map}
+use Rattle.std.proofs.Common.{◌≡◌, ◌<◌, ◌≤◌, ◌^◌, [], length, map}
 use Rattle.hsp_csv.specs.Records.{IsKnown, IsReading, records_left}
+use Rattle.hsp_text.specs.declared.limits.TheConstants.{MOST_REGIONS}
 use Rattle.hsp_tables.specs.Fields.{lent}
 use Rattle.hsp_tables.specs.InTurn.{rows_after}
 use Rattle.hsp_tables.specs.Table.{regions_of, row_after}
@@ -13,6 +14,8 @@ invariant-rows g l =
       reading : IsReading l.records;
       known : IsKnown lent l.records;
       regions : l.regions ≡ regions_of table rows;
+      few : length l.regions ≤ MOST_REGIONS;
+      numbered : length l.rows.entries < 2 ^ 32;
       so_far : rows_after (row_after table) rows (records_left lent l.records)
           ≡ rows_after (row_after table) [] (records_left lent l.fn.records);
     }

@@ -7,7 +7,7 @@ use Rattle.hsp_talk.proofs.talking.take_lines.Given as goal
 -- the lines of the octets so far were taken
 abbrev pub invariant-lines : goal.invariant-lines
 invariant-lines g l = record {
-  so_far : SoFar g.D.Desk.Takes l.fn.desk l.desk (rows_of (whole_lines l.fn.line.items l.octets))
+  so_far : SoFar g.D.Responder.Takes l.fn.responder l.responder (rows_of (whole_lines l.fn.line.items l.octets))
       (cut (last_line l.fn.line.items l.octets)) l.line.items l.rest l.fn.owed.items l.owed.items;
   short : length l.line.items ≤ LONGEST_ROW + 1;
 }

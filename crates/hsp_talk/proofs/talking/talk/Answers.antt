@@ -7,12 +7,14 @@ use Rattle.hsp_talk.proofs.talking.talk.Goals as goal
 
 pub returns-in_default-clause-stops : goal.returns-in_default-clause-stops
 returns-in_default-clause-stops g c =
-    read_fails g.D.Desk.Takes c.args.desk.now g.D.Desk.Refuses _ c.turns.line.items _ _ _ c.turns.invariant.so_far
+    read_fails g.D.Responder.Takes c.args.responder.now g.D.Responder.Refuses _ c.turns.line.items _ _ _
+    c.turns.invariant.so_far
     c.in_default.ensures.fails
 
 pub returns-in_default-send_owed-clause-stops : goal.returns-in_default-send_owed-clause-stops
 returns-in_default-send_owed-clause-stops g c =
-    write_fails_after g.D.Desk.Takes c.args.desk.now g.D.Desk.Refuses c.turns.desk c.take_piece-taken.new.desk
+    write_fails_after g.D.Responder.Takes c.args.responder.now g.D.Responder.Refuses c.turns.responder
+    c.take_piece-taken.new.responder
     c.turns.line.items (take c.in-Ok.count c.receive.new.piece)
     c.turns.owed.items c.take_piece-taken.new.owed.items c.take_piece-taken.result _ _ _ _ c.turns.invariant.none_owed
     c.turns.invariant.so_far c.in-Ok.ensures.receives
@@ -21,7 +23,8 @@ returns-in_default-send_owed-clause-stops g c =
 pub returns-in-Err-clause-stops : goal.returns-in-Err-clause-stops
 returns-in-Err-clause-stops g c =
     rw c.stop_for.ensures
-    (row_refused g.D.Desk.Takes c.args.desk.now g.D.Desk.Refuses c.turns.desk c.take_piece-taken.new.desk
+    (row_refused g.D.Responder.Takes c.args.responder.now g.D.Responder.Refuses c.turns.responder
+    c.take_piece-taken.new.responder
     c.turns.line.items
     (take c.in-Ok.count c.receive.new.piece) c.turns.owed.items c.take_piece-taken.new.owed.items c.in-Err.refusal _ _ _
     _ c.turns.invariant.none_owed
@@ -29,7 +32,8 @@ returns-in-Err-clause-stops g c =
 
 pub returns-then-count-eq0-clause-whole : goal.returns-then-count-eq0-clause-whole
 returns-then-count-eq0-clause-whole g c =
-    talk_ends g.D.Desk.Takes c.args.desk.now c.turns.desk c.take_piece-taken.new.desk c.turns.line.items
+    talk_ends g.D.Responder.Takes c.args.responder.now c.turns.responder c.take_piece-taken.new.responder
+    c.turns.line.items
     (take c.in-Ok.count c.receive.new.piece) c.turns.owed.items
     c.take_piece-taken.new.owed.items _ _ _ _ (ap (λ n. take n c.receive.new.piece) c.if-count-eq0.true)
     c.turns.invariant.none_owed c.turns.invariant.so_far c.in-Ok.ensures.receives
@@ -40,7 +44,7 @@ turns-init g c =
     let start = g.P.Peer.known c.args.peer.now in
     record {
       none_owed = c.new-owed.ensures.items;
-      so_far = rw c.new-line.ensures.items (talk_begins g.D.Desk.Takes c.args.desk.now start);
+      so_far = rw c.new-line.ensures.items (talk_begins g.D.Responder.Takes c.args.responder.now start);
       short = rw c.new-line.ensures.items (omega arith);
       handed = none_written start;
       reads = none_read start;
@@ -53,7 +57,8 @@ turns-preserved g c =
     record {
       none_owed = c.in-Ok-send_owed.ensures.none_owed;
       so_far =
-          talk_goes_on g.D.Desk.Takes c.args.desk.now c.turns.desk c.take_piece-taken.new.desk c.turns.line.items piece
+          talk_goes_on g.D.Responder.Takes c.args.responder.now c.turns.responder c.take_piece-taken.new.responder
+          c.turns.line.items piece
           c.take_piece-taken.new.line.items
           c.take_piece-taken.new.owed.items _ _ _ _
           (λ none.
@@ -62,7 +67,8 @@ turns-preserved g c =
           c.turns.invariant.so_far c.in-Ok.ensures.receives
           (subst
           (λ o.
-          AreOwed g.D.Desk.Takes c.turns.desk c.take_piece-taken.new.desk (rows_ended_by c.turns.line.items piece) o
+          AreOwed g.D.Responder.Takes c.turns.responder c.take_piece-taken.new.responder
+          (rows_ended_by c.turns.line.items piece) o
           c.take_piece-taken.new.owed.items) c.turns.invariant.none_owed c.in_default-taken.ensures.taken)
           c.in_default-taken.ensures.begun c.in-Ok-send_owed.ensures.sends;
       short = rw c.in_default-taken.ensures.begun (within_cut _);
@@ -77,7 +83,8 @@ turns-preserved g c =
 
 pub returns-clause-stops : goal.returns-clause-stops
 returns-clause-stops g c =
-    no_more_turns g.D.Desk.Takes c.args.desk.now g.D.Desk.Refuses _ c.turns.line.items _ _ c.turns.invariant.so_far
+    no_more_turns g.D.Responder.Takes c.args.responder.now g.D.Responder.Refuses _ c.turns.line.items _ _
+    c.turns.invariant.so_far
 
 pub returns-clause-may_stop : goal.returns-clause-may_stop
 returns-clause-may_stop g c =

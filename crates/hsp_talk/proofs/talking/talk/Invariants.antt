@@ -14,7 +14,7 @@ invariant-turns g l =
     let now = g.P.Peer.known l.peer in
     record {
       none_owed : l.owed.items ≡ [];
-      so_far : IsAt g.D.Desk.Takes l.fn.desk l.desk l.line.items start now;
+      so_far : IsAt g.D.Responder.Takes l.fn.responder l.responder l.line.items start now;
       short : length l.line.items ≤ LONGEST_ROW + 1;
       handed : IsHandedOn start now;
       reads : Went start now (HasRead l._turn);

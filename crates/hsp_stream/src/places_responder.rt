@@ -1,4 +1,4 @@
-// A desk that answers each handle of a log by its servers.
+// A responder that answers each handle of a log by its servers.
 
 ghost use Rattle.std.specs.Prelude.{◌≡◌, [], IfErr, None, OnOk, Some, is_some};
 ghost use Rattle.hsp_talk.specs.Refusals.{IsRefusal};
@@ -9,16 +9,16 @@ use crate::handle_rows::{HandleForm, read_handle, read_header};
 use crate::place_lines::push_sites;
 use hsp_csv::RowReader;
 use hsp_instance::Sites;
-use hsp_talk::{Desk, Refusal};
+use hsp_talk::{Refusal, Responder};
 use std::alloc::Global;
 use std::marker::Model;
 
 // The line that stands before all others.
 const HEADER_LINE: &[u8] = b"handle,site,place,server_id\n";
 
-/// A desk that answers each handle by a line for each site. The first row is the header of the log.
+/// A responder that answers each handle by a line for each site. The first row is the header of the log.
 #[derive(Drop)]
-pub(crate) struct PlacesDesk {
+pub(crate) struct PlacesResponder {
     alloc: Global,
     sites: Sites,
     reader: RowReader,
@@ -26,7 +26,7 @@ pub(crate) struct PlacesDesk {
     rows: u64,
 }
 
-impl Model for PlacesDesk {
+impl Model for PlacesResponder {
     ghost use Rattle.hsp_stream.specs.Places.{PlacesState};
 
     ghost Value = { PlacesState };
@@ -34,12 +34,12 @@ impl Model for PlacesDesk {
     ghost view = { λ d. record { sites = d.sites; form = d.form; rows = d.rows } };
 }
 
-impl PlacesDesk {
-    /// A desk that has taken no row.
-    pub(crate) fn new(alloc: Global, sites: Sites) -> PlacesDesk
+impl PlacesResponder {
+    /// A responder that has taken no row.
+    pub(crate) fn new(alloc: Global, sites: Sites) -> PlacesResponder
         ensures { result ≡ at_start sites }
     {
-        PlacesDesk {
+        PlacesResponder {
             alloc,
             sites,
             reader: RowReader::new(alloc),
@@ -96,7 +96,7 @@ impl PlacesDesk {
     }
 }
 
-impl Desk for PlacesDesk {
+impl Responder for PlacesResponder {
     type Fault = RowFault;
 
     ghost use Rattle.hsp_stream.specs.Places.{RefusesHandle, TakesHandle};

@@ -4,7 +4,7 @@ use Rattle.hsp_check.specs.Network.{transport}
 use Rattle.hsp_check.specs.Reach.{network_in}
 use Rattle.hsp_check.proofs.Shortages.{rooms_are}
 use Rattle.hsp_transport.proofs.Capacities.{capacity_is}
-use Rattle.hsp_check.proofs.shortage.reached_capacity.Goals as goal
+use Rattle.hsp_check.proofs.shortage.capacity_of_rows.Goals as goal
 
 pub returns : goal.returns
 returns c =

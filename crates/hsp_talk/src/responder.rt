@@ -5,15 +5,15 @@ ghost use Rattle.hsp_talk.specs.Refusals.{IsRefusal};
 
 use crate::stop::Refusal;
 
-/// Who answers the rows of a talk. A desk may change with each row.
-pub trait Desk {
+/// Who answers the rows of a talk. A responder may change with each row.
+pub trait Responder {
     /// A fault by which a row is refused, and the talk stops.
     type Fault: Drop;
 
-    /// A desk takes a row, is the next desk then, and gives this answer.
+    /// A responder takes a row, is the next responder then, and gives this answer.
     ghost Takes: { Self → List ℕ → Self → List ℕ → Type 0 };
 
-    /// A desk refuses a row, is the next desk then, and gives this fault.
+    /// A responder refuses a row, is the next responder then, and gives this fault.
     ghost Refuses: { Self → List ℕ → Self → Self.Fault → Type 0 };
 
     /// Takes a row, and writes its answer: any number of lines, also none.

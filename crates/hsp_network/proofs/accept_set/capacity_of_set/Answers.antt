@@ -4,7 +4,7 @@ use Rattle.hsp_network.specs.Network.{numbered}
 use Rattle.hsp_network.specs.Problem.{problem_of}
 use Rattle.hsp_network.specs.Reached.{flag_at}
 use Rattle.hsp_transport.proofs.Capacities.{capacity_is}
-use Rattle.hsp_network.proofs.accept_set.reached_capacity.Goals as goal
+use Rattle.hsp_network.proofs.accept_set.capacity_of_set.Goals as goal
 
 pub returns : goal.returns
 returns c =

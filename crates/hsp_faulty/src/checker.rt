@@ -1,0 +1,232 @@
+// What looks at the rows of a table or a log.
+
+ghost use Rattle.std.specs.Prelude.{◌≡◌, ◌∷◌, IfNone, IfOk, IfSome, List, OnOk};
+ghost use Rattle.csv.specs.Records.{fields_of};
+ghost use Rattle.hsp_csv.specs.Places.{Placed};
+ghost use Rattle.hsp_csv.specs.Walks.{shown};
+ghost use Rattle.hsp_faulty.specs.Faulty.{Continues, header_fault, is_good};
+ghost use Rattle.hsp_faulty.specs.Checkers.{IsReady, Lists, start_of};
+
+use csv::ByteRecord;
+use hsp_csv::{Checked, Found, Place, PlacedRecord};
+use hsp_dispatch::{LogFault, LogForm, check_row, field_at_fault, log_form_of};
+use hsp_faults::Fault;
+use hsp_stream::{
+    RowFault, StreamFault, count_fault, handle_fault, is_count_header, is_handle_header,
+};
+use hsp_tables::{TableCheck, TableFault, TableKind, is_table_header};
+use hsp_text::limits::MOST_LOG_ROWS;
+use std::alloc::{AllocError, Global};
+
+/// What is looked at.
+#[derive(Clone, Copy, Debug, PartialEq, Eq)]
+pub enum Asked {
+    /// One of the three tables.
+    Table(TableKind),
+    /// A log, whose form its header states.
+    Log,
+}
+
+/// The fault of one of the tables.
+pub(crate) fn fault_of_table(kind: TableKind, fault: TableFault) -> StreamFault
+    ensures { result ≡ fault_of_table kind fault }
+{
+    match kind {
+        TableKind::Demand => StreamFault::Input(Fault::Demand(fault)),
+        TableKind::Costs => StreamFault::Input(Fault::Costs(fault)),
+        TableKind::Capacity => StreamFault::Input(Fault::Capacity(fault)),
+    }
+}
+
+/// The fault of a first record that is no header.
+pub(crate) fn header_fault(asked: Asked) -> StreamFault
+    ensures { result ≡ header_fault asked }
+{
+    match asked {
+        Asked::Table(kind) => fault_of_table(kind, TableFault::Header),
+        Asked::Log => StreamFault::Input(Fault::Log(LogFault::Header)),
+    }
+}
+
+// A table with its rows without fault, or a form of a log with the number of its next row.
+#[derive(Drop)]
+pub(crate) enum Checker {
+    Table(TableKind, TableCheck),
+    Dispatched(LogForm, u32),
+    Counted(u64),
+    Handles(u64),
+}
+
+// What looks at the rows of a log with this header.
+fn log_checker(first: &ByteRecord) -> Option<Checker> {
+    if let Some(form) = log_form_of(first) {
+        return Some(Checker::Dispatched(form, 0));
+    }
+    if is_count_header(first) {
+        return Some(Checker::Counted(0));
+    }
+    if is_handle_header(first) {
+        return Some(Checker::Handles(0));
+    }
+    None
+}
+
+// The same fault of a row of a table, by the table's name.
+fn found_in_table(kind: TableKind, found: Found<TableFault>) -> Found<StreamFault> {
+    Found {
+        row: found.row,
+        field: found.field,
+        place: found.place,
+        fault: fault_of_table(kind, found.fault),
+    }
+}
+
+fn checked_in_table(kind: TableKind, checked: Checked<TableFault>) -> Checked<StreamFault> {
+    match checked {
+        Checked::Good => Checked::Good,
+        Checked::Faulty(found) => Checked::Faulty(found_in_table(kind, found)),
+        Checked::Last(found) => Checked::Last(found_in_table(kind, found)),
+    }
+}
+
+// Where a field of a record begins or, where there is no one field, the record.
+fn place_at(placed: &PlacedRecord, field: Option<u32>) -> Place {
+    match field {
+        Some(field) => placed.place(field),
+        None => placed.begin(),
+    }
+}
+
+// A fault of the row with a number.
+fn faulty(
+    placed: &PlacedRecord,
+    row: u64,
+    field: Option<u32>,
+    fault: StreamFault,
+) -> Checked<StreamFault> {
+    Checked::Faulty(Found {
+        row: Some(row),
+        field,
+        place: place_at(placed, field),
+        fault,
+    })
+}
+
+// A row that is one too many.
+fn too_long(placed: &PlacedRecord) -> Checked<StreamFault> {
+    Checked::Last(Found {
+        row: None,
+        field: None,
+        place: placed.begin(),
+        fault: StreamFault::Input(Fault::Log(LogFault::LogTooLong)),
+    })
+}
+
+// Looks at a row of a log that a run of `hsplan` reads.
+fn check_dispatched(
+    alloc: Global,
+    form: LogForm,
+    row: u32,
+    placed: &PlacedRecord,
+) -> Result<Checked<StreamFault>, AllocError> {
+    if row >= MOST_LOG_ROWS {
+        return Ok(too_long(placed));
+    }
+    match check_row(alloc, form, row, placed.fields()) {
+        Ok(()) => Ok(Checked::Good),
+        Err(LogFault::OutOfMemory) => Err(AllocError),
+        Err(fault) => {
+            let field = field_at_fault(form, fault);
+            Ok(faulty(
+                placed,
+                u64::from(row),
+                field,
+                StreamFault::Input(Fault::Log(fault)),
+            ))
+        }
+    }
+}
+
+// The number of the field at fault of a row with a region, a handle and a count.
+fn counted_field(fault: &RowFault) -> Option<u32> {
+    match fault {
+        RowFault::BadName { .. } => Some(0),
+        RowFault::BadHandle { .. } => Some(1),
+        RowFault::BadNumber { .. } => Some(2),
+        _ => None,
+    }
+}
+
+// The number of the field at fault of a row with a handle.
+fn handle_field(fault: &RowFault) -> Option<u32> {
+    match fault {
+        RowFault::BadHandle { .. } => Some(0),
+        _ => None,
+    }
+}
+
+// Looks at a row of a region, a handle and a count.
+fn check_counted(row: u64, placed: &PlacedRecord) -> Checked<StreamFault> {
+    match count_fault(row, placed.fields()) {
+        None => Checked::Good,
+        Some(fault) => {
+            let field = counted_field(&fault);
+            faulty(placed, row, field, StreamFault::Log(fault))
+        }
+    }
+}
+
+// Looks at a row of a handle.
+fn check_handle(row: u64, placed: &PlacedRecord) -> Checked<StreamFault> {
+    match handle_fault(row, placed.fields()) {
+        None => Checked::Good,
+        Some(fault) => {
+            let field = handle_field(&fault);
+            faulty(placed, row, field, StreamFault::Log(fault))
+        }
+    }
+}
+
+impl Checker {
+    /// What looks at the rows below this header, or None where it is no header of what is asked for.
+    pub(crate) fn below(alloc: Global, asked: Asked, first: &ByteRecord) -> Option<Checker> {
+        match asked {
+            Asked::Table(kind) => {
+                if !is_table_header(kind, first) {
+                    return None;
+                }
+                Some(Checker::Table(kind, TableCheck::new(alloc, kind)))
+            }
+            Asked::Log => log_checker(first),
+        }
+    }
+
+    /// Looks at the next row.
+    pub(crate) fn check(
+        &mut self,
+        alloc: Global,
+        placed: &PlacedRecord,
+    ) -> Result<Checked<StreamFault>, AllocError> {
+        match self {
+            Checker::Table(kind, rows) => {
+                let checked = rows.check(alloc, placed)?;
+                Ok(checked_in_table(*kind, checked))
+            }
+            Checker::Dispatched(form, row) => {
+                let number = *row;
+                *row = number.saturating_add(1);
+                check_dispatched(alloc, *form, number, placed)
+            }
+            Checker::Counted(row) => {
+                let number = *row;
+                *row = number.saturating_add(1);
+                Ok(check_counted(number, placed))
+            }
+            Checker::Handles(row) => {
+                let number = *row;
+                *row = number.saturating_add(1);
+                Ok(check_handle(number, placed))
+            }
+        }
+    }
+}
