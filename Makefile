@@ -47,6 +47,7 @@ test:
 	tools/gate/check_manual.py
 	tools/gate/check_completions.py
 	tools/gate/check_modules.py
+	tools/gate/check_tools.py
 	RT_JOBS=$${RT_JOBS:-$$(tools/gate/lanes.py)} rt ci
 	tools/gate/check_docs.py
 	tools/gate/check_examples.py

@@ -53,7 +53,7 @@ def shot(page: Path) -> bytes:
 
     options = Options()
     for word in ("--headless=new", "--no-sandbox", "--disable-gpu", "--hide-scrollbars"):
-        options.add_argument(word)
+        options.add_argument(word)  # type: ignore[no-untyped-call]
     browser = webdriver.Chrome(options=options)
     try:
         size = {"width": WIDTH, "height": HEIGHT, "deviceScaleFactor": 1, "mobile": False}
