@@ -202,7 +202,7 @@ def spots_of(path: str, tree: ast.Module, at: int) -> list[Spot]:
     holders = _holders(tree, node)
     inner = next((it for it in holders[::-1] if isinstance(it, (ast.FunctionDef, ast.Lambda))), None)
     if inner and node in {it for part in ast.iter_child_nodes(inner.args) for it in ast.walk(part)}:
-        body: list[ast.stmt] | list[ast.Lambda] = inner.body if isinstance(inner, ast.FunctionDef) else [inner]
+        body: list[ast.AST] = [*inner.body] if isinstance(inner, ast.FunctionDef) else [inner]
         return [_spot(path, it) for it in body]
     if inner:
         return [_spot(path, node)]

@@ -181,9 +181,9 @@ def network() -> str:
     # In a record an address stands behind the identifier of its server.
     housed = [at for at, it in enumerate(servers) if f"{it.number:08x}{host['address']}" in records[it.site]]
     lines = ['digraph network { rankdir=LR; nodesep=0.2; ranksep=0.9; tooltip="A cheapest flow"; ' + STYLE]
-    for region, count in demand.items():
+    for region, asked in demand.items():
         costs = [f"cost at {site} {cost}" for own, site, cost in rows_of("costs.csv") if own == region]
-        words = "\\n".join([region, f"demand {count:,}", *costs])
+        words = "\\n".join([region, f"demand {asked:,}", *costs])
         lines.append(f'    {region} [label="{words}", fillcolor="#f3f5f7", color="#8c959f"];')
     lines += [box(f"s{at}", it.name, it.load, it.capacity, it.price) for at, it in enumerate(servers)]
     lines.append(box("host", "host 0", sum(servers[at].load for at in housed), host["limit"], prices[0]))

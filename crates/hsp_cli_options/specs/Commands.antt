@@ -44,6 +44,10 @@ stream_commands = (
       inputs ++ needed (codes "plan") ∷ needed (codes "log") ∷ option (codes "unit")
           ∷ option (codes "fronts") ∷ option (codes "front") ∷ [],
     )
+    ∷ (
+      codes "faults",
+      option (codes "demand") ∷ option (codes "costs") ∷ option (codes "capacity") ∷ option (codes "log") ∷ [],
+    )
     ∷ []
 
 -- a command with these arguments, in this order

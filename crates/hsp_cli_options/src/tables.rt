@@ -86,7 +86,7 @@ pub(crate) const COMMANDS: [Subcommand<'static>; 6] = [
 ];
 
 /// The commands of `hsplan-stream`.
-pub(crate) const STREAM_COMMANDS: [Subcommand<'static>; 3] = [
+pub(crate) const STREAM_COMMANDS: [Subcommand<'static>; 4] = [
     Subcommand {
         name: "kinds",
         inputs: &[Needed("settings"), Optional("values"), Needed("costs")],
@@ -107,5 +107,10 @@ pub(crate) const STREAM_COMMANDS: [Subcommand<'static>; 3] = [
             Optional("fronts"),
             Optional("front"),
         ],
+    },
+    Subcommand {
+        name: "faults",
+        inputs: &[Optional("demand"), Optional("costs"), Optional("capacity")],
+        others: &[Optional("log")],
     },
 ];

@@ -1,6 +1,6 @@
 -- What an order of hsplan-stream holds: a request for help or for the version, or the subcommand that clap met in the
 -- words with the values of its options.
-use Rattle.std.specs.Prelude.{◌≡◌, ◌||◌, ⊤, Bool, List, [], ◌∷◌, codes, Option, Some, None, Result, Ok, Err}
+use Rattle.std.specs.Prelude.{◌≡◌, ◌||◌, ⊤, Bool, ℕ, List, [], ◌∷◌, codes, Option, Some, None, Result, Ok, Err}
 use Rattle.std.specs.Prelude.{if◌then◌else◌}
 use Rattle.std.specs.Str.{bytes_eq}
 use Rattle.clap.specs.Words.{Row, Text, fault_of, first_of, subcommand_of}
@@ -8,6 +8,8 @@ use Rattle.hsp_cli_options.specs.Commands.{stream_app}
 use Rattle.hsp_cli_orders.specs.Orders.{HasInputs}
 use Rattle.hsp_cli_orders.specs.declared.fault.CommandFault.{CommandFault}
 use Rattle.hsp_cli_orders.specs.declared.fault.CommandFault.TheVariants as fault
+use Rattle.hsp_cli_orders.specs.declared.stream_order.FaultsOf.{FaultsOf}
+use Rattle.hsp_cli_orders.specs.declared.stream_order.FaultsOf.TheVariants as of
 use Rattle.hsp_cli_orders.specs.declared.stream_order.FrontWords.{FrontWords}
 use Rattle.hsp_cli_orders.specs.declared.stream_order.StreamOrder.{StreamOrder}
 use Rattle.hsp_cli_orders.specs.declared.stream_order.StreamOrder.TheVariants as order
@@ -35,6 +37,21 @@ HasFront rows None = (first_of (codes "fronts") rows ≡ None) × (first_of (cod
 HasFront rows (Some words) =
     (first_of (codes "fronts") rows ≡ Some words.fronts) × (first_of (codes "front") rows ≡ Some words.front)
 
+-- just this one of the four files is given
+abbrev pub IsOnly : FaultsOf → List ℕ → List Row → Type 0
+IsOnly of.Demand file rows =
+    (first_of (codes "demand") rows ≡ Some file) × (first_of (codes "costs") rows ≡ None)
+    × (first_of (codes "capacity") rows ≡ None) × (first_of (codes "log") rows ≡ None)
+IsOnly of.Costs file rows =
+    (first_of (codes "demand") rows ≡ None) × (first_of (codes "costs") rows ≡ Some file)
+    × (first_of (codes "capacity") rows ≡ None) × (first_of (codes "log") rows ≡ None)
+IsOnly of.Capacity file rows =
+    (first_of (codes "demand") rows ≡ None) × (first_of (codes "costs") rows ≡ None)
+    × (first_of (codes "capacity") rows ≡ Some file) × (first_of (codes "log") rows ≡ None)
+IsOnly of.Log file rows =
+    (first_of (codes "demand") rows ≡ None) × (first_of (codes "costs") rows ≡ None)
+    × (first_of (codes "capacity") rows ≡ None) × (first_of (codes "log") rows ≡ Some file)
+
 -- the values of a subcommand are the order's
 abbrev pub IsStreamOrderIn : StreamOrder → Text → List Row → Type 0
 IsStreamOrderIn order.Help name rows = ⊥
@@ -52,6 +69,7 @@ IsStreamOrderIn (order.Answer inputs plan log unit front) name rows =
     (name ≡ codes "answer") × HasInputs rows inputs × (first_of (codes "plan") rows ≡ Some plan)
     × (first_of (codes "log") rows ≡ Some log)
     × (first_of (codes "unit") rows ≡ unit) × HasFront rows front
+IsStreamOrderIn (order.Faults of file) name rows = (name ≡ codes "faults") × IsOnly of file rows
 
 -- the order of what clap's matches give
 abbrev pub IsStreamOrder : StreamOrder → Option (Text × List Row) → Type 0

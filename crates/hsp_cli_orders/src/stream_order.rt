@@ -9,6 +9,19 @@ pub struct FrontWords<'a> {
     pub front: Word<'a>,
 }
 
+/// What is looked at for faulty rows.
+#[derive(Clone, Copy, Debug, PartialEq, Eq)]
+pub enum FaultsOf {
+    /// A table of demand.
+    Demand,
+    /// A table of costs.
+    Costs,
+    /// A table of capacities.
+    Capacity,
+    /// A log.
+    Log,
+}
+
 /// One command of `hsplan-stream` with its values.
 #[derive(Debug, Drop)]
 pub enum StreamOrder<'a> {
@@ -38,4 +51,6 @@ pub enum StreamOrder<'a> {
         unit: Option<Word<'a>>,
         front: Option<FrontWords<'a>>,
     },
+    /// `faults` with one of `--demand F`, `--costs F`, `--capacity F` and `--log F`
+    Faults { of: FaultsOf, file: Word<'a> },
 }

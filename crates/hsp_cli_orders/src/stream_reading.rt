@@ -13,7 +13,7 @@ ghost use Rattle.std.specs.Prelude.{Option};
 
 use crate::fault::CommandFault;
 use crate::reading::{command_fault, inputs_of, word_of};
-use crate::stream_order::{FrontWords, StreamOrder};
+use crate::stream_order::{FaultsOf, FrontWords, StreamOrder};
 use clap::ArgMatches;
 use hsp_cli_options::stream_command;
 use std::alloc::Global;
@@ -99,6 +99,29 @@ fn answer_of<'a>(matches: &ArgMatches<'a>) -> Option<StreamOrder<'a>>
     })
 }
 
+// The one file that is given, if there is just one.
+fn faults_of<'a>(matches: &ArgMatches<'a>) -> Option<StreamOrder<'a>>
+    ensures order { IfSome result (λ order.
+        IsStreamOrderIn order (codes "faults") (rows_of (found_of matches.now))) }
+    ensures none { IfNone result ((order : StreamOrder)
+        → IsStreamOrderIn order (codes "faults") (rows_of (found_of matches.now)) → ⊥) }
+{
+    let tables = (
+        word_of(matches, "demand"),
+        word_of(matches, "costs"),
+        word_of(matches, "capacity"),
+        word_of(matches, "log"),
+    );
+    let (of, file) = match tables {
+        (Some(file), None, None, None) => (FaultsOf::Demand, file),
+        (None, Some(file), None, None) => (FaultsOf::Costs, file),
+        (None, None, Some(file), None) => (FaultsOf::Capacity, file),
+        (None, None, None, Some(file)) => (FaultsOf::Log, file),
+        _ => return None,
+    };
+    Some(StreamOrder::Faults { of, file })
+}
+
 // The form of a subcommand with its values. It is decided before anything is copied, so memory can't run out meanwhile.
 fn form_of<'a>(name: &str, matches: &ArgMatches<'a>) -> Option<StreamOrder<'a>>
     ensures order { IfSome result (λ order.
@@ -110,6 +133,7 @@ fn form_of<'a>(name: &str, matches: &ArgMatches<'a>) -> Option<StreamOrder<'a>>
         "kinds" => kinds_of(matches),
         "places" => places_of(matches),
         "answer" => answer_of(matches),
+        "faults" => faults_of(matches),
         _ => None,
     }
 }

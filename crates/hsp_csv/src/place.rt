@@ -26,6 +26,13 @@ impl Place {
         }
     }
 
+    /// The start of a text.
+    pub fn start() -> Place
+        ensures { result ≡ first_line 0 }
+    {
+        Place::first_line(0)
+    }
+
     // Whether an octet at this place ends a line.
     fn ends_line(&self, octet: u8) -> bool
         ensures { result ≡ ends_line self.now octet }

@@ -10,3 +10,4 @@ pub mod Fronts
 pub mod Portions
 pub mod Standings
 pub mod FrontLaws
+pub mod RowChecks

@@ -1,11 +1,5 @@
 // What looks at the rows of a table or a log.
 
-ghost use Rattle.std.specs.Prelude.{◌≡◌, ◌∷◌, IfNone, IfOk, IfSome, List, OnOk};
-ghost use Rattle.csv.specs.Records.{fields_of};
-ghost use Rattle.hsp_csv.specs.Places.{Placed};
-ghost use Rattle.hsp_csv.specs.Walks.{shown};
-ghost use Rattle.hsp_faulty.specs.Faulty.{Continues, header_fault, is_good};
-ghost use Rattle.hsp_faulty.specs.Checkers.{IsReady, Lists, start_of};
 
 use csv::ByteRecord;
 use hsp_csv::{Checked, Found, Place, PlacedRecord};
@@ -29,7 +23,6 @@ pub enum Asked {
 
 /// The fault of one of the tables.
 pub(crate) fn fault_of_table(kind: TableKind, fault: TableFault) -> StreamFault
-    ensures { result ≡ fault_of_table kind fault }
 {
     match kind {
         TableKind::Demand => StreamFault::Input(Fault::Demand(fault)),
@@ -40,7 +33,6 @@ pub(crate) fn fault_of_table(kind: TableKind, fault: TableFault) -> StreamFault
 
 /// The fault of a first record that is no header.
 pub(crate) fn header_fault(asked: Asked) -> StreamFault
-    ensures { result ≡ header_fault asked }
 {
     match asked {
         Asked::Table(kind) => fault_of_table(kind, TableFault::Header),

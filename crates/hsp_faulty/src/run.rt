@@ -1,7 +1,5 @@
 // The run `faults`.
 
-ghost use Rattle.std.specs.Prelude.{◌≡◌, IfErr, IfOk};
-ghost use Rattle.hsp_faulty.specs.Faulty.{AreFaultsOf};
 
 use crate::checker::{Asked, Checker, header_fault};
 use crate::lines::{HEADER_LINE, push_found};

@@ -20,3 +20,4 @@ pub mod Words
 pub mod AnswerRun
 pub mod AnswersShown
 pub mod AnswerLaws
+pub mod RowChecks

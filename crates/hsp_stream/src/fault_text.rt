@@ -63,8 +63,8 @@ fn push_row_fault(out: &mut Vec<u8>, fault: &RowFault) -> Result<(), AllocError>
     }
 }
 
-// Appends what stands between `hsplan-stream: ` and the line's end.
-fn push_fault(out: &mut Vec<u8>, fault: &StreamFault) -> Result<(), AllocError>
+/// Appends a fault in words: the part with the fault and `: ` where there is such a part, the fault with its fields.
+pub fn push_fault_words(out: &mut Vec<u8>, fault: &StreamFault) -> Result<(), AllocError>
     ensures { OnOk result (out.new.items ≡ out.old.items ++ fault_words fault.now) }
 {
     match fault {
@@ -86,7 +86,7 @@ pub fn stream_fault_line(alloc: Global, fault: &StreamFault) -> Result<Vec<u8>, 
 {
     let mut line = Vec::new(alloc);
     line.extend_from_slice(b"hsplan-stream: ")?;
-    push_fault(&mut line, fault)?;
+    push_fault_words(&mut line, fault)?;
     line.extend_from_slice(b"\n")?;
     Ok(line)
 }

@@ -4,7 +4,7 @@ use Rattle.hsp_cli.specs.Ending.{IsHandedWith, Line, ReportsBy}
 use Rattle.hsp_stream.specs.Lines.{fault_text, status_in, sums_text}
 use Rattle.hsp_stream.specs.declared.given.StreamSums.{StreamSums}
 use Rattle.hsp_stream_cli.specs.declared.failure.StreamFailure.{StreamFailure}
-use Rattle.hsp_stream_cli.specs.declared.failure.StreamFailure.TheVariants.{Usage, Memory, Read, Write, Refused}
+use Rattle.hsp_stream_cli.specs.declared.failure.StreamFailure.TheVariants.{Usage, Memory, Read, Write, Refused, Faulty}
 
 -- how a command ended: with the sums of a log that was answered, without sums, or with a failure
 abbrev pub Ended : Type 0
@@ -17,6 +17,7 @@ failure_text Memory = codes "hsplan-stream: OutOfMemory" ++ 10 ∷ []
 failure_text Read = codes "hsplan-stream: read failed" ++ 10 ∷ []
 failure_text Write = codes "hsplan-stream: write failed" ++ 10 ∷ []
 failure_text (Refused fault) = fault_text fault
+failure_text Faulty = []
 
 -- the last line: that of a failure, or that of the sums
 abbrev pub last_text : Ended → List ℕ
@@ -31,6 +32,7 @@ failure_status Memory = 4
 failure_status Read = 5
 failure_status Write = 5
 failure_status (Refused fault) = status_in fault
+failure_status Faulty = 1
 
 abbrev pub status_after : Ended → ℕ
 status_after (Ok sums) = 0

@@ -5,6 +5,7 @@ ghost use Rattle.hsp_stream_cli.specs.Commands.{CarriesOut, Obeys};
 ghost use Rattle.hsp_stream_cli.specs.Printing.{IsHandedOn};
 
 use crate::failure::StreamFailure;
+use crate::faults::list_faults;
 use crate::files::{read_kinds, read_sources};
 use crate::printing::{print, print_table};
 use crate::talking::{answer_log, portion_words, state_places};
@@ -61,6 +62,7 @@ fn carry_out<S: FileSource, O: Output>(
             let portion = portion_words(alloc, unit, front)?;
             answer_log(alloc, opened, &portion, out)
         }
+        StreamOrder::Faults { of, file } => list_faults(alloc, files, *of, file, out),
     }
 }
 

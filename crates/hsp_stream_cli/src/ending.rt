@@ -33,6 +33,7 @@ fn failure_line(alloc: Global, failure: &StreamFailure) -> Result<Vec<u8>, Alloc
         StreamFailure::Read => Vec::from_slice(alloc, b"hsplan-stream: read failed\n"),
         StreamFailure::Write => Vec::from_slice(alloc, b"hsplan-stream: write failed\n"),
         StreamFailure::Refused(fault) => stream_fault_line(alloc, fault),
+        StreamFailure::Faulty => Ok(Vec::new(alloc)),
     }
 }
 
@@ -46,6 +47,7 @@ pub fn status_after(ended: &Result<Option<StreamSums>, StreamFailure>) -> u8
         Err(StreamFailure::Memory) => 4,
         Err(StreamFailure::Read | StreamFailure::Write) => 5,
         Err(StreamFailure::Refused(fault)) => stream_status(fault),
+        Err(StreamFailure::Faulty) => 1,
     }
 }
 

@@ -22,6 +22,8 @@ pub enum StreamFailure {
     Write,
     /// The run refused its input, or stopped in the log.
     Refused(StreamFault),
+    /// There are faulty rows, all of which were listed.
+    Faulty,
 }
 
 impl From<AllocError> for StreamFailure {

@@ -5,6 +5,7 @@
 mod commands;
 mod ending;
 mod failure;
+mod faults;
 mod files;
 mod printing;
 mod talking;

@@ -19,6 +19,9 @@ hsplan-stream answer --settings F [--values F] --demand F --costs F --capacity F
     With --fronts N --front K it answers by the share of the front K of N.
     With --unit N each query of the plan stands for N answers.
 
+hsplan-stream faults --demand F | --costs F | --capacity F | --log F
+    prints every faulty row of a table or a log: its row, line, field and fault.
+
 hsplan-stream --version
     prints the version.
 

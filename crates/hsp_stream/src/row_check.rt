@@ -1,0 +1,52 @@
+// The rows of the logs of `kinds` and `places`, read by themselves.
+
+ghost use Rattle.std.specs.Prelude.{◌≡◌};
+ghost use Rattle.csv.specs.Records.{fields_of};
+ghost use Rattle.hsp_stream.specs.RowChecks.{count_fault, handle_fault, is_count_header, is_handle_header};
+
+use crate::fault::RowFault;
+use crate::kinds_log::{CountForm, parts_in, row_of};
+use csv::ByteRecord;
+use hsp_csv::is_header;
+use hsp_names::HandleRef;
+
+/// Whether a record is the header `region,handle,count`.
+pub fn is_count_header(record: &ByteRecord) -> bool
+    ensures { result ≡ is_count_header (fields_of «record».now) }
+{
+    is_header(record, &[b"region", b"handle", b"count"])
+}
+
+/// Whether a record is the header `handle`.
+pub fn is_handle_header(record: &ByteRecord) -> bool
+    ensures { result ≡ is_handle_header (fields_of «record».now) }
+{
+    is_header(record, &[b"handle"])
+}
+
+/// The fault by which `kinds` refuses the row of a region, a handle and a count by itself, if there is one.
+pub fn count_fault(row: u64, record: &ByteRecord) -> Option<RowFault>
+    ensures { result ≡ count_fault row (fields_of «record».now) }
+{
+    let Some(parts) = parts_in(record, CountForm::Counts) else {
+        return Some(RowFault::Fields { row });
+    };
+    match row_of(row, parts) {
+        Ok(_) => None,
+        Err(fault) => Some(fault),
+    }
+}
+
+/// The fault by which `places` refuses the row of a handle, if there is one.
+pub fn handle_fault(row: u64, record: &ByteRecord) -> Option<RowFault>
+    ensures { result ≡ handle_fault row (fields_of «record».now) }
+{
+    if record.len() != 1 {
+        return Some(RowFault::Fields { row });
+    }
+    let handle = record.get(0)?;
+    match HandleRef::parse(handle) {
+        Ok(_) => None,
+        Err(fault) => Some(RowFault::BadHandle { row, fault }),
+    }
+}
