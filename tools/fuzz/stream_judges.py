@@ -3,14 +3,14 @@ oracle's."""
 from __future__ import annotations
 
 import csv
+import io
 import re
-from collections.abc import Callable, Mapping
-from typing import Any, NamedTuple
+from collections.abc import Mapping
+from typing import NamedTuple
 
 from draws import (
     BOOLEAN,
     FEW,
-    LIMIT,
     OFTEN,
     TEN,
     Draw,
@@ -119,7 +119,11 @@ OWN_LOGS = {
 }
 
 
-# ---- what a log has
+# ---- logs of any kind
+
+
+def fails(answer: Answer) -> bool:
+    return fault_of(NAME, answer) is not None
 
 
 def is_plain(log: bytes) -> bool:
@@ -127,198 +131,60 @@ def is_plain(log: bytes) -> bool:
     return ends_plainly(log) and b"\xef" not in log
 
 
-def parted(log: bytes) -> tuple[bytes, bytes]:
-    """The lines up to the header of a plain log, and those behind it."""
-    begin = len(log) - len(log.lstrip(b"\n"))
-    end = log.index(b"\n", begin) + 1
-    return log[:end], log[end:]
-
-
-def rows_of(log: bytes) -> list[bytes]:
-    return [line for line in parted(log)[1].split(b"\n") if line]
-
-
-def twice(log: bytes) -> bytes:
-    """The log with each of its rows twice."""
-    return parted(log)[0] + b"".join(row + b"\n" + row + b"\n" for row in rows_of(log))
-
-
-def counts_of(log: bytes) -> list[tuple[bytes, int]]:
-    """The region and the count of each row of a plain log or of a table, sorted."""
-    has_counts = parted(log)[0].endswith(b",count\n")
-    fields = [row.rpartition(b",") for row in rows_of(log)]
-    return sorted((row[0].split(b",")[0], int(row[2]) if has_counts else 1) for row in fields)
-
-
-def fails(answer: Answer) -> bool:
-    return fault_of(NAME, answer) is not None
-
-
-# ---- what holds for each command
-
-
-def judge_pieces(program: Runner, asked: Asked, log: bytes, whole: Answer, where: Where) -> None:
-    """Read in pieces the log has the same answer. Before a read all rows that had come are answered, by `kinds` none."""
-    watched = where.part * (len(log) + 1) >> 16
-    answer = asked.answer(program, log, piece=where.piece, watched=watched)
-    same("in pieces", whole, answer)
-    if answer.noted:
-        given, printed = answer.noted
+def judge_log(program: Runner, case: Case, where: Where) -> Answer:
+    """Judges the answer to a log, whatever the log is. Read in pieces it has the same answer. Before a read all rows
+    that had come are answered, by `kinds` none. Rows behind a fault change nothing, and those behind a log's end no
+    line."""
+    asked, log = case.asked, case.text
+    whole = asked.answer(program, log)
+    if not fails(whole):
+        {"kinds": judge_table, "places": judge_places, "answer": judge_sums}[asked.command](program, asked, whole)
+    pieces = asked.answer(program, log, piece=where.piece, watched=where.part * (len(log) + 1) >> 16)
+    same("in pieces", whole, pieces)
+    if pieces.noted:
+        given, printed = pieces.noted
         had = log[: log[:given].rfind(b"\n") + 1]
         before = b"" if asked.command == "kinds" else asked.answer(program, had).printed
-        assert answer.printed[:printed] == before, f"what had come: {had!r}: {answer}"
-
-
-def judge_longer(program: Runner, asked: Asked, log: bytes, whole: Answer, where: Where) -> None:
-    """A longer log has the same lines, and more. A shorter one has those of its rows."""
-    more = asked.answer(program, where.continued(log))
-    assert more.printed.startswith(whole.printed), f"a longer log: {more}"
-    head, rows = parted(log)
-    less = asked.answer(program, head + where.rows(rows))
-    assert whole.printed.startswith(less.printed), f"a shorter log: {less}"
-    if not fails(less):
-        number = len(rows_of(head + where.rows(rows)))
-        wanted = 1 + len(asked.service.sites) * number if asked.command == "places" else number
-        assert less.printed.count(b"\n") == wanted, f"lines of a shorter log: {less}"
-
-
-def judge_log(program: Runner, case: Case, where: Where) -> Answer:
-    """Judges the answer to a log, whatever the log is."""
-    asked, log = case.asked, case.text
-    answer = asked.answer(program, log)
-    {"kinds": judge_kinds, "places": judge_places, "answer": judge_answers}[asked.command](
-        program, asked, log, answer, where
-    )
-    judge_pieces(program, asked, log, answer, where)
+        assert pieces.printed[:printed] == before, f"what had come: {had!r}: {pieces}"
     if is_plain(log):
-        fault = fault_of(NAME, answer) or b""
+        more, fault = asked.answer(program, where.continued(log)), fault_of(NAME, whole) or b""
         if fault.startswith(b"log: ") and b"CountTooLarge" not in fault:
-            same("behind a fault", answer, asked.answer(program, where.continued(log)))
-        if asked.command != "kinds":
-            judge_longer(program, asked, log, answer, where)
-    return answer
+            same("behind a fault", whole, more)
+        assert asked.command == "kinds" or more.printed.startswith(whole.printed), f"a longer log: {more}"
+    return whole
+
+
+def judge_table(program: Runner, asked: Asked, answer: Answer) -> None:
+    """The table of the table is the table, and its counts are within their limit."""
+    assert answer.printed.startswith(TABLE), f"table: {answer}"
+    again = asked._replace(unit=0).answer(program, answer.printed)
+    assert again.said == (answer.printed, b"", 0), f"the table of a table: {answer} {again}"
+    rows = list(csv.reader(io.StringIO(answer.printed.decode(), newline="")))[1:]
+    assert all(int(row[2]) <= GREATEST_COUNT for row in rows), f"count: {answer}"
+
+
+def judge_places(program: Runner, asked: Asked, answer: Answer) -> None:
+    """Each handle has a line for each site, with the server that its hash names."""
+    del program
+    rows = list(csv.reader(io.StringIO(answer.printed.decode(), newline="")))
+    wanted = [line for handle in dict.fromkeys(row[0] for row in rows[1:]) for line in asked.service.places(handle)]
+    lines = {(handle, site, int(place), int(own)) for handle, site, place, own in rows[1:]}
+    assert answer.printed.startswith(PLACES) and lines == set(wanted), f"lines: {answer}"
+
+
+def judge_sums(program: Runner, asked: Asked, answer: Answer) -> None:
+    """The sums are those of the lines. No more answers name a site than the front's share of the plan sends there."""
+    del program
+    lines = answer.printed.decode().splitlines()
+    assert answer.reported.decode() == oracle.sums_of(lines), f"sums: {answer}"
+    named = [line.split()[1] for line in lines if line.startswith("assigned ")]
+    for at, site in enumerate(asked.service.sites):
+        most = asked.units * sum(use.number for use in asked.shares() if use.site == at)
+        assert named.count(site.name) <= most, f"more than the plan: {most} to {site.name}: {answer}"
 
 
 def judge_odd(program: Runner, case: Case, where: Where) -> None:
     judge_log(program, case, where)
-
-
-# ---- kinds
-
-
-def too_large(answer: Answer) -> tuple[int, int] | None:
-    """The row and the unit of a count that is too large."""
-    found = re.fullmatch(rb"log: CountTooLarge row ([0-9]+) unit ([0-9]+)", fault_of(NAME, answer) or b"")
-    return (int(found[1]), int(found[2])) if found else None
-
-
-def judge_unit(program: Runner, asked: Asked, log: bytes, answer: Answer) -> None:
-    """The unit that is reported is the least by which the table is printed. By one less it is reported again."""
-    reported = too_large(answer)
-    if reported and reported[1] <= GREATEST_COUNT:
-        assert reported[1] > asked.units, f"unit: {answer}"
-        by_less = too_large(asked._replace(unit=reported[1] - 1).answer(program, log))
-        assert by_less and by_less[0] >= reported[0] and by_less[1] == reported[1], f"a smaller unit: {by_less}"
-        assert not fails(asked._replace(unit=reported[1]).answer(program, log)), f"the unit: {answer}"
-
-
-def judge_kinds(program: Runner, asked: Asked, log: bytes, answer: Answer, where: Where) -> None:
-    if fails(answer):
-        if is_plain(log):
-            judge_unit(program, asked, log, answer)
-        return
-    table, ones = answer.printed, asked._replace(unit=0)
-    assert table.startswith(TABLE) and table.endswith(b"\n"), f"table: {table!r}"
-    assert ones.answer(program, table).said == (table, b"", 0), f"the table of a table: {table!r}"
-    if not is_plain(log):
-        return
-    of_log, of_table = counts_of(log), counts_of(table)
-    total, units = sum(count for _, count in of_log), asked.units * sum(count for _, count in of_table)
-    assert all(count <= GREATEST_COUNT for _, count in of_table), f"count: {table!r}"
-    assert 0 <= units - total <= len(of_table) * (asked.units - 1), f"sum: {table!r}"
-    if not log.startswith(b"\n"):
-        other = asked.answer(program, where.reordered(log))
-        assert not fails(other) and counts_of(other.printed) == of_table, f"another order: {other}"
-    if 2 * asked.units <= GREATEST_COUNT:
-        same("rows twice", answer, asked._replace(unit=2 * asked.units).answer(program, twice(log)))
-    if asked.units == 1:
-        head, rows = parted(log)
-        first = where.rows(rows)
-        parts = [asked.answer(program, head + part).printed for part in (first, rows[len(first) :])]
-        joined = ones.answer(program, parts[0] + parted(parts[1])[1])
-        assert joined.said == (table, b"", 0), f"joined parts: {joined}"
-
-
-# ---- places
-
-
-def judge_places(program: Runner, asked: Asked, log: bytes, answer: Answer, where: Where) -> None:
-    """Each row has a line for each site, with a server of it. At a fault the rows before it have."""
-    del where
-    lines, sites = answer.printed.splitlines()[1:], asked.service.sites
-    assert not answer.printed or answer.printed.startswith(PLACES), f"header: {answer}"
-    assert fails(answer) or answer.printed, f"no header: {answer}"
-    found = re.search(rb"^log: .* row ([0-9]+)", fault_of(NAME, answer) or b"")
-    assert not found or len(lines) == int(found[1]) * len(sites), f"lines before a fault: {answer}"
-    if not is_plain(log):
-        return
-    rows = rows_of(log)
-    assert fails(answer) or len(lines) == len(rows) * len(sites), f"lines: {answer}"
-    has_regions = parted(log)[0].endswith(b"region,handle\n")
-    for at, line in enumerate(lines):
-        row, site = rows[at // len(sites)], sites[at % len(sites)]
-        handle = row.split(b",", 1)[1] if has_regions else row
-        begin, place, own = line.rsplit(b",", 2)
-        is_server = int(place) < len(site.servers) and int(own) == site.servers[int(place)]
-        assert is_server and begin == handle + b"," + site.name.encode(), f"line: {line!r}"
-    if not fails(answer):
-        blocks = [lines[at : at + len(sites)] for at in range(0, len(lines), len(sites))]
-        wanted = [line for block in blocks for line in (*block, *block)]
-        assert asked.answer(program, twice(log)).printed.splitlines()[1:] == wanted, "rows twice"
-
-
-# ---- answers
-
-
-def sites_of(asked: Asked, lines: list[bytes]) -> list[int]:
-    """The numbers of the sites that answers name, each by a server of it. Other lines name none."""
-    named = {
-        f"assigned {site.name} {place} {own}".encode(): at
-        for at, site in enumerate(asked.service.sites)
-        for place, own in enumerate(site.servers)
-    }
-    others = rb"spent|unknown|refused (Fields|BadBody|TooLong|BadHandle (TooLong|NotUtf8|NoSlash|EmptySegment))"
-    assert all(line in named or re.fullmatch(others, line) for line in lines), f"lines: {lines}"
-    return [named[line] for line in lines if line in named]
-
-
-def judge_bounds(asked: Asked, named: list[int]) -> None:
-    """No more answers name a site than the plan sends there."""
-    for at in range(len(asked.service.sites)):
-        most = asked.units * sum(use.number for use in asked.shares() if use.site == at)
-        assert named.count(at) <= most, f"more than the plan: {named.count(at)} of {most} to site {at}"
-
-
-def judge_answers(program: Runner, asked: Asked, log: bytes, answer: Answer, where: Where) -> None:
-    if fails(answer):
-        return
-    lines = answer.printed.splitlines()
-    assert answer.reported.decode() == oracle.sums_of(line.decode() for line in lines), f"sums: {answer}"
-    judge_bounds(asked, sites_of(asked, lines))
-    if not is_plain(log):
-        return
-    head, rows = parted(log)
-    assert len(lines) == len(rows_of(log)), f"lines: {answer}"
-    fronts = [asked._replace(fronts=1 + where.order % 4, front=front) for front in range(1 + where.order % 4)]
-    named = [at for each in fronts for at in sites_of(each, each.answer(program, log).printed.splitlines())]
-    judge_bounds(asked._replace(fronts=0, front=0), named)
-    if 2 * asked.units <= GREATEST_COUNT:
-        other = asked._replace(unit=2 * asked.units).answer(program, twice(log))
-        assert other.printed.splitlines() == [line for line in lines for _ in range(2)], f"rows twice: {other}"
-    first = where.rows(rows)
-    number = len(rows_of(head + first))
-    with_fault = asked.answer(program, head + first + b"x\n" + rows[len(first) :]).printed.splitlines()
-    assert with_fault == [*lines[:number], b"refused Fields", *lines[number:]], f"a refused row: {with_fault}"
 
 
 # ---- written logs, by the oracle
