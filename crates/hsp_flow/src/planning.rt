@@ -41,7 +41,6 @@ fn row_network<'a>(instance: &Instance, rows: &'a TransportLists) -> Network<'a>
     requires rows { transport_in rows.now ≡ transport_of instance.now }
     ensures { problem_of result ≡ transport_of instance.now }
 {
-    let _ = instance;
     Network {
         demands: &rows.demands,
         capacities: &rows.capacities,
@@ -69,7 +68,6 @@ fn group_network<'a>(
     ensures { problem_of result
         ≡ transport_by instance.now grouped.now.groups.now grouped.now.rows.now }
 {
-    let _ = instance;
     Network {
         demands,
         capacities: &rows.capacities,

@@ -1,129 +1,13 @@
 use crate::held::joined;
 use crate::line_tests::{Broken, is_reported};
-use crate::run_tests::{BASE, CHEAPER_PLAN, LACKING, PLAN, SHORTAGE, Texts, inputs_of};
+use crate::log_runs::*;
 use crate::same::is_same;
-use hsp_check::Reason;
-use hsp_dispatch::{LogFault, LogSums};
+use hsp_dispatch::{FrontSums, LogFault, LogSums};
 use hsp_runs::*;
 use std::alloc::{AllocError, Global};
-use std::io::{self, Read, Write};
 use std::process::Abort;
 
-// Takes an octet a call while there is room, and then none.
-#[derive(Drop)]
-pub(crate) struct Page {
-    pub(crate) taken: Vec<u8>,
-    room: usize,
-}
-
-impl Write for Page {
-    fn write(&mut self, octets: &[u8]) -> io::Result<usize> {
-        let count = octets.len().min(self.room).min(1);
-        match self.taken.extend_from_slice(&octets[..count]) {
-            Ok(()) => {
-                self.room -= count;
-                Ok(count)
-            }
-            Err(_) => Err(io::Error::from(io::ErrorKind::OutOfMemory)),
-        }
-    }
-
-    fn flush(&mut self) -> io::Result<()> {
-        Ok(())
-    }
-}
-
-// A page with room for `room` octets. Where this growth is refused, the second finds memory.
-pub(crate) fn page_of(rt: &impl Abort, alloc: Global, room: usize) -> Page {
-    let taken = match Vec::with_capacity(alloc, room) {
-        Ok(taken) => taken,
-        Err(AllocError) => Vec::with_capacity(alloc, room).expect(rt, "there is memory"),
-    };
-    Page { taken, room }
-}
-
-// Gives an octet of a log for each call, and fails once that many were given.
-#[derive(Clone, Copy, Drop)]
-pub(crate) struct Cut<'a> {
-    pub(crate) log: &'a [u8],
-    pub(crate) good: usize,
-}
-
-impl Read for Cut<'_> {
-    fn read(&mut self, buf: &mut [u8]) -> io::Result<usize> {
-        if self.good == 0 {
-            return Err(io::Error::from(io::ErrorKind::Other));
-        }
-        let (Some(place), [octet, rest @ ..]) = (buf.first_mut(), self.log) else {
-            return Ok(0);
-        };
-        *place = *octet;
-        self.log = rest;
-        self.good -= 1;
-        Ok(1)
-    }
-}
-
-// What a run answers, and the page that it has written on.
-#[derive(Drop)]
-struct Ended {
-    answer: Result<LogSums, Fault>,
-    page: Page,
-}
-
-// A plan of inputs.
-#[derive(Clone, Copy)]
-struct Asked<'a> {
-    texts: Texts<'a>,
-    cert: &'a [u8],
-}
-
-const BASE_PLAN: Asked<'static> = Asked {
-    texts: BASE,
-    cert: PLAN,
-};
-
-fn run_once<R: Read + Drop>(
-    rt: &impl Abort,
-    alloc: Global,
-    asked: Asked<'_>,
-    log: R,
-    room: usize,
-) -> Ended {
-    let mut page = page_of(rt, alloc, room);
-    let inputs = inputs_of(rt, alloc, asked.texts);
-    let answer = dispatch_run(alloc, &inputs, asked.cert, log, &mut page);
-    Ended { answer, page }
-}
-
-// The run over a log. Where a growth is refused, the second call finds memory.
-fn run_twice<R: Read + Copy + Drop>(
-    rt: &impl Abort,
-    alloc: Global,
-    asked: Asked<'_>,
-    log: R,
-    room: usize,
-) -> Ended {
-    let first = run_once(rt, alloc, asked, log, room);
-    match first.answer {
-        Err(Fault::OutOfMemory) => run_once(rt, alloc, asked, log, room),
-        _ => first,
-    }
-}
-
-// The run has this answer, and this text stands on the page.
-fn has_ended(rt: &impl Abort, ended: &Ended, answer: Result<LogSums, Fault>, text: &[u8]) {
-    is_same(rt, &ended.answer, &answer);
-    is_same(rt, ended.page.taken.as_slice(), text);
-}
-
-// The run has stopped at the fault, behind `count` octets of the lines.
-fn has_stopped(rt: &impl Abort, ended: &Ended, fault: LogFault, count: usize) {
-    is_same(rt, &ended.answer, &Err(Fault::Log(fault)));
-    let taken = ended.page.taken.as_slice();
-    assert!(rt; taken.len() == count);
-    assert!(rt; LINES.starts_with(taken));
-}
+const BY_ONE: Answerers<'static> = Answerers::Dispatcher;
 
 const LOG: &[u8] = b"region,handle\nr2,10/3\nr2,10/3\nr2,10/3\nr2,10/3\nr9,10/3\n";
 
@@ -139,6 +23,16 @@ const NO_SUMS: LogSums = LogSums {
     assigned: 0,
     spent: 0,
     unknown: 0,
+};
+
+// Up to how many octets of the log no further row is read whole, and how many octets the lines of the rows before have.
+const ROWS: [(usize, usize); 6] = [(22, 0), (30, 15), (38, 30), (46, 45), (54, 51), (55, 59)];
+
+const WORKED: Worked<'static> = Worked {
+    by: BY_ONE,
+    log: LOG,
+    lines: LINES,
+    rows: &ROWS,
 };
 
 #[test]
@@ -157,14 +51,14 @@ fn logs_are_answered(rt: HostRuntime) {
         (b"region,handle\n", NO_SUMS, b""),
     ];
     for (log, sums, text) in cases {
-        let ended = run_twice(&rt, rt.alloc(), BASE_PLAN, log, 100);
-        has_ended(&rt, &ended, Ok(sums), text);
+        let ended = run_twice(&rt, rt.alloc(), base_plan(BY_ONE), log, 100);
+        has_ended(&rt, &ended, Ok(of_one(sums)), text);
     }
 }
 
 #[test]
 fn logs_are_answered_up_to_a_fault(rt: HostRuntime) {
-    let cases: [(&[u8], usize, LogFault, &[u8]); 5] = [
+    let cases: [LogEnd<'_>; 5] = [
         (b"", 100, LogFault::Header, b""),
         (
             b"region,handle\nr1\n",
@@ -186,45 +80,23 @@ fn logs_are_answered_up_to_a_fault(rt: HostRuntime) {
         ),
         (LOG, 20, LogFault::WriteFailed, &LINES[..20]),
     ];
-    for (log, room, fault, text) in cases {
-        let ended = run_twice(&rt, rt.alloc(), BASE_PLAN, log, room);
-        has_ended(&rt, &ended, Err(Fault::Log(fault)), text);
-    }
+    stop_at_faults(&rt, rt.alloc(), BY_ONE, &cases);
 }
 
 #[test]
 fn a_log_that_cannot_be_read_is_reported(rt: HostRuntime) {
-    let ended = run_twice(&rt, rt.alloc(), BASE_PLAN, Broken, 100);
-    has_stopped(&rt, &ended, LogFault::ReadFailed, 0);
-}
-
-// Up to how many octets of the log no further row is read whole, and how many octets the lines of the rows before have.
-const ROWS: [(usize, usize); 6] = [(22, 0), (30, 15), (38, 30), (46, 45), (54, 51), (55, 59)];
-
-// A reader that fails behind each octet from one on, up to another, is reported behind `lines` octets of lines.
-fn reads_fail(rt: &impl Abort, alloc: Global, from: usize, until: usize, lines: usize) {
-    for good in from..until {
-        let log = Cut { log: LOG, good };
-        let ended = run_twice(rt, alloc, BASE_PLAN, log, 100);
-        has_stopped(rt, &ended, LogFault::ReadFailed, lines);
-    }
+    let ended = run_twice(&rt, rt.alloc(), base_plan(BY_ONE), Broken, 100);
+    has_stopped(&rt, &ended, LogFault::ReadFailed, WORKED, 0);
 }
 
 #[test]
 fn logs_are_answered_up_to_each_octet_that_cannot_be_read(rt: HostRuntime) {
-    let mut from = 0;
-    for (until, lines) in ROWS {
-        reads_fail(&rt, rt.alloc(), from, until, lines);
-        from = until;
-    }
+    each_read_fails(&rt, rt.alloc(), WORKED);
 }
 
 #[test]
 fn logs_are_answered_up_to_each_octet_that_cannot_be_written(rt: HostRuntime) {
-    for room in 0..LINES.len() {
-        let ended = run_twice(&rt, rt.alloc(), BASE_PLAN, LOG, room);
-        has_stopped(&rt, &ended, LogFault::WriteFailed, room);
-    }
+    each_write_fails(&rt, rt.alloc(), WORKED);
 }
 
 // A log of 2,000 good rows and a bad one behind them.
@@ -241,7 +113,7 @@ fn long_log(rt: &impl Abort, alloc: Global) -> Vec<u8> {
 #[test]
 fn a_bad_row_behind_many_is_reported(rt: HostRuntime) {
     let log = long_log(&rt, rt.alloc());
-    let ended = run_twice(&rt, rt.alloc(), BASE_PLAN, log.as_slice(), 20_000);
+    let ended = run_twice(&rt, rt.alloc(), base_plan(BY_ONE), log.as_slice(), 20_000);
     let fault = LogFault::BadHandle { row: 2_000 };
     is_same(&rt, &ended.answer, &Err(Fault::Log(fault)));
     is_same(&rt, ended.page.taken.len(), 16_000);
@@ -249,15 +121,7 @@ fn a_bad_row_behind_many_is_reported(rt: HostRuntime) {
 
 #[test]
 fn what_is_not_accepted_answers_nothing(rt: HostRuntime) {
-    let cases: [(Texts<'_>, &[u8], Fault); 2] = [
-        (BASE, CHEAPER_PLAN, Fault::Refused(Reason::Cost)),
-        (LACKING, SHORTAGE, Fault::WrongKind),
-    ];
-    for (texts, cert, fault) in cases {
-        is_same(&rt, status_of(&fault), 3);
-        let ended = run_twice(&rt, rt.alloc(), Asked { texts, cert }, LOG, 100);
-        has_ended(&rt, &ended, Err(fault), b"");
-    }
+    nothing_is_answered(&rt, rt.alloc(), WORKED);
 }
 
 #[test]

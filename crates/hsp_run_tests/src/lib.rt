@@ -14,6 +14,8 @@ mod held;
 #[cfg(test)]
 mod line_tests;
 #[cfg(test)]
+mod log_runs;
+#[cfg(test)]
 mod report_tests;
 #[cfg(test)]
 mod run_tests;
