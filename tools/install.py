@@ -76,7 +76,7 @@ def answers(path: str) -> bool:
     """Whether an installed program answers from another folder."""
     words, wanted = ASKED[os.path.basename(path)]
     ended = subprocess.run([os.path.realpath(path), *words], cwd="/", stdout=subprocess.PIPE, text=True)
-    return ended.stdout == wanted.format(programs.version())
+    return ended.stdout in (wanted.format(programs.version()), wanted.format(programs.released()))
 
 
 def install(root: str) -> int:

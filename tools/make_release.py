@@ -46,7 +46,7 @@ def packed(held: dict[str, tuple[str, int]]) -> bytes:
     room = io.BytesIO()
     with tarfile.open(fileobj=room, mode="w", format=tarfile.USTAR_FORMAT) as archive:
         for path, (source, mode) in sorted(held.items()):
-            member = tarfile.TarInfo(f"{programs.stem()}/{path}")
+            member = tarfile.TarInfo(f"{programs.stem(programs.version())}/{path}")
             with open(source, "rb") as file:
                 octets = file.read()
             member.size, member.mode = len(octets), mode
@@ -85,9 +85,10 @@ def write_all(found: dict[str, str], by: str) -> None:
     os.makedirs(programs.RELEASE, exist_ok=True)
     for path in glob.glob(os.path.join(programs.RELEASE, "*.tar.xz")):
         os.remove(path)
-    name = os.path.basename(programs.archive())
+    path = programs.archive(programs.version())
+    name = os.path.basename(path)
     write(name, octets)
-    write("SHA256SUMS", f"{programs.sum_of(programs.archive())}  {name}\n".encode())
+    write("SHA256SUMS", f"{programs.sum_of(path)}  {name}\n".encode())
     write("MADE", f"version {programs.version()}\nkit {by}\nsources {programs.digest()}\n".encode())
     print(f"release/{name}: {len(octets):,} octets")
 

@@ -1,9 +1,10 @@
 #!/usr/bin/env python3
 """Compares the folder `release` with this tree and with what the gate proved and built, and tries it without the kit.
 
-It fails where
+A release is written once for each version. Where VERSION is ahead of it, its files are NOT COMPARED with this tree, only
+its sum with release/SHA256SUMS. Otherwise it fails where
 
-- the version, the sources or a sum differ from what release/MADE and release/SHA256SUMS state;
+- the sources or a sum differ from what release/MADE and release/SHA256SUMS state;
 - the archive lacks a file of this tree, or holds another one;
 - a program in it is not octet for octet the one in crates/NAME/out.
 
@@ -39,13 +40,9 @@ LEFT_OUT = shutil.ignore_patterns("out", ".git", "__pycache__", "must-fail", "mu
 
 
 def wrong_names() -> list[str]:
-    """The faults where MADE does not state the version and the sources of this tree."""
-    made, faults = programs.made(), []
-    if made.get("version") != programs.version():
-        faults.append(f"release/MADE is of version {made.get('version')}, and VERSION says {programs.version()}")
-    if made.get("sources") != programs.digest():
-        faults.append("release/MADE is of other sources: run make release")
-    return faults
+    """The fault where MADE does not state the sources of this tree."""
+    fine = programs.made().get("sources") == programs.digest()
+    return [] if fine else ["release/MADE is of other sources: run make release, or give VERSION a new number"]
 
 
 def wrong_files(room: str) -> list[str]:
@@ -145,12 +142,12 @@ def expected(visitor: Visitor, words: str, status: int, parts: list[str], **how:
 
 def visit(visitor: Visitor) -> list[str]:
     """The faults that someone meets who plans with the released program."""
-    example, released = "examples/two-sites", f"the released program, version {programs.version()}"
+    example, released = "examples/two-sites", f"the released program, version {programs.released()}"
     installed = f"{visitor.home}/.local/bin/hsplan"
     short = PLAN.format(example, "premiere.csv")
     begun = time.monotonic()
-    faults = expected(visitor, "make demo", 0, [released + ".\n", "\nyes\n", "bound 523976 - 216760 = 307216"])
-    faults += expected(visitor, "make install PREFIX=$HOME/.local", 0, [released + "\n"])
+    faults = expected(visitor, "make demo", 0, [released, "\nyes\n", "bound 523976 - 216760 = 307216"])
+    faults += expected(visitor, "make install PREFIX=$HOME/.local", 0, [released])
     faults += expected(
         visitor,
         f"{installed} {PLAN.format(visitor.top + '/' + example, 'demand.csv')}",
@@ -202,19 +199,22 @@ def tried(check: Callable[[Visitor], list[str]]) -> list[str]:
 
 def main() -> int:
     kit = subprocess.run(["rt", "version"], stdout=subprocess.PIPE, text=True, check=True).stdout.strip()
-    faults = wrong_names()
+    is_ahead = programs.released() != programs.version()
+    faults = [] if is_ahead else wrong_names()
     with tempfile.TemporaryDirectory() as folder:
         try:
             room = programs.unpacked(folder)
-            faults += wrong_files(room) + wrong_programs(room, kit)
+            faults += [] if is_ahead else wrong_files(room) + wrong_programs(room, kit)
         except programs.Missing as missing:
             faults.append(str(missing))
+    if is_ahead:
+        print(f"release/ is of version {programs.released()}, and this tree is {programs.version()}: NOT COMPARED")
     if shutil.which("rt", path=PATH):
         faults.append(f"{PATH} has an rt: the release was not tried without the kit")
     elif not faults:
         faults += tried(visit) + tried(strangers)
     count = len(programs.FILES) + len(programs.PROGRAMS) + 1
-    print("\n".join(faults + [f"release: version {programs.version()}, {count} files, {len(faults)} faults"]))
+    print("\n".join(faults + [f"release: version {programs.released()}, {count} files, {len(faults)} faults"]))
     return 1 if faults else 0
 
 

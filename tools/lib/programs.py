@@ -124,10 +124,15 @@ def built(name: str) -> Optional[str]:
     return path if next(newer, None) is None else None
 
 
+def released() -> str:
+    """The version of the release, which is written once for each version; that of VERSION where there is none."""
+    return made().get("version") or version()
+
+
 def stem(of: str = "") -> str:
-    """The name of the only folder in a release of the version `of` (if empty, that of VERSION). It is also the name
-    of the archive without the ending."""
-    return f"hsplan-{of or version()}-x86_64-linux"
+    """The name of the only folder in a release of the version `of` (if empty, the one that is there). It is also the
+    name of the archive without the ending."""
+    return f"hsplan-{of or released()}-x86_64-linux"
 
 
 def archive(of: str = "") -> str:
@@ -170,14 +175,14 @@ def wrong_sum(path: str) -> Optional[str]:
 
 
 def unpacked(folder: str, of: str = "") -> str:
-    """Unpacks the release of the version `of` (if empty, that of VERSION) into a folder, once its sum was compared.
+    """Unpacks the release of the version `of` (if empty, the one that is there) into a folder, once its sum was compared.
     Returns where its files stand."""
     path = archive(of)
     try:
         why = wrong_sum(path)
     except OSError as error:
         raise Missing(
-            f"there is no release of version {of or version()}: {os.path.relpath(error.filename, TOP)} is missing"
+            f"there is no release of version {of or released()}: {os.path.relpath(error.filename, TOP)} is missing"
         ) from error
     if why:
         raise Missing(why)
@@ -205,7 +210,7 @@ def chosen(name: str, folder: str) -> Program:
             path = os.path.join(unpacked(folder), "bin", name)
             is_other = made().get("sources") != digest()
             more = ", made of other sources than these" if is_other else ""
-            return Program(path, f"the released program, version {version()}{more}", is_other)
+            return Program(path, f"the released program, version {released()}{more}", is_other)
         except Missing as missing:
             why = str(missing)
     raise Missing(f'{name}: {why}, and none is built here (make prove); README.md has more under "Try it"')
