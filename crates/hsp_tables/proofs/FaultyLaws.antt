@@ -95,7 +95,7 @@ capacities_are_bad number a b c fault e = grind arith
 module _ {Row : Type 0} (table : Table Row) (read : ℕ → List ℕ → List ℕ → List ℕ → Result Row TableFault)
     (of : (number : ℕ) (fields : Fields) → table.row_in number fields ≡ of_three read number fields)
     (bad : (number : ℕ) (a b c : List ℕ) (fault : TableFault) → read number a b c ≡ Err fault
-        → (table.is_good 0 a && (table.is_good 1 b && table.is_good 2 c)) ≡ false) where
+    → (table.is_good 0 a && (table.is_good 1 b && table.is_good 2 c)) ≡ false) where
   fields_fault : (number : ℕ) (fields : Fields) (fault : TableFault) → of_three read number fields ≡ Err fault
       → is_of_field fault ≡ true → is_some (first_bad table.is_good fields) ≡ true
   fields_fault number [] fault e is = absurd (not_of_field fault number e is)

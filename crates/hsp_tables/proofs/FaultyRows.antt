@@ -53,7 +53,7 @@ pub checked_then : {Row E : Type 0} (table : Table Row) (number row : ℕ) (earl
     → OnOk result (rows ≡ with_good earlier (row_at table number earlier one.fields))
     → OnOk result (row ≡ next_row number)
     → IfOk result (λ checked. (more : List Placed)
-        → faulty_rows table number earlier (one ∷ more) ≡ listed checked (faulty_rows table row rows more))
+    → faulty_rows table number earlier (one ∷ more) ≡ listed checked (faulty_rows table row rows more))
 unfolding faulty_rows
 checked_then table number row earlier rows one (Ok checked) is kept next = λ more. rw (is, kept, next) refl
 checked_then table number row earlier rows one (Err lacking) is kept next = tt

@@ -136,7 +136,13 @@ impl<K: Kind> Kept<K> {
     {
         let row = self.row;
         self.row = row.saturating_add(1);
-        match add_record::<K>(alloc, &mut self.rows, &mut self.regions, row, placed.fields()) {
+        match add_record::<K>(
+            alloc,
+            &mut self.rows,
+            &mut self.regions,
+            row,
+            placed.fields(),
+        ) {
             Ok(()) => Ok(Checked::Good),
             Err(fault) => match fault {
                 TableFault::OutOfMemory => Err(AllocError),

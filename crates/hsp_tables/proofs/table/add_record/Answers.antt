@@ -12,7 +12,7 @@ returns-then-contains_key-clause-err g c =
     let entry = g.K.Kind.entry in
     let eq = g.K.Key.PartialEq.eq in
     let spells : Spells table entry eq g.met.K.Kind.same c.args.rows.now c.in_ok-key.key c.in_ok-key.number c.args.row
-        (fields_of c.args.fields.now) c.contains_key.result =
+    (fields_of c.args.fields.now) c.contains_key.result =
     record {
       room = omega (arith, c.len.ensures.len, c.most_rows.ensures);
       spells = rw c.in-Some.ensures.found c.in_ok-key.ensures;
@@ -26,7 +26,7 @@ returns-then-is_one_too_many-clause-err g c =
     let entry = g.K.Kind.entry in
     let eq = g.K.Key.PartialEq.eq in
     let spells : Spells table entry eq g.met.K.Kind.same c.args.rows.now c.in_ok-key.key c.in_ok-key.number c.args.row
-        (fields_of c.args.fields.now) c.contains_key.result =
+    (fields_of c.args.fields.now) c.contains_key.result =
     record {
       room = omega (arith, c.len.ensures.len, c.most_rows.ensures);
       spells = rw c.in-Some.ensures.found c.in_ok-key.ensures;
@@ -41,7 +41,7 @@ returns-clause-ok g c =
     let entry = g.K.Kind.entry in
     let eq = g.K.Key.PartialEq.eq in
     let spells : Spells table entry eq g.met.K.Kind.same c.args.rows.now c.in_ok-key.key c.in_ok-key.number c.args.row
-        (fields_of c.args.fields.now) c.contains_key.result =
+    (fields_of c.args.fields.now) c.contains_key.result =
     record {
       room = omega (arith, c.len.ensures.len, c.most_rows.ensures);
       spells = rw c.in-Some.ensures.found c.in_ok-key.ensures;
@@ -57,7 +57,7 @@ returns-clause-regions g c =
     let entry = g.K.Kind.entry in
     let eq = g.K.Key.PartialEq.eq in
     let spells : Spells table entry eq g.met.K.Kind.same c.args.rows.now c.in_ok-key.key c.in_ok-key.number c.args.row
-        (fields_of c.args.fields.now) c.contains_key.result =
+    (fields_of c.args.fields.now) c.contains_key.result =
     record {
       room = omega (arith, c.len.ensures.len, c.most_rows.ensures);
       spells = rw c.in-Some.ensures.found c.in_ok-key.ensures;
