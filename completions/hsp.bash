@@ -4,7 +4,7 @@ _hsp_commands() {
     case $1 in
         "") echo "demand doctor fleet new plan sites view whatif --help --version" ;;
         fleet) echo "demand dispatch --help" ;;
-        "doctor --") echo "locate site plan check dispatch report kinds places answer" ;;
+        "doctor --") echo "locate site plan check dispatch report kinds places answer faults" ;;
     esac
 }
 
@@ -28,6 +28,7 @@ _hsp_options() {
         "doctor -- kinds") echo "--settings --costs --log --values --unit --help" ;;
         "doctor -- places") echo "--settings --log --values --help" ;;
         "doctor -- answer") echo "--settings --demand --costs --capacity --plan --log --values --unit --fronts --front --help" ;;
+        "doctor -- faults") echo "--demand --costs --capacity --log --help" ;;
     esac
 }
 

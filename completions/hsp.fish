@@ -5,7 +5,7 @@ complete -c hsp -n "not __fish_seen_subcommand_from demand doctor fleet new plan
 complete -c hsp -n "not __fish_seen_subcommand_from demand doctor fleet new plan sites view whatif" -l version -d 'show the version'
 complete -c hsp -n "__fish_seen_subcommand_from fleet; and not __fish_seen_subcommand_from demand dispatch" -f -a "demand dispatch"
 complete -c hsp -n "__fish_seen_subcommand_from doctor new plan view whatif; and not __fish_seen_subcommand_from fleet; and not contains -- -- (commandline -opc)" -f -a "(__fish_complete_directories)"
-complete -c hsp -n "__fish_seen_subcommand_from doctor; and test (commandline -opc)[-1] = --" -f -a "locate site plan check dispatch report kinds places answer"
+complete -c hsp -n "__fish_seen_subcommand_from doctor; and test (commandline -opc)[-1] = --" -f -a "locate site plan check dispatch report kinds places answer faults"
 complete -c hsp -n "begin; __fish_seen_subcommand_from demand; and not __fish_seen_subcommand_from fleet; end; or begin; __fish_seen_subcommand_from fleet; and __fish_seen_subcommand_from demand; end" -l regions -r -F -d 'a table network,region, or a MaxMind database'
 complete -c hsp -n "begin; __fish_seen_subcommand_from demand; and not __fish_seen_subcommand_from fleet; end; or begin; __fish_seen_subcommand_from fleet; and __fish_seen_subcommand_from demand; end" -l into -x -a "(__fish_complete_directories)" -d 'the folder whose demand.csv is written'
 complete -c hsp -n "begin; __fish_seen_subcommand_from demand; and not __fish_seen_subcommand_from fleet; end; or begin; __fish_seen_subcommand_from fleet; and __fish_seen_subcommand_from demand; end" -l output -r -F -d 'the table, in place of DIR/demand.csv'

@@ -2,7 +2,7 @@
 
 _hsplan_stream_commands() {
     case $1 in
-        "") echo "kinds places answer --help --version" ;;
+        "") echo "kinds places answer faults --help --version" ;;
     esac
 }
 
@@ -11,6 +11,7 @@ _hsplan_stream_options() {
         "kinds") echo "--settings --costs --log --values --unit --help" ;;
         "places") echo "--settings --log --values --help" ;;
         "answer") echo "--settings --demand --costs --capacity --plan --log --values --unit --fronts --front --help" ;;
+        "faults") echo "--demand --costs --capacity --log --help" ;;
     esac
 }
 

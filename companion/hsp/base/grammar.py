@@ -32,6 +32,7 @@ COMMANDS: dict[str, Command] = {
         ("settings", "demand", "costs", "capacity", "plan", "log"),
         ("values", "unit", "fronts", "front"),
     ),
+    "faults": Command("hsplan-stream", (), ("demand", "costs", "capacity", "log")),
 }
 # What stands behind each option: a file, a number, or one of some words.
 VALUES: dict[str, str] = {
@@ -130,7 +131,7 @@ LARGEST_FILE = 67_108_864
 # The greatest length of the first line of an input, in octets.
 LONGEST_FIRST_LINE = 65_536
 
-# The greatest length of a row that reaches a desk whole, in octets.
+# The greatest length of a row that reaches a responder whole, in octets.
 LONGEST_ROW = 1_048_576
 
 # The most answers for which one query of a plan may stand.
