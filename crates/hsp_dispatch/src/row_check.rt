@@ -63,15 +63,19 @@ fn check_entry(
     ensures fault { IfErr result
         (λ e. (e ≡ OutOfMemory) ⊎ IsRowRefused (Entries form) row (fields_of «record».now) e) }
 {
-    let Some((_, field)) = two_fields(record) else {
+    let Some((_region, field)) = two_fields(record) else {
         return Err(LogFault::Fields { row });
     };
     match form {
-        Form::Handles => check_handle(field, row),
+        Form::Handles => {
+            check_handle(field, row)?;
+            Ok(())
+        }
         Form::Bodies => {
             let octets = octets_in(alloc, field, row)?;
             let request = request_in(&octets, row)?;
-            check_handle(request.handle(), row)
+            check_handle(request.handle(), row)?;
+            Ok(())
         }
     }
 }
@@ -81,11 +85,14 @@ fn check_event(row: u32, record: &ByteRecord) -> Result<(), LogFault>
     ensures good { OnOk result (IsSpelled Events (fields_of «record».now)) }
     ensures fault { IfErr result (IsRowRefused Events row (fields_of «record».now)) }
 {
-    let Some((front, _, handle)) = three_fields(record) else {
+    let Some((front, _region, handle)) = three_fields(record) else {
         return Err(LogFault::Fields { row });
     };
     match read_whole(front, 4_294_967_295) {
-        Ok(_) => check_handle(handle, row),
+        Ok(_) => {
+            check_handle(handle, row)?;
+            Ok(())
+        }
         Err(_) => Err(LogFault::BadFront { row }),
     }
 }

@@ -1,6 +1,19 @@
 // What looks at the rows of a table or a log.
 
 
+ghost use Rattle.std.specs.Prelude.{◌≡◌, ◌∷◌, IfErr, IfNone, IfOk, IfSome, List, OnOk};
+ghost use Rattle.csv.specs.Records.{fields_of};
+ghost use Rattle.hsp_csv.specs.Found.{place_at};
+ghost use Rattle.hsp_csv.specs.Places.{Placed};
+ghost use Rattle.hsp_csv.specs.Walks.{shown};
+ghost use Rattle.hsp_csv.specs.declared.found.Checked.TheVariants.{Faulty, Last};
+ghost use Rattle.hsp_csv.specs.declared.found.Found.{Found as FoundFault};
+ghost use Rattle.hsp_stream.specs.declared.fault.StreamFault.{StreamFault};
+ghost use Rattle.hsp_faulty.specs.Checkers.{IsReady, Lists, LooksAt, checked_named};
+ghost use Rattle.hsp_faulty.specs.Faulty.{IsDispatched, IsHeadedBy, IsUnheaded, ListsBelow, counted, counted_field};
+ghost use Rattle.hsp_faulty.specs.Faulty.{fault_of_table, found_at, found_beyond, handle_field, handled};
+ghost use Rattle.hsp_faulty.specs.Faulty.{header_fault, named};
+
 use csv::ByteRecord;
 use hsp_csv::{Checked, Found, Place, PlacedRecord};
 use hsp_dispatch::{LogFault, LogForm, check_row, field_at_fault, log_form_of};
@@ -23,6 +36,7 @@ pub enum Asked {
 
 /// The fault of one of the tables.
 pub(crate) fn fault_of_table(kind: TableKind, fault: TableFault) -> StreamFault
+    ensures { result ≡ fault_of_table kind fault }
 {
     match kind {
         TableKind::Demand => StreamFault::Input(Fault::Demand(fault)),
@@ -33,10 +47,54 @@ pub(crate) fn fault_of_table(kind: TableKind, fault: TableFault) -> StreamFault
 
 /// The fault of a first record that is no header.
 pub(crate) fn header_fault(asked: Asked) -> StreamFault
+    ensures { result ≡ header_fault asked }
 {
     match asked {
         Asked::Table(kind) => fault_of_table(kind, TableFault::Header),
         Asked::Log => StreamFault::Input(Fault::Log(LogFault::Header)),
+    }
+}
+
+/// What a header states: a table, or a form of a log.
+#[derive(Clone, Copy, PartialEq, Eq)]
+pub(crate) enum Headed {
+    Table(TableKind),
+    Dispatched(LogForm),
+    Counted,
+    Handles,
+}
+
+// The form of a log with this header.
+fn log_headed_by(first: &ByteRecord) -> Option<Headed>
+    ensures headed { IfSome result (IsHeadedBy Asked.Log (fields_of first.now)) }
+    ensures unheaded { IfNone result (IsUnheaded Asked.Log (fields_of first.now)) }
+{
+    if let Some(form) = log_form_of(first) {
+        return Some(Headed::Dispatched(form));
+    }
+    if is_count_header(first) {
+        return Some(Headed::Counted);
+    }
+    if is_handle_header(first) {
+        return Some(Headed::Handles);
+    }
+    None
+}
+
+/// What a first record states, or None where it is no header of what is asked for.
+pub(crate) fn headed_by(asked: Asked, first: &ByteRecord) -> Option<Headed>
+    ensures headed { IfSome result (IsHeadedBy asked (fields_of first.now)) }
+    ensures unheaded { IfNone result (IsUnheaded asked (fields_of first.now)) }
+{
+    match asked {
+        Asked::Table(kind) => {
+            if is_table_header(kind, first) {
+                Some(Headed::Table(kind))
+            } else {
+                None
+            }
+        }
+        Asked::Log => log_headed_by(first),
     }
 }
 
@@ -49,22 +107,10 @@ pub(crate) enum Checker {
     Handles(u64),
 }
 
-// What looks at the rows of a log with this header.
-fn log_checker(first: &ByteRecord) -> Option<Checker> {
-    if let Some(form) = log_form_of(first) {
-        return Some(Checker::Dispatched(form, 0));
-    }
-    if is_count_header(first) {
-        return Some(Checker::Counted(0));
-    }
-    if is_handle_header(first) {
-        return Some(Checker::Handles(0));
-    }
-    None
-}
-
 // The same fault of a row of a table, by the table's name.
-fn found_in_table(kind: TableKind, found: Found<TableFault>) -> Found<StreamFault> {
+fn found_in_table(kind: TableKind, found: Found<TableFault>) -> Found<StreamFault>
+    ensures { result ≡ named kind found }
+{
     Found {
         row: found.row,
         field: found.field,
@@ -73,7 +119,9 @@ fn found_in_table(kind: TableKind, found: Found<TableFault>) -> Found<StreamFaul
     }
 }
 
-fn checked_in_table(kind: TableKind, checked: Checked<TableFault>) -> Checked<StreamFault> {
+fn checked_in_table(kind: TableKind, checked: Checked<TableFault>) -> Checked<StreamFault>
+    ensures { result ≡ checked_named kind checked }
+{
     match checked {
         Checked::Good => Checked::Good,
         Checked::Faulty(found) => Checked::Faulty(found_in_table(kind, found)),
@@ -82,7 +130,9 @@ fn checked_in_table(kind: TableKind, checked: Checked<TableFault>) -> Checked<St
 }
 
 // Where a field of a record begins or, where there is no one field, the record.
-fn place_at(placed: &PlacedRecord, field: Option<u32>) -> Place {
+fn place_at(placed: &PlacedRecord, field: Option<u32>) -> Place
+    ensures { result ≡ place_at (shown placed.now) field }
+{
     match field {
         Some(field) => placed.place(field),
         None => placed.begin(),
@@ -95,7 +145,9 @@ fn faulty(
     row: u64,
     field: Option<u32>,
     fault: StreamFault,
-) -> Checked<StreamFault> {
+) -> Checked<StreamFault>
+    ensures { result ≡ Faulty (found_at (shown placed.now) row field fault) }
+{
     Checked::Faulty(Found {
         row: Some(row),
         field,
@@ -105,7 +157,9 @@ fn faulty(
 }
 
 // A row that is one too many.
-fn too_long(placed: &PlacedRecord) -> Checked<StreamFault> {
+fn too_long(placed: &PlacedRecord) -> Checked<StreamFault>
+    ensures { result ≡ Last (found_beyond (shown placed.now)) }
+{
     Checked::Last(Found {
         row: None,
         field: None,
@@ -120,7 +174,9 @@ fn check_dispatched(
     form: LogForm,
     row: u32,
     placed: &PlacedRecord,
-) -> Result<Checked<StreamFault>, AllocError> {
+) -> Result<Checked<StreamFault>, AllocError>
+    ensures { IfOk result (IsDispatched form row (shown placed.now)) }
+{
     if row >= MOST_LOG_ROWS {
         return Ok(too_long(placed));
     }
@@ -140,7 +196,9 @@ fn check_dispatched(
 }
 
 // The number of the field at fault of a row with a region, a handle and a count.
-fn counted_field(fault: &RowFault) -> Option<u32> {
+fn counted_field(fault: &RowFault) -> Option<u32>
+    ensures { result ≡ counted_field fault.now }
+{
     match fault {
         RowFault::BadName { .. } => Some(0),
         RowFault::BadHandle { .. } => Some(1),
@@ -150,7 +208,9 @@ fn counted_field(fault: &RowFault) -> Option<u32> {
 }
 
 // The number of the field at fault of a row with a handle.
-fn handle_field(fault: &RowFault) -> Option<u32> {
+fn handle_field(fault: &RowFault) -> Option<u32>
+    ensures { result ≡ handle_field fault.now }
+{
     match fault {
         RowFault::BadHandle { .. } => Some(0),
         _ => None,
@@ -158,7 +218,9 @@ fn handle_field(fault: &RowFault) -> Option<u32> {
 }
 
 // Looks at a row of a region, a handle and a count.
-fn check_counted(row: u64, placed: &PlacedRecord) -> Checked<StreamFault> {
+fn check_counted(row: u64, placed: &PlacedRecord) -> Checked<StreamFault>
+    ensures { result ≡ counted row (shown placed.now) }
+{
     match count_fault(row, placed.fields()) {
         None => Checked::Good,
         Some(fault) => {
@@ -169,7 +231,9 @@ fn check_counted(row: u64, placed: &PlacedRecord) -> Checked<StreamFault> {
 }
 
 // Looks at a row of a handle.
-fn check_handle(row: u64, placed: &PlacedRecord) -> Checked<StreamFault> {
+fn check_handle(row: u64, placed: &PlacedRecord) -> Checked<StreamFault>
+    ensures { result ≡ handled row (shown placed.now) }
+{
     match handle_fault(row, placed.fields()) {
         None => Checked::Good,
         Some(fault) => {
@@ -180,16 +244,17 @@ fn check_handle(row: u64, placed: &PlacedRecord) -> Checked<StreamFault> {
 }
 
 impl Checker {
-    /// What looks at the rows below this header, or None where it is no header of what is asked for.
-    pub(crate) fn below(alloc: Global, asked: Asked, first: &ByteRecord) -> Option<Checker> {
-        match asked {
-            Asked::Table(kind) => {
-                if !is_table_header(kind, first) {
-                    return None;
-                }
-                Some(Checker::Table(kind, TableCheck::new(alloc, kind)))
-            }
-            Asked::Log => log_checker(first),
+    /// What looks at the rows below a header.
+    pub(crate) fn below(alloc: Global, headed: Headed) -> Checker
+        ensures ready { IsReady result }
+        ensures lists { (body : List Placed) (all : List (FoundFault StreamFault)) →
+            Lists result body all → ListsBelow headed body all }
+    {
+        match headed {
+            Headed::Table(kind) => Checker::Table(kind, TableCheck::new(alloc, kind)),
+            Headed::Dispatched(form) => Checker::Dispatched(form, 0),
+            Headed::Counted => Checker::Counted(0),
+            Headed::Handles => Checker::Handles(0),
         }
     }
 
@@ -198,7 +263,11 @@ impl Checker {
         &mut self,
         alloc: Global,
         placed: &PlacedRecord,
-    ) -> Result<Checked<StreamFault>, AllocError> {
+    ) -> Result<Checked<StreamFault>, AllocError>
+        requires { IsReady self.old }
+        ensures ready { OnOk result (IsReady self.new) }
+        ensures looks { IfOk result (LooksAt self.old (shown placed.now) self.new) }
+    {
         match self {
             Checker::Table(kind, rows) => {
                 let checked = rows.check(alloc, placed)?;

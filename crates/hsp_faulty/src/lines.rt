@@ -1,6 +1,9 @@
 // Faulty rows as lines.
 
 
+ghost use Rattle.std.specs.Prelude.{◌≡◌, ◌++◌, OnOk};
+ghost use Rattle.hsp_faulty.specs.Lines.{line_of, number_text};
+
 use hsp_csv::Found;
 use hsp_stream::{StreamFault, push_fault_words};
 use hsp_text::push_whole;
@@ -11,6 +14,7 @@ pub(crate) const HEADER_LINE: &[u8] = b"row,line,field,octet,fault\n";
 
 // Appends the digits of a number, where there is one, and a comma.
 fn push_number(line: &mut Vec<u8>, number: Option<u64>) -> Result<(), AllocError>
+    ensures { OnOk result (line.new.items ≡ line.old.items ++ number_text number) }
 {
     if let Some(number) = number {
         push_whole(line, number)?;
@@ -21,6 +25,7 @@ fn push_number(line: &mut Vec<u8>, number: Option<u64>) -> Result<(), AllocError
 
 // The number of a field in 64 bits.
 fn wide(field: Option<u32>) -> Option<u64>
+    ensures { result ≡ field }
 {
     match field {
         Some(field) => Some(u64::from(field)),
@@ -30,6 +35,7 @@ fn wide(field: Option<u32>) -> Option<u64>
 
 /// Appends the line of a faulty row.
 pub(crate) fn push_found(line: &mut Vec<u8>, found: &Found<StreamFault>) -> Result<(), AllocError>
+    ensures { OnOk result (line.new.items ≡ line.old.items ++ line_of found.now) }
 {
     push_number(line, found.row)?;
     push_number(line, Some(found.place.line))?;
