@@ -210,12 +210,12 @@ def faults_of(program: str, case: Case, way: Way, folder: str) -> list[str]:
     return misjudged(program, case, way[0], folder, got[0])
 
 
-def all_faults(program: str, room: str) -> list[str]:
-    """The faults of all cases of hsplan with a program. No allocation is refused."""
+def all_faults(program: str, room: str, name: str = "hsplan") -> list[str]:
+    """The faults of all cases of a folder with a program hsplan. No allocation is refused."""
     data = base("hsplan", room, program)
     return [
         fault
-        for case in cases_in("hsplan")
+        for case in cases_in(name)
         for folder in [folder_of(case, room, data)]
         for way in case.ways()
         for fault in faults_of(program, case, way, folder)
