@@ -1,22 +1,11 @@
-use crate::fakes::{ALL, FakeReader, FakeWriter, Limits, Lines, ONE_BY_ONE, Rows};
+use crate::fakes::{ALL, FakeReader, FakeWriter, Lines, ONE_BY_ONE, Rows};
+use crate::log_cases::*;
 use crate::same::is_same;
-use crate::worked::{best_fronts, held_fronts, held_instance, instance, left_at_two};
+use crate::worked::{best_fronts, held_fronts, held_instance, instance};
 use hsp_dispatch::*;
 use hsp_instance::Instance;
 use std::alloc::Global;
 use std::process::Abort;
-
-// A log over two fronts of the worked instance, how it is read and written, and what comes of it.
-#[derive(Clone, Copy)]
-struct Case {
-    log: &'static [u8],
-    read: Limits,
-    written: Limits,
-    may_flush: bool,
-    ends: Result<FrontSums, LogFault>,
-    lines: &'static [u8],
-    left: [u64; 4],
-}
 
 const LOG: &[u8] =
     b"front,region,handle\n1,r1,10/1\n0,r1,10/1\n1,r1,10/1\n1,r1,10/1\n1,r2,10/3\n2,r1,10/1\n0,r9,10/1\n";
@@ -27,16 +16,10 @@ const LINES: &[u8] =
 // What fronts 0 and 1 have at first for row 0 at E, and then for row 2 at W.
 const SHARES: [u64; 4] = [3, 2, 1, 1];
 
-const NONE: FrontSums = FrontSums {
-    assigned: 0,
-    spent: 0,
-    unknown: 0,
-    no_front: 0,
-};
-
 // The worked log, read and written whole.
 fn worked() -> Case {
     Case {
+        by: Answerers::TwoFronts,
         log: LOG,
         read: ALL,
         written: ALL,
@@ -71,48 +54,6 @@ fn plain(
 // A log of which nothing is answered before the fault.
 fn refused(log: &'static [u8], fault: LogFault) -> Case {
     plain(log, Err(fault), b"", SHARES)
-}
-
-// What a case leaves with its writer and with its fronts.
-fn leaves(rt: &impl Abort, case: Case, writer: &FakeWriter, fronts: &Fronts<'_>) {
-    is_same(rt, writer.taken.as_slice(), case.lines);
-    is_same(rt, left_at_two(fronts), case.left);
-    is_same(rt, writer.is_flushed, case.ends.is_ok());
-}
-
-// Runs a case by two fronts of the worked plan.
-fn run(
-    rt: &impl Abort,
-    alloc: Global,
-    instance: &Instance,
-    case: Case,
-) -> Result<FrontSums, LogFault> {
-    let mut writer = FakeWriter::within(rt, alloc, case.written);
-    writer.may_flush = case.may_flush;
-    let reader = FakeReader::within(case.log, case.read);
-    let mut fronts = held_fronts(rt, alloc, instance, 2);
-    let ends = run_fronts(alloc, reader, &mut writer, &mut fronts);
-    if ends != Err(LogFault::OutOfMemory) {
-        leaves(rt, case, &writer, &fronts);
-    }
-    ends
-}
-
-// The case comes out. Where a growth is refused, the second run finds memory.
-fn comes(rt: &impl Abort, alloc: Global, case: Case) {
-    let instance = held_instance(rt, alloc);
-    let ends = match run(rt, alloc, &instance, case) {
-        Err(LogFault::OutOfMemory) => run(rt, alloc, &instance, case),
-        ends => ends,
-    };
-    is_same(rt, ends, case.ends);
-}
-
-// So does each of these.
-fn all_come(rt: &impl Abort, alloc: Global, cases: &[Case]) {
-    for case in cases {
-        comes(rt, alloc, *case);
-    }
 }
 
 #[test]
@@ -206,37 +147,14 @@ fn a_faulty_event_is_refused(rt: HostRuntime) {
 
 #[test]
 fn failing_reads_and_writes_are_reported_at_fronts(rt: HostRuntime) {
-    let cut_line = Case {
-        written: Limits {
-            piece: usize::MAX,
-            good: 10,
-        },
-        ends: Err(LogFault::WriteFailed),
-        lines: b"assigned E",
-        left: [3, 1, 1, 1],
-        ..worked()
+    let cuts = Cuts {
+        after_line: [3, 1, 1, 1],
+        good: 42,
+        two_lines: b"assigned E 1 3\nassigned E 1 3\n",
+        after_rows: [2, 1, 1, 1],
+        at_first: SHARES,
     };
-    let unflushed = Case {
-        may_flush: false,
-        ends: Err(LogFault::WriteFailed),
-        ..worked()
-    };
-    // The reader fails behind the second row.
-    let cut_log = Case {
-        read: Limits { piece: 1, good: 42 },
-        ends: Err(LogFault::ReadFailed),
-        lines: b"assigned E 1 3\nassigned E 1 3\n",
-        left: [2, 1, 1, 1],
-        ..worked()
-    };
-    let no_log = Case {
-        read: Limits { piece: 1, good: 0 },
-        ends: Err(LogFault::ReadFailed),
-        lines: b"",
-        left: SHARES,
-        ..worked()
-    };
-    all_come(&rt, rt.alloc(), &[cut_line, unflushed, cut_log, no_log]);
+    all_fail(&rt, rt.alloc(), worked(), cuts);
 }
 
 // The lists of two fronts, merged in several ways: each is a log, and the lines of front 0 and of front 1 in it, one
@@ -334,11 +252,7 @@ fn run_longest<'a>(alloc: Global, fronts: &mut Fronts<'a>) -> Option<(LogFault, 
         row: b"0,a,b/\n",
         times: 10_000_001,
     };
-    let mut lines = Lines {
-        wanted: b"unknown\n",
-        many: 0,
-        others: 0,
-    };
+    let mut lines = unknown_lines();
     match run_fronts(alloc, rows, &mut lines, fronts) {
         Err(LogFault::OutOfMemory) if lines.many == 0 => None,
         Err(fault) => Some((fault, lines)),
@@ -352,10 +266,7 @@ fn is_too_long(rt: &impl Abort, alloc: Global, fronts: &mut Fronts<'_>) {
         None => run_longest(alloc, fronts),
         ran => ran,
     };
-    let (fault, lines) = ran.expect(rt, "a log that is too long");
-    is_same(rt, fault, LogFault::LogTooLong);
-    is_same(rt, lines.many, 10_000_000);
-    is_same(rt, lines.others, 0);
+    was_too_long(rt, ran);
 }
 
 // The same by two fronts of the worked plan of an instance.

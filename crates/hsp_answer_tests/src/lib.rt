@@ -14,6 +14,8 @@ mod front_run_tests;
 #[cfg(test)]
 mod fronts_tests;
 #[cfg(test)]
+mod log_cases;
+#[cfg(test)]
 mod report_tests;
 #[cfg(test)]
 mod run_tests;

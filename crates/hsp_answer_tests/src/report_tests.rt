@@ -332,85 +332,63 @@ fn is_shortage(rt: &impl Abort, alloc: Global, instance: &Instance, certificate:
     assert!(rt; certificate.as_short().is_some());
 }
 
-// The report of loads of a plan.
-fn loads_of(
-    rt: &impl Abort,
-    alloc: Global,
-    instance: &Instance,
-    certificate: &Certificate,
-) -> Vec<u8> {
-    is_plan(rt, alloc, instance, certificate);
-    match load_report(alloc, instance, certificate) {
-        Ok(text) => text,
-        Err(AllocError) => load_report(alloc, instance, certificate).expect(rt, "there is memory"),
+// What is reported of a certificate.
+#[derive(Clone, Copy)]
+enum Report {
+    Loads,
+    Regions,
+    Shortage,
+}
+
+// An instance and its certificate.
+#[derive(Clone, Copy)]
+struct Held<'a> {
+    instance: &'a Instance,
+    certificate: &'a Certificate,
+}
+
+fn both<'a>(instance: &'a Instance, certificate: &'a Certificate) -> Held<'a> {
+    Held {
+        instance,
+        certificate,
     }
 }
 
-// It is the wanted one.
-fn loads_are(
+// The report of a certificate of its kind, unless memory runs out.
+fn reported(
     rt: &impl Abort,
     alloc: Global,
-    instance: &Instance,
-    certificate: &Certificate,
-    wanted: &[u8],
-) {
-    let text = loads_of(rt, alloc, instance, certificate);
-    is_same(rt, text.as_slice(), wanted);
-}
-
-// The report of regions of a plan.
-fn regions_of(
-    rt: &impl Abort,
-    alloc: Global,
-    instance: &Instance,
-    certificate: &Certificate,
-) -> Vec<u8> {
-    is_plan(rt, alloc, instance, certificate);
-    match region_report(alloc, instance, certificate) {
-        Ok(text) => text,
-        Err(AllocError) => {
-            region_report(alloc, instance, certificate).expect(rt, "there is memory")
+    report: Report,
+    held: Held<'_>,
+) -> Result<Vec<u8>, AllocError> {
+    let (instance, certificate) = (held.instance, held.certificate);
+    match report {
+        Report::Loads => {
+            is_plan(rt, alloc, instance, certificate);
+            load_report(alloc, instance, certificate)
+        }
+        Report::Regions => {
+            is_plan(rt, alloc, instance, certificate);
+            region_report(alloc, instance, certificate)
+        }
+        Report::Shortage => {
+            is_shortage(rt, alloc, instance, certificate);
+            shortage_report(alloc, instance, certificate)
         }
     }
 }
 
-// It is the wanted one.
-fn regions_are(
-    rt: &impl Abort,
-    alloc: Global,
-    instance: &Instance,
-    certificate: &Certificate,
-    wanted: &[u8],
-) {
-    let text = regions_of(rt, alloc, instance, certificate);
-    is_same(rt, text.as_slice(), wanted);
-}
-
-// The report of a short set.
-fn shortage_of(
-    rt: &impl Abort,
-    alloc: Global,
-    instance: &Instance,
-    certificate: &Certificate,
-) -> Vec<u8> {
-    is_shortage(rt, alloc, instance, certificate);
-    match shortage_report(alloc, instance, certificate) {
+// The report. Where a growth is refused, the second call finds memory.
+fn report_of(rt: &impl Abort, alloc: Global, report: Report, held: Held<'_>) -> Vec<u8> {
+    match reported(rt, alloc, report, held) {
         Ok(text) => text,
-        Err(AllocError) => {
-            shortage_report(alloc, instance, certificate).expect(rt, "there is memory")
-        }
+        Err(AllocError) => reported(rt, alloc, report, held).expect(rt, "there is memory"),
     }
 }
 
 // It is the wanted one.
-fn shortage_is(
-    rt: &impl Abort,
-    alloc: Global,
-    instance: &Instance,
-    certificate: &Certificate,
-    wanted: &[u8],
-) {
-    let text = shortage_of(rt, alloc, instance, certificate);
+fn report_is(rt: &impl Abort, alloc: Global, report: Report, held: Held<'_>, wanted: &[u8]) {
+    let text = report_of(rt, alloc, report, held);
     is_same(rt, text.as_slice(), wanted);
 }
 
@@ -418,11 +396,12 @@ fn shortage_is(
 fn loads_of_the_base_are_reported(rt: HostRuntime) {
     let certificate = plan_of(&rt, rt.alloc(), BEST);
     let instance = held_instance(&rt, rt.alloc(), BASE);
-    loads_are(
+    let held = both(&instance, &certificate);
+    report_is(
         &rt,
         rt.alloc(),
-        &instance,
-        &certificate,
+        Report::Loads,
+        held,
         b"place     server       load   capacity         price site\n    \
         0          7          4         10             0 E\n    \
         1          3          6          6             1 E\n    \
@@ -436,11 +415,12 @@ fn loads_of_the_base_are_reported(rt: HostRuntime) {
 fn regions_of_the_base_are_reported(rt: HostRuntime) {
     let certificate = plan_of(&rt, rt.alloc(), BEST);
     let instance = held_instance(&rt, rt.alloc(), BASE);
-    regions_are(
+    let held = both(&instance, &certificate);
+    report_is(
         &rt,
         rt.alloc(),
-        &instance,
-        &certificate,
+        Report::Regions,
+        held,
         b"    demand             cost region\n         9                9 r1\n         3                8 r2\n\
         total 12 17\n",
     );
@@ -450,11 +430,12 @@ fn regions_of_the_base_are_reported(rt: HostRuntime) {
 fn a_shortage_is_reported(rt: HostRuntime) {
     let certificate = short_set(&rt, rt.alloc());
     let instance = held_instance(&rt, rt.alloc(), SHORT);
-    shortage_is(
+    let held = both(&instance, &certificate);
+    report_is(
         &rt,
         rt.alloc(),
-        &instance,
-        &certificate,
+        Report::Shortage,
+        held,
         b"short 9 - 8 = 1\n row   count region\n   2       9 r2\n\
         place     server   capacity site\n    1          3          6 E\n    0          1          2 W\n",
     );
@@ -464,11 +445,12 @@ fn a_shortage_is_reported(rt: HostRuntime) {
 fn nothing_is_reported_of_no_demand(rt: HostRuntime) {
     let certificate = plan_of(&rt, rt.alloc(), EMPTY);
     let instance = held_instance(&rt, rt.alloc(), IDLE);
-    loads_are(
+    let held = both(&instance, &certificate);
+    report_is(
         &rt,
         rt.alloc(),
-        &instance,
-        &certificate,
+        Report::Loads,
+        held,
         b"place     server       load   capacity         price site\n    \
         0          7          0         10             0 E\n    \
         1          3          0          6             0 E\n    \
@@ -476,11 +458,11 @@ fn nothing_is_reported_of_no_demand(rt: HostRuntime) {
         1          2          0         10             0 W\n    2          9          0         10             0 W\n\
         bound 0 - 0 = 0\n",
     );
-    regions_are(
+    report_is(
         &rt,
         rt.alloc(),
-        &instance,
-        &certificate,
+        Report::Regions,
+        held,
         b"    demand             cost region\ntotal 0 0\n",
     );
 }
@@ -489,7 +471,8 @@ fn nothing_is_reported_of_no_demand(rt: HostRuntime) {
 fn a_host_counts_in_the_bound(rt: HostRuntime) {
     let certificate = plan_of(&rt, rt.alloc(), BEST_HOSTED);
     let instance = held_instance(&rt, rt.alloc(), HOSTED);
-    let text = loads_of(&rt, rt.alloc(), &instance, &certificate);
+    let held = both(&instance, &certificate);
+    let text = report_of(&rt, rt.alloc(), Report::Loads, held);
     assert!(rt; text.ends_with(b"\nbound 51 - 28 = 23\n"), "{text:?}");
 }
 
@@ -497,20 +480,21 @@ fn a_host_counts_in_the_bound(rt: HostRuntime) {
 fn sums_may_be_wider_than_64_bits(rt: HostRuntime) {
     let certificate = alike_plan(&rt, rt.alloc(), WIDE_PLAN);
     let instance = held_instance(&rt, rt.alloc(), WIDE);
-    loads_are(
+    let held = both(&instance, &certificate);
+    report_is(
         &rt,
         rt.alloc(),
-        &instance,
-        &certificate,
+        Report::Loads,
+        held,
         b"place     server       load   capacity         price site\n    \
         0          7   20000000   20000000  999999000000 X\n\
         bound 20000000000000000000 - 19999980000000000000 = 20000000000000\n",
     );
-    regions_are(
+    report_is(
         &rt,
         rt.alloc(),
-        &instance,
-        &certificate,
+        Report::Regions,
+        held,
         b"    demand             cost region\n  20000000   20000000000000 r1\ntotal 20000000 20000000000000\n",
     );
 }
@@ -519,20 +503,21 @@ fn sums_may_be_wider_than_64_bits(rt: HostRuntime) {
 fn names_stand_whole(rt: HostRuntime) {
     let certificate = plan_of(&rt, rt.alloc(), LONG_PLAN);
     let instance = held_instance(&rt, rt.alloc(), LONG);
-    loads_are(
+    let held = both(&instance, &certificate);
+    report_is(
         &rt,
         rt.alloc(),
-        &instance,
-        &certificate,
+        Report::Loads,
+        held,
         b"place     server       load   capacity         price site\n    \
         0          7          2          5             0 S234567890123456789012345678901234567890123456789012345678901\
         23s\nbound 6 - 0 = 6\n",
     );
-    regions_are(
+    report_is(
         &rt,
         rt.alloc(),
-        &instance,
-        &certificate,
+        Report::Regions,
+        held,
         b"    demand             cost region\n         \
         2                6 R23456789012345678901234567890123456789012345678901234567890123r\ntotal 2 6\n",
     );
@@ -542,19 +527,20 @@ fn names_stand_whole(rt: HostRuntime) {
 fn loads_and_regions_of_many_rows_are_reported(rt: HostRuntime) {
     let certificate = alike_plan(&rt, rt.alloc(), PLAN_OF_MANY);
     let instance = instance_of_many(&rt, rt.alloc(), b"site,server_id,capacity\nX,7,6000\n");
-    loads_are(
+    let held = both(&instance, &certificate);
+    report_is(
         &rt,
         rt.alloc(),
-        &instance,
-        &certificate,
+        Report::Loads,
+        held,
         b"place     server       load   capacity         price site\n    \
         0          7       5000       6000             0 X\nbound 5000 - 0 = 5000\n",
     );
-    regions_are(
+    report_is(
         &rt,
         rt.alloc(),
-        &instance,
-        &certificate,
+        Report::Regions,
+        held,
         b"    demand             cost region\n      5000             5000 r1\ntotal 5000 5000\n",
     );
 }
@@ -575,6 +561,7 @@ fn is_long_shortage(rt: &impl Abort, text: &[u8]) {
 fn a_shortage_of_many_rows_is_reported(rt: HostRuntime) {
     let certificate = short_of_one(&rt, rt.alloc());
     let instance = instance_of_many(&rt, rt.alloc(), b"site,server_id,capacity\nX,7,4999\n");
-    let text = shortage_of(&rt, rt.alloc(), &instance, &certificate);
+    let held = both(&instance, &certificate);
+    let text = report_of(&rt, rt.alloc(), Report::Shortage, held);
     is_long_shortage(&rt, &text);
 }

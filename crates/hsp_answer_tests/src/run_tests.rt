@@ -1,38 +1,28 @@
-use crate::fakes::{ALL, FakeReader, FakeWriter, Limits, Lines, ONE_BY_ONE, Rows};
-use crate::same::is_same;
-use crate::worked::{best_dispatcher, held_dispatcher, held_instance, instance, left_of};
+use crate::fakes::{ALL, Lines, ONE_BY_ONE, Rows};
+use crate::log_cases::*;
+use crate::worked::{best_dispatcher, instance};
 use hsp_dispatch::*;
 use hsp_instance::Instance;
 use std::alloc::Global;
 use std::process::Abort;
 
-// A log over the worked instance, how it is read and written, and what comes of it.
-#[derive(Clone, Copy)]
-struct Case {
-    log: &'static [u8],
-    read: Limits,
-    written: Limits,
-    may_flush: bool,
-    ends: Result<LogSums, LogFault>,
-    lines: &'static [u8],
-    left: [u64; 4],
-}
-
 const LOG: &[u8] = b"region,handle\nr2,10/3\nr2,10/3\nr2,10/3\nr2,10/3\nr9,10/3\n";
 
 const LINES: &[u8] = b"assigned E 1 3\nassigned W 0 1\nassigned W 0 1\nspent\nunknown\n";
 
-fn sums(assigned: u64, spent: u64, unknown: u64) -> Result<LogSums, LogFault> {
-    Ok(LogSums {
+fn sums(assigned: u64, spent: u64, unknown: u64) -> Result<FrontSums, LogFault> {
+    Ok(FrontSums {
         assigned,
         spent,
         unknown,
+        ..NONE
     })
 }
 
 // The worked log, read and written whole.
 fn worked() -> Case {
     Case {
+        by: Answerers::Dispatcher,
         log: LOG,
         read: ALL,
         written: ALL,
@@ -49,7 +39,7 @@ const WHOLE_PLAN: [u64; 4] = [1, 2, 5, 4];
 // What a log that is read and written whole comes to.
 fn plain(
     log: &'static [u8],
-    ends: Result<LogSums, LogFault>,
+    ends: Result<FrontSums, LogFault>,
     lines: &'static [u8],
     left: [u64; 4],
 ) -> Case {
@@ -70,48 +60,6 @@ fn answered(log: &'static [u8]) -> Case {
 // A log of which nothing is answered before the fault.
 fn refused(log: &'static [u8], fault: LogFault) -> Case {
     plain(log, Err(fault), b"", WHOLE_PLAN)
-}
-
-// What a case leaves with its writer and with its dispatcher.
-fn leaves(rt: &impl Abort, case: Case, writer: &FakeWriter, dispatcher: &Dispatcher<'_>) {
-    is_same(rt, writer.taken.as_slice(), case.lines);
-    is_same(rt, left_of(dispatcher), case.left);
-    is_same(rt, writer.is_flushed, case.ends.is_ok());
-}
-
-// Runs a case by the worked plan.
-fn run(
-    rt: &impl Abort,
-    alloc: Global,
-    instance: &Instance,
-    case: Case,
-) -> Result<LogSums, LogFault> {
-    let mut writer = FakeWriter::within(rt, alloc, case.written);
-    writer.may_flush = case.may_flush;
-    let reader = FakeReader::within(case.log, case.read);
-    let mut dispatcher = held_dispatcher(rt, alloc, instance);
-    let ends = run_log(alloc, reader, &mut writer, &mut dispatcher);
-    if ends != Err(LogFault::OutOfMemory) {
-        leaves(rt, case, &writer, &dispatcher);
-    }
-    ends
-}
-
-// The case comes out. Where a growth is refused, the second run finds memory.
-fn comes(rt: &impl Abort, alloc: Global, case: Case) {
-    let instance = held_instance(rt, alloc);
-    let ends = match run(rt, alloc, &instance, case) {
-        Err(LogFault::OutOfMemory) => run(rt, alloc, &instance, case),
-        ends => ends,
-    };
-    is_same(rt, ends, case.ends);
-}
-
-// So does each of these.
-fn all_come(rt: &impl Abort, alloc: Global, cases: &[Case]) {
-    for case in cases {
-        comes(rt, alloc, *case);
-    }
 }
 
 #[test]
@@ -201,37 +149,14 @@ fn a_faulty_row_ends_the_run_after_the_others(rt: HostRuntime) {
 
 #[test]
 fn failing_reads_and_writes_are_reported(rt: HostRuntime) {
-    let cut_line = Case {
-        written: Limits {
-            piece: usize::MAX,
-            good: 10,
-        },
-        ends: Err(LogFault::WriteFailed),
-        lines: b"assigned E",
-        left: [0, 2, 5, 4],
-        ..worked()
+    let cuts = Cuts {
+        after_line: [0, 2, 5, 4],
+        good: 32,
+        two_lines: b"assigned E 1 3\nassigned W 0 1\n",
+        after_rows: [0, 1, 5, 4],
+        at_first: WHOLE_PLAN,
     };
-    let unflushed = Case {
-        may_flush: false,
-        ends: Err(LogFault::WriteFailed),
-        ..worked()
-    };
-    // The reader fails behind the second row.
-    let cut_log = Case {
-        read: Limits { piece: 1, good: 32 },
-        ends: Err(LogFault::ReadFailed),
-        lines: b"assigned E 1 3\nassigned W 0 1\n",
-        left: [0, 1, 5, 4],
-        ..worked()
-    };
-    let no_log = Case {
-        read: Limits { piece: 1, good: 0 },
-        ends: Err(LogFault::ReadFailed),
-        lines: b"",
-        left: WHOLE_PLAN,
-        ..worked()
-    };
-    all_come(&rt, rt.alloc(), &[cut_line, unflushed, cut_log, no_log]);
+    all_fail(&rt, rt.alloc(), worked(), cuts);
 }
 
 // Runs the log of one row more than there may be. None where a growth is refused before its first row.
@@ -241,11 +166,7 @@ fn run_longest<'a>(alloc: Global, dispatcher: &mut Dispatcher<'a>) -> Option<(Lo
         row: b"a,b/\n",
         times: 10_000_001,
     };
-    let mut lines = Lines {
-        wanted: b"unknown\n",
-        many: 0,
-        others: 0,
-    };
+    let mut lines = unknown_lines();
     match run_log(alloc, rows, &mut lines, dispatcher) {
         Err(LogFault::OutOfMemory) if lines.many == 0 => None,
         Err(fault) => Some((fault, lines)),
@@ -259,10 +180,7 @@ fn is_too_long(rt: &impl Abort, alloc: Global, dispatcher: &mut Dispatcher<'_>) 
         None => run_longest(alloc, dispatcher),
         ran => ran,
     };
-    let (fault, lines) = ran.expect(rt, "a log that is too long");
-    is_same(rt, fault, LogFault::LogTooLong);
-    is_same(rt, lines.many, 10_000_000);
-    is_same(rt, lines.others, 0);
+    was_too_long(rt, ran);
 }
 
 // The same by the worked plan of an instance.

@@ -118,14 +118,14 @@ fn drawn_lists(alloc: Global, seed: u32) -> Result<Lists, AllocError> {
 // What became of networks: for how many nothing was proposed, for how many a plan or a short set was, and how many of
 // those were refused.
 #[derive(Clone, Copy, Default)]
-struct Tally {
+struct Outcomes {
     declined: u64,
     met: u64,
     short: u64,
     refused: u64,
 }
 
-impl Tally {
+impl Outcomes {
     // Notes an outcome that is proposed for the network.
     fn note_outcome(
         &mut self,
@@ -168,19 +168,19 @@ impl Tally {
     }
 }
 
-fn tally_of(alloc: Global, many: u32) -> Result<Tally, Failure> {
-    let mut tally = Tally::default();
+fn outcomes_of(alloc: Global, many: u32) -> Result<Outcomes, Failure> {
+    let mut outcomes = Outcomes::default();
     for seed in 0..many {
-        tally.note_seed(alloc, seed)?;
+        outcomes.note_seed(alloc, seed)?;
     }
-    Ok(tally)
+    Ok(outcomes)
 }
 
 /// Proposes outcomes for `many` small networks, and prints how many are accepted.
 pub(crate) fn count_accepted<R: AllocGlobal + Print>(rt: &R, many: u32) -> Result<(), Failure> {
-    let tally = tally_of(rt.alloc(), many)?;
-    let (met, short) = (tally.met, tally.short);
-    let (declined, refused) = (tally.declined, tally.refused);
+    let outcomes = outcomes_of(rt.alloc(), many)?;
+    let (met, short) = (outcomes.met, outcomes.short);
+    let (declined, refused) = (outcomes.declined, outcomes.refused);
     println!(rt;
         "networks: {met} proposed as met, {short} as short, {declined} without a proposal, {refused} refused"
     )?;

@@ -14,7 +14,7 @@ use std::io;
 // for how many the searches find another cost or kind, and for how many the checker refuses one of the two
 // certificates.
 #[derive(Clone, Copy, Default)]
-struct Tally {
+struct Outcomes {
     planned: u64,
     taken: u64,
     met: u64,
@@ -23,7 +23,7 @@ struct Tally {
     refused: u64,
 }
 
-impl Tally {
+impl Outcomes {
     // Notes what became of one instance.
     fn note(&mut self, planned: &Planned) {
         let is_met = planned.cost.is_some();
@@ -108,26 +108,26 @@ fn plan_seed(alloc: Global, seed: u32) -> Result<Planned, Failure> {
     plan_both(alloc, &instance)
 }
 
-fn tally_of(alloc: Global, many: u32) -> Result<Tally, Failure> {
-    let mut tally = Tally::default();
+fn outcomes_of(alloc: Global, many: u32) -> Result<Outcomes, Failure> {
+    let mut outcomes = Outcomes::default();
     for seed in 0..many {
         let planned = plan_seed(alloc, seed)?;
-        tally.note(&planned);
+        outcomes.note(&planned);
     }
-    Ok(tally)
+    Ok(outcomes)
 }
 
-fn print_tally<R: Print>(rt: &R, tally: &Tally) -> io::Result<()> {
-    let (taken, planned) = (tally.taken, tally.planned);
-    let (met, short) = (tally.met, tally.short);
-    let (differing, refused) = (tally.differing, tally.refused);
+fn print_outcomes<R: Print>(rt: &R, outcomes: &Outcomes) -> io::Result<()> {
+    let (taken, planned) = (outcomes.taken, outcomes.planned);
+    let (met, short) = (outcomes.met, outcomes.short);
+    let (differing, refused) = (outcomes.differing, outcomes.refused);
     print!(rt; "proposals: {taken} taken of {planned}, {met} met, {short} short, ")?;
     println!(rt; "{differing} of another cost than by searches, {refused} refused by the checker")
 }
 
 /// Plans `many` small instances by proposals and by searches, and prints what became of them.
 pub(crate) fn count_proposals<R: AllocGlobal + Print>(rt: &R, many: u32) -> Result<(), Failure> {
-    let tally = tally_of(rt.alloc(), many)?;
-    print_tally(rt, &tally)?;
+    let outcomes = outcomes_of(rt.alloc(), many)?;
+    print_outcomes(rt, &outcomes)?;
     Ok(())
 }

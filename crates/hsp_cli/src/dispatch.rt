@@ -51,8 +51,8 @@ pub fn open_log<S: FileSource>(
     })
 }
 
-// Whether lines may stand before the fault that are still to be handed on. At a fault of the inputs or the certificate
-// there are none, and what a failed write left isn't tried again.
+// Whether output may still be buffered when this fault ends the run. Before a fault of the inputs or of the certificate
+// nothing is written, and what a failed write left is not tried again.
 fn may_follow_lines(fault: &Fault) -> bool
     ensures lines { IsTrue result → MayFollowLines fault.now }
     ensures no_lines { IsFalse result → LeavesNoLines fault.now }
