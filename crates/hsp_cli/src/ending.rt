@@ -23,8 +23,8 @@ pub fn last_line(alloc: Global, ended: &Result<Completed, Failure>) -> Result<Ve
     }
 }
 
-// Writes a text, and returns the status, which becomes 5 where the write failed.
-fn write_line<E: Output>(errors: &mut E, line: &[u8], status: u8) -> u8
+/// Writes a text, and returns the status, which becomes 5 where the write failed.
+pub fn write_line<E: Output>(errors: &mut E, line: &[u8], status: u8) -> u8
     ensures reports { ReportsBy E.may_fail line.now status (E.contents errors.old)
         (E.contents errors.new) result }
     ensures handed { IsHandedWith E.may_fail (E.contents errors.new) (E.handed errors.new) result }

@@ -15,7 +15,7 @@ mod words;
 pub use answer::{Answer, Completed};
 pub use commands::obey;
 pub use dispatch::{OpenLog, open_log};
-pub use ending::{end_with, last_line};
+pub use ending::{end_with, last_line, write_line};
 pub use failure::Failure;
 pub use files::{FileSource, OpenFile, read_whole};
 pub use inputs::{read_inputs, read_named};

@@ -1,11 +1,10 @@
 // How the program ends: its last line, and its status.
 
 ghost use Rattle.std.specs.Prelude.{◌≡◌, IfOk};
-ghost use Rattle.hsp_cli.specs.Ending.{IsHandedWith, ReportsBy};
 ghost use Rattle.hsp_stream_cli.specs.Ending.{Ends, IsHandedOrUntouched, failure_text, last_text, status_after};
 
 use crate::failure::StreamFailure;
-use hsp_cli::Output;
+use hsp_cli::{Output, write_line};
 use hsp_stream::{StreamSums, stream_fault_line, stream_status, stream_sums_line};
 use std::alloc::{AllocError, Global};
 
@@ -48,18 +47,6 @@ pub fn status_after(ended: &Result<Option<StreamSums>, StreamFailure>) -> u8
         Err(StreamFailure::Read | StreamFailure::Write) => 5,
         Err(StreamFailure::Refused(fault)) => stream_status(fault),
         Err(StreamFailure::Faulty) => 1,
-    }
-}
-
-// Writes a text, and returns the status, which becomes 5 where the write failed.
-fn write_line<E: Output>(errors: &mut E, line: &[u8], status: u8) -> u8
-    ensures reports { ReportsBy E.may_fail line.now status (E.contents errors.old)
-        (E.contents errors.new) result }
-    ensures handed { IsHandedWith E.may_fail (E.contents errors.new) (E.handed errors.new) result }
-{
-    match errors.put(line) {
-        Ok(()) => status,
-        Err(_) => 5,
     }
 }
 
