@@ -11,17 +11,20 @@ no_mark : (a b c : ℕ) (rest : List ℕ) → is_bom a b c ≡ false → strip_b
 unfolding strip_bom
 no_mark a b c rest other = rw other refl
 
+-- a text with another first octet has no mark
 other_first : (a : ℕ) (rest : List ℕ) → a ≢ 0xEF → strip_bom (a ∷ rest) ≡ a ∷ rest
 unfolding strip_bom
 other_first a [] other = refl
 other_first a (b ∷ []) other = refl
 other_first a (b ∷ c ∷ rest) other = no_mark a b c rest (grind (arith, nat_tests))
 
+-- nor has one with another second octet
 other_second : (a b : ℕ) (rest : List ℕ) → b ≢ 0xBB → strip_bom (a ∷ b ∷ rest) ≡ a ∷ b ∷ rest
 unfolding strip_bom
 other_second a b [] other = refl
 other_second a b (c ∷ rest) other = no_mark a b c rest (grind (arith, nat_tests))
 
+-- nor has one with another third octet
 other_third : (a b c : ℕ) (rest : List ℕ) → c ≢ 0xBF → strip_bom (a ∷ b ∷ c ∷ rest) ≡ a ∷ b ∷ c ∷ rest
 other_third a b c rest other = no_mark a b c rest (grind (arith, nat_tests))
 
@@ -36,6 +39,7 @@ keeps_on (Some xs) (Some ys) (Some zs) a b = b ∙ a
 abbrev IsUnmarked : List ℕ → Option (List ℕ) → Type 0
 IsUnmarked ahead rest = (octets : List ℕ) → rest ≡ Some octets → strip_bom (ahead ++ octets) ≡ ahead ++ octets
 
+-- octets without a mark are passed over by none
 unmarked : (text rest : Option (List ℕ)) (ahead : List ℕ) → Keeps text (prepend_known ahead rest)
     → IsUnmarked ahead rest → PassesMark text (prepend_known ahead rest) 0
 unmarked None rest ahead keeps is = tt
@@ -45,11 +49,13 @@ unmarked (Some text) (Some octets) ahead keeps is =
     let whole : strip_bom text ≡ text = rw (← keeps) same in
     (keeps ∙ sym whole, omega (arith, ap (length {A = ℕ}) whole))
 
+-- what is there is one
 some_is : {A : Type 0} (x y : A) → Some x ≡ Some y → x ≡ y
 some_is x y e = cc
 
 -- the first octet isn't the mark's, or there is none
-pub stops_first : (text rest : Option (List ℕ)) (none ahead : List ℕ) → none ≡ [] → Keeps text (prepend_known ahead rest)
+pub stops_first : (text rest : Option (List ℕ)) (none ahead : List ℕ) → none ≡ []
+    → Keeps text (prepend_known ahead rest)
     → Looks 0xEF none ahead rest false → PassesMark text (prepend_known ahead rest) 0
 unfolding strip_bom
 stops_first text rest none ahead empty keeps (inl (octet, other, is)) =

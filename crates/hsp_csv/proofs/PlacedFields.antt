@@ -1,5 +1,6 @@
 -- Records with their places are the records, and each field has a place.
-use Rattle.std.proofs.Common.{◌≡◌, ◌+◌, ◌∙◌, ℕ, zero, suc, List, [], ◌∷◌, ◌++◌, length, map, Option, Some, None, option_map}
+use Rattle.std.proofs.Common.{◌≡◌, ◌+◌, ◌∙◌, ℕ, zero, suc, List, [], ◌∷◌, ◌++◌, length, map, Option, Some, None}
+use Rattle.std.proofs.Common.{option_map}
 use Rattle.std.proofs.Common.{Bool, true, false, cond, refl, sym, ap, arith}
 use Rattle.std.proofs.lemmas.List.{length-append}
 use Rattle.std.specs.List.{AllByRecursion}
@@ -9,7 +10,8 @@ use Rattle.csv.specs.declared.parser.Action.{Action}
 use Rattle.csv.specs.declared.parser.Action.TheVariants as action
 use Rattle.csv.specs.declared.parser.State.{State}
 use Rattle.csv.specs.declared.parser.State.TheVariants as state
-use Rattle.hsp_csv.specs.Places.{IsWhole, Placed, Walk, ends_record, fields_in, fresh, placed_from, placed_next, placed_of}
+use Rattle.hsp_csv.specs.Places.{IsWhole, Placed, Walk, ends_record, fields_in, fresh, placed_from, placed_next}
+use Rattle.hsp_csv.specs.Places.{placed_of}
 use Rattle.hsp_csv.specs.Places.{places_after, start_of, walk_after, walk_at_end, walk_to_end}
 use Rattle.hsp_csv.specs.Records.{Fields, records_of}
 use Rattle.hsp_csv.specs.declared.place.Place.{Place}
@@ -31,7 +33,9 @@ walk_is_bare walk [] = by_end (ends_at_end walk.state)
 walk_is_bare walk (octet ∷ rest) = by_end (ends_record walk octet) (walk_is_bare (walk_after walk octet) rest)
   where
     next : Option Read
-    next = next_record default_config (walk_after walk octet).state (walk_after walk octet).fields (walk_after walk octet).field rest
+    next =
+        next_record default_config (walk_after walk octet).state (walk_after walk octet).fields
+        (walk_after walk octet).field rest
 
     by_end : (ended : Bool) → option_map bare (walk_to_end (walk_after walk octet) rest) ≡ next
         → option_map bare (cond ended (Some (walk_after walk octet, rest)) (walk_to_end (walk_after walk octet) rest))
@@ -49,11 +53,14 @@ records_are (suc most) s at octets =
     ∙ ap (records_next (records_from default_config most)) (walk_is_bare (fresh s at) octets)
   where
     by_read : (read : Option (Walk × List ℕ))
-        → ((s2 : State) (at2 : Place) (rest : List ℕ) → fields_in (placed_from most s2 at2 rest) ≡ records_from default_config most s2 rest)
-        → fields_in (placed_next (placed_from most) read) ≡ records_next (records_from default_config most) (option_map bare read)
+        → ((s2 : State) (at2 : Place) (rest : List ℕ)
+        → fields_in (placed_from most s2 at2 rest) ≡ records_from default_config most s2 rest)
+        → fields_in (placed_next (placed_from most) read)
+        ≡ records_next (records_from default_config most) (option_map bare read)
     by_read None later = refl
     by_read (Some read) later = ap (λ (t : List Fields). read.0.fields ∷ t) (later read.0.state read.0.at read.1)
 
+-- the fields of placed records are the records of the text
 pub placed_are_records : (text : List ℕ) → fields_in (placed_of text) ≡ records_of text
 placed_are_records text = records_are _ state.StartRecord (start_of text) _
 
@@ -67,6 +74,7 @@ whole_by action.EndField fields field places held is =
 whole_by action.EndRecord fields field places held is =
     rw (length-append places (held ∷ []), length-append fields (field ∷ []), is) refl
 
+-- a reading has one value
 same_read : (x y : Walk × List ℕ) → Some x ≡ Some y → x ≡ y
 same_read x y e = cc
 
@@ -79,7 +87,8 @@ walk_is_whole walk [] read is e = by_end (ends_at_end walk.state) e
     by_end : (begun : Bool) → cond begun (Some (walk_at_end walk, [])) None ≡ Some read
         → length read.0.places ≡ length read.0.fields
     by_end true same =
-        rw (← same_read (walk_at_end walk, []) read same) (rw (length-append walk.places (walk.held ∷ []), length-append walk.fields (walk.field ∷ []), is) refl)
+        rw (← same_read (walk_at_end walk, []) read same)
+        (rw (length-append walk.places (walk.held ∷ []), length-append walk.fields (walk.field ∷ []), is) refl)
     by_end false same = cc same
 walk_is_whole walk (octet ∷ rest) read is e =
     let after : length (walk_after walk octet).places ≡ length (walk_after walk octet).fields
@@ -94,7 +103,8 @@ walk_is_whole walk (octet ∷ rest) read is e =
     by_end false after later same = later same
 
 -- so are all
-all_whole : (most : ℕ) (s : State) (at : Place) (octets : List ℕ) → AllByRecursion IsWhole (placed_from most s at octets)
+all_whole : (most : ℕ) (s : State) (at : Place) (octets : List ℕ)
+    → AllByRecursion IsWhole (placed_from most s at octets)
 unfolding placed_from
 all_whole zero s at octets = tt
 all_whole (suc most) s at octets = by_read (walk_to_end (fresh s at) octets) refl (all_whole most)
@@ -106,5 +116,6 @@ all_whole (suc most) s at octets = by_read (walk_to_end (fresh s at) octets) ref
     by_read (Some read) e later =
         (walk_is_whole (fresh s at) octets read refl e, later read.0.state read.0.at read.1)
 
+-- each placed record has a place for each field
 pub placed_are_whole : (text : List ℕ) → AllByRecursion IsWhole (placed_of text)
 placed_are_whole text = all_whole _ state.StartRecord (start_of text) _

@@ -17,6 +17,7 @@ Ended = Walk × List ℕ
 abbrev IsNearer : List ℕ → Ended → Type 0
 IsNearer octets read = (length read.1 < length octets) ⊎ ((read.0.state ≡ state.StartRecord) × (read.1 ≡ []))
 
+-- a reading has one value
 same_read : (x y : Ended) → Some x ≡ Some y → x ≡ y
 same_read x y e = cc
 
@@ -25,6 +26,7 @@ read_at_end : (begun : Bool) (x y : Ended) → cond begun (Some x) None ≡ Some
 read_at_end true x y e = cc
 read_at_end false x y e = cc
 
+-- what is nearer to the end is nearer by one octet more
 nearer_by_one : (octet : ℕ) (octets : List ℕ) (read : Ended) → IsNearer octets read → IsNearer (octet ∷ octets) read
 nearer_by_one octet octets read (inl fewer) = inl (omega arith)
 nearer_by_one octet octets read (inr ended) = inr ended

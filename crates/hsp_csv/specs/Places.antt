@@ -1,6 +1,7 @@
 -- Where the records of a text and their fields begin: in which line, and behind how many octets.
 --
--- The machine of the `csv` crate takes the text octet by octet. A record begins at the octet that takes the machine from
+-- The machine of the `csv` crate takes the text octet by octet. A record begins at the octet that takes the machine
+-- from
 -- between two records into one, and each further field behind the octet that ends the field before it.
 use Rattle.std.specs.Prelude.{◌≡◌, ◌+◌, ◌-◌, ◌^◌, ◌==◌, ◌&&◌, ◌||◌, ⊤, Bool, true, false, not, ℕ, zero, suc, List, []}
 use Rattle.std.specs.Prelude.{◌∷◌, ◌++◌, length, min, get_or, map, Option, Some, None, option_map, if◌then◌else◌}

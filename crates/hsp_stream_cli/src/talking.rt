@@ -31,7 +31,7 @@ fn state_to<P: Peer>(
     }
 }
 
-// States places, where the peer is a log that is read and an output that is written, and says what the output has taken.
+// States places, where the peer is a log that is read and an output that is written, and says what the output takes.
 fn state_joined<F: OpenFile, O: Output>(
     alloc: Global,
     sources: &Sources,
@@ -125,7 +125,7 @@ fn answer_to<P: Peer>(
     }
 }
 
-// Answers rows, where the peer is a log that is read and an output that is written, and says what the output has taken.
+// Answers rows, where the peer is a log that is read and an output that is written, and says what the output takes.
 fn answer_joined<F: OpenFile, O: Output>(
     alloc: Global,
     inputs: &Inputs,

@@ -1,5 +1,6 @@
 -- The faulty rows of a table.
-use Rattle.std.proofs.Common.{◌≡◌, ◌≢◌, ◌∙◌, ◌⊎◌, inl, inr, ℕ, Bool, List, [], ◌∷◌, length, Option, Some, None, Result, Ok, Err, refl, sym, arith}
+use Rattle.std.proofs.Common.{◌≡◌, ◌≢◌, ◌∙◌, ◌⊎◌, inl, inr, ℕ, Bool, List, [], ◌∷◌, length, Option, Some, None, Result}
+use Rattle.std.proofs.Common.{Ok, Err, refl, sym, arith}
 use Rattle.std.proofs.Common.{IfOk, OnOk}
 use Rattle.hsp_csv.specs.Found.{listed}
 use Rattle.hsp_csv.specs.Places.{Placed}
@@ -21,18 +22,23 @@ no_field is_good (a ∷ b ∷ c ∷ []) other = absurd (other refl)
 no_field is_good (a ∷ b ∷ c ∷ d ∷ more) other = refl
 
 -- what a record with a fault is
-checked_by_fault : {Row : Type 0} (table : Table Row) (number : ℕ) (one : Placed) (fault : TableFault) → fault ≢ TooManyRows
-    → checked_as table number one (Err fault) ≡ Faulty (found_at number one fault (field_at_fault table fault one.fields))
+checked_by_fault : {Row : Type 0} (table : Table Row) (number : ℕ) (one : Placed) (fault : TableFault)
+    → fault ≢ TooManyRows
+    → checked_as table number one (Err fault)
+    ≡ Faulty (found_at number one fault (field_at_fault table fault one.fields))
 checked_by_fault table number one TooManyRows other = absurd (other refl)
 checked_by_fault table number one fault other = refl
 
-pub checked_faulty : {Row : Type 0} (table : Table Row) (number : ℕ) (one : Placed) (read : Result Row TableFault) (fault : TableFault) → fault ≢ TooManyRows
+-- a row that is refused is listed with its fault, its number and its field
+pub checked_faulty : {Row : Type 0} (table : Table Row) (number : ℕ) (one : Placed) (read : Result Row TableFault)
+    (fault : TableFault) → fault ≢ TooManyRows
     → read ≡ Err fault
     → checked_as table number one read ≡ Faulty (found_at number one fault (field_at_fault table fault one.fields))
 checked_faulty table number one read fault other e = rw e (checked_by_fault table number one fault other)
 
 -- a refused record of a table without its rows
-pub refused_alone : {Item Row : Type 0} (read : Reading Item Row) (earlier : List Row) (item : Item) (fault : TableFault)
+pub refused_alone : {Item Row : Type 0} (read : Reading Item Row) (earlier : List Row) (item : Item)
+    (fault : TableFault)
     → with_row read earlier item ≡ Err fault → read earlier item ≡ Err fault
 refused_alone read earlier item fault e = grind arith
 
@@ -42,7 +48,8 @@ not_memory (inl a) other = absurd (other a)
 not_memory (inr b) other = b
 
 -- a record with a fault adds no row
-pub none_added : {Row : Type 0} (earlier : List Row) (read : Result Row TableFault) (fault : TableFault) → read ≡ Err fault
+pub none_added : {Row : Type 0} (earlier : List Row) (read : Result Row TableFault) (fault : TableFault)
+    → read ≡ Err fault
     → earlier ≡ with_good earlier read
 none_added earlier read fault e = rw e refl
 

@@ -79,7 +79,8 @@ fault_in (Err fault) = Some fault
 
 -- the first fault of the list is the one by which the table is refused, and there is none where it is read
 abbrev pub BeginsWithTheFault : {Row : Type 0} → Table Row → Type 0
-BeginsWithTheFault table = (all : List Placed) → first_fault (faults_of table all) ≡ fault_in (table_of table (fields_in all))
+BeginsWithTheFault table =
+    (all : List Placed) → first_fault (faults_of table all) ≡ fault_in (table_of table (fields_in all))
 
 -- a fault of one field has a field that is not as it should be
 abbrev pub HasItsField : {Row : Type 0} → Table Row → Type 0

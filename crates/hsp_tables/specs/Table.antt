@@ -1,5 +1,6 @@
 -- A table: the records of a text as rows under a header, or the first fault.
-use Rattle.std.specs.Prelude.{◌≡◌, ◌≢◌, ◌≤◌, ◌↔◌, ◌⊎◌, Bool, ℕ, List, [], ◌∷◌, ◌++◌, length, fold, map, nat_le, nat_lt, Result}
+use Rattle.std.specs.Prelude.{◌≡◌, ◌≢◌, ◌≤◌, ◌↔◌, ◌⊎◌, Bool, ℕ, List, [], ◌∷◌, ◌++◌, length, fold, map, nat_le, nat_lt}
+use Rattle.std.specs.Prelude.{Result}
 use Rattle.std.specs.Prelude.{Ok, Err, if◌then◌else◌}
 use Rattle.std.specs.List.{IsDistinct, list_any}
 use Rattle.std.specs.Str.{bytes_eq}

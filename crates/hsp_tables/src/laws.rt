@@ -42,7 +42,6 @@ pub fn fault_of_settings_is_first()
 
 /// The list of the faulty rows of a table begins with the fault by which the table is refused, and is empty where the
 /// table is read.
-#[tactic(auto, using(crate::proofs::FaultyLaws::demand_begins, crate::proofs::FaultyLaws::costs_begin, crate::proofs::FaultyLaws::capacities_begin))]
 pub fn faults_begin_with_the_first()
     ensures demand { BeginsWithTheFault demand_table }
     ensures costs { BeginsWithTheFault cost_table }
@@ -50,7 +49,6 @@ pub fn faults_begin_with_the_first()
 {}
 
 /// A fault of one field has a field: the first one that is not as it should be.
-#[tactic(auto, using(crate::proofs::FaultyLaws::demand_has_its_field, crate::proofs::FaultyLaws::costs_have_their_field, crate::proofs::FaultyLaws::capacities_have_their_field))]
 pub fn faults_have_their_field()
     ensures demand { HasItsField demand_table }
     ensures costs { HasItsField cost_table }

@@ -1,7 +1,7 @@
 // Tables: rows under a header, each found by its key.
 
-ghost use Rattle.std.specs.Prelude.{◌≡◌, ◌≢◌, ◌<◌, ◌≤◌, ◌^◌, ◌⊎◌, [], ◌∷◌, ℕ, Some, None, Ok, Err, length, map, nat_lt, option_map};
-ghost use Rattle.std.specs.Prelude.{if◌then◌else◌, OnOk, IfErr};
+ghost use Rattle.std.specs.Prelude.{◌≡◌, ◌≢◌, ◌<◌, ◌≤◌, ◌^◌, ◌⊎◌, [], ◌∷◌, ℕ, Some, None, Ok, Err, length, map};
+ghost use Rattle.std.specs.Prelude.{nat_lt, option_map, if◌then◌else◌, OnOk, IfErr};
 ghost use Rattle.csv.specs.Records.{fields_of};
 ghost use Rattle.std.specs.Str.{bytes_eq};
 ghost use Rattle.indexmap.specs.IndexSet.{insert_key};
@@ -90,8 +90,8 @@ fn is_one_too_many<K: Kind>(regions: &Regions, key: &K::Key) -> bool
     }
 }
 
-// Adds the row of a further record, which has a number, to the rows and its region to the regions. Where the record has a
-// fault, they stay as they are.
+// Adds the row of a further record, which has a number, to the rows and its region to the regions. Where the record
+// has a fault, they stay as they are.
 pub(crate) fn add_record<K: Kind>(
     alloc: Global,
     rows: &mut IndexMap<K::Key, u64>,

@@ -18,7 +18,9 @@ returns-then-contains_key-clause-err g c =
       spells = rw c.in-Some.ensures.found c.in_ok-key.ensures;
       looked = c.contains_key.ensures;
     } in
-    inr (kept_twice table entry eq g.met.K.Kind.same c.args.rows.now c.in_ok-key.key c.in_ok-key.number _ _ _ spells c.if-contains_key.true)
+    inr
+    (kept_twice table entry eq g.met.K.Kind.same c.args.rows.now c.in_ok-key.key c.in_ok-key.number _ _ _ spells
+    c.if-contains_key.true)
 
 pub returns-then-is_one_too_many-clause-err : goal.returns-then-is_one_too_many-clause-err
 returns-then-is_one_too_many-clause-err g c =
@@ -32,8 +34,11 @@ returns-then-is_one_too_many-clause-err g c =
       spells = rw c.in-Some.ensures.found c.in_ok-key.ensures;
       looked = c.contains_key.ensures;
     } in
-    let many = sym (rw c.requires.regions at (c.is_one_too_many.ensures c.in_ok-key.number)) ∙ c.if-is_one_too_many.true in
-    inr (kept_too_many table entry eq g.met.K.Kind.same c.args.rows.now c.in_ok-key.key c.in_ok-key.number _ _ _ spells c.if-contains_key.false many)
+    let many =
+    sym (rw c.requires.regions at (c.is_one_too_many.ensures c.in_ok-key.number)) ∙ c.if-is_one_too_many.true in
+    inr
+    (kept_too_many table entry eq g.met.K.Kind.same c.args.rows.now c.in_ok-key.key c.in_ok-key.number _ _ _ spells
+    c.if-contains_key.false many)
 
 pub returns-clause-ok : goal.returns-clause-ok
 returns-clause-ok g c =
@@ -47,8 +52,10 @@ returns-clause-ok g c =
       spells = rw c.in-Some.ensures.found c.in_ok-key.ensures;
       looked = c.contains_key.ensures;
     } in
-    let few = sym (rw c.requires.regions at (c.is_one_too_many.ensures c.in_ok-key.number)) ∙ c.if-is_one_too_many.false in
-    kept_next table entry eq g.met.K.Kind.same c.args.rows.now c.in_ok-key.key c.in_ok-key.number _ _ _ spells c.if-contains_key.false
+    let few =
+    sym (rw c.requires.regions at (c.is_one_too_many.ensures c.in_ok-key.number)) ∙ c.if-is_one_too_many.false in
+    kept_next table entry eq g.met.K.Kind.same c.args.rows.now c.in_ok-key.key c.in_ok-key.number _ _ _ spells
+    c.if-contains_key.false
     c.insert.new.self.entries c.in_ok-insert.ensures.entries few
 
 pub returns-clause-regions : goal.returns-clause-regions
@@ -64,7 +71,8 @@ returns-clause-regions g c =
       looked = c.contains_key.ensures;
     } in
     rw (c.in_ok-see_region.ensures.ok c.in_ok-key.number, c.requires.regions)
-    (kept_regions table entry eq g.met.K.Kind.same c.args.rows.now c.in_ok-key.key c.in_ok-key.number _ _ _ spells c.if-contains_key.false
+    (kept_regions table entry eq g.met.K.Kind.same c.args.rows.now c.in_ok-key.key c.in_ok-key.number _ _ _ spells
+    c.if-contains_key.false
     c.insert.new.self.entries c.in_ok-insert.ensures.entries)
 
 pub returns-clause-few : goal.returns-clause-few

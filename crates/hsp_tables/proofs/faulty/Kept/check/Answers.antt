@@ -13,7 +13,9 @@ returns-in_default g c =
     let read = row_at table c.args.self.now.row earlier (shown c.args.placed.now).fields in
     let err = not_memory c.in-Err.ensures.err c.in_default.not-OutOfMemory in
     let kept = not_memory c.in-Err.ensures.kept c.in_default.not-OutOfMemory in
-    let refused : read ≡ Err c.in-Err.fault = rw (← c.fields.ensures) (refused_alone (row_at table c.args.self.now.row) earlier (fields_of c.fields.result.now) c.in-Err.fault err) in
+    let refused : read ≡ Err c.in-Err.fault =
+    rw (← c.fields.ensures)
+    (refused_alone (row_at table c.args.self.now.row) earlier (fields_of c.fields.result.now) c.in-Err.fault err) in
     record {
       checked = c.faulty.ensures read refused;
       rows = rw kept.0 (none_added earlier read c.in-Err.fault refused);

@@ -14,11 +14,13 @@ returns-in-Demand-clause-checked c =
 pub returns-in-Costs-clause-checked : goal.returns-in-Costs-clause-checked
 returns-in-Costs-clause-checked c =
     let checked = c.check-in-Costs.ensures in
-    rw c.in-Costs.is (checked_then cost_table c.in-Costs.kept.row _ _ _ (shown c.args.placed.now) c.check-in-Costs.result
+    rw c.in-Costs.is
+    (checked_then cost_table c.in-Costs.kept.row _ _ _ (shown c.args.placed.now) c.check-in-Costs.result
     checked.checked checked.rows checked.row)
 
 pub returns-in-Capacity-clause-checked : goal.returns-in-Capacity-clause-checked
 returns-in-Capacity-clause-checked c =
     let checked = c.check-in-Capacity.ensures in
-    rw c.in-Capacity.is (checked_then capacity_table c.in-Capacity.kept.row _ _ _ (shown c.args.placed.now) c.check-in-Capacity.result
+    rw c.in-Capacity.is
+    (checked_then capacity_table c.in-Capacity.kept.row _ _ _ (shown c.args.placed.now) c.check-in-Capacity.result
     checked.checked checked.rows checked.row)
