@@ -73,7 +73,7 @@ def test_a_long_line_of_settings_is_shown_by_its_ends(hsp: Hsp, example: Callabl
     line = 'name = "' + "a" * 40 + "b" * 40
     (folder / "settings.toml").write_text(f"[[site]]\n{line}\n")
     said = hsp("doctor", str(folder), status=1).stdout
-    assert_kept("commands", "a long line of settings", said.replace(str(folder), "FOLDER"))
+    assert_kept("planted", "a long line of settings", said.replace(str(folder), "FOLDER"))
 
 
 @pytest.mark.parametrize("name", ["demand.csv", "costs.csv", "settings.toml"])
@@ -84,7 +84,7 @@ def test_an_absent_file_and_a_folder_are_named(hsp: Hsp, example: Callable[[str]
     (folder / name).mkdir()
     is_folder = hsp("plan", str(folder), status=5)
     said = f"{absent.stdout}{absent.stderr}{is_folder.stdout}{is_folder.stderr}".replace(str(folder), "FOLDER")
-    assert_kept("commands", f"{name} is absent, and is a folder", said)
+    assert_kept("planted", f"{name} is absent, and is a folder", said)
 
 
 def test_two_points_are_both_ends(hsp: Hsp, example: Callable[[str], Path]) -> None:
@@ -114,7 +114,7 @@ def test_a_site_of_an_answer_goes_by_its_index(hsp: Hsp, tmp_path: Path) -> None
     (tmp_path / "answer.json").write_text(json.dumps(answer))
     said = hsp("sites", str(tmp_path / "answer.json"), "--into", str(tmp_path))
     text = (tmp_path / "settings.toml").read_text()
-    assert_kept("commands", "sites of an answer by their indices", f"{said.stdout}{text}".replace(str(tmp_path), "F"))
+    assert_kept("planted", "sites of an answer by their indices", f"{said.stdout}{text}".replace(str(tmp_path), "F"))
 
 
 def test_a_value_list_that_is_cut_gives_no_cut_site(hsp: Hsp, tmp_path: Path) -> None:
@@ -123,7 +123,7 @@ def test_a_value_list_that_is_cut_gives_no_cut_site(hsp: Hsp, tmp_path: Path) ->
         (tmp_path / "list.values").write_bytes(octets[:end])
         said = hsp("sites", str(tmp_path / "list.values"), "--into", str(tmp_path), status=1)
         assert_kept(
-            "commands", f"a value list of {end} octets", f"{said.stdout}{said.stderr}".replace(str(tmp_path), "F")
+            "planted", f"a value list of {end} octets", f"{said.stdout}{said.stderr}".replace(str(tmp_path), "F")
         )
 
 
