@@ -6,12 +6,12 @@ import os
 import re
 from collections.abc import Iterator
 
-from hsp.base.grammar import GREATEST_COUNT, GREATEST_UNIT, LOG_HEADERS, MOST_DEMAND_ROWS, MOST_REGIONS
+from hsp.base.grammar import GREATEST_COUNT, GREATEST_UNIT
 from hsp.base.numbers import listed, some
 from hsp.base.paths import shell_word
 from hsp.doctor.findings import Place, Text, Words, found, quoted
 from hsp.doctor.question import Question, Said
-from hsp.doctor.table_faults import Explained, renumbered, spot_of
+from hsp.doctor.table_faults import Explained
 
 AGAIN = "print it again: hsplan plan .. > plan.txt"
 # The reasons of a no, and the file that they speak of.
@@ -129,51 +129,6 @@ def wrong_kind(question: Question, said: Said) -> Explained:
         "the demand can't be met" if is_shortage else "the demand can be met",
     )
     return Explained(found(text.path, text.whole(2), words, said.line), [])
-
-
-def body_words(body: str) -> tuple[str, str]:
-    """Why the body of a request can't be read."""
-    if re.search(r"\s", body.strip()) and re.fullmatch(r"[0-9A-Fa-f\s:]+", body):
-        return "blanks between the digits", "take them out"
-    if re.fullmatch(r"[0-9A-Fa-f]+", body):
-        why = "an odd number of digits" if len(body) % 2 else "these octets aren't the body of a resolution request"
-        return why, "write only the body, without the envelope and the header of the message"
-    if re.fullmatch(r"[A-Za-z0-9+/]{16,}=*", body):
-        return "base64 in place of hexadecimal digits", "write the octets as hexadecimal digits: base64 -d | xxd -p"
-    return "signs that aren't hexadecimal digits", "write the octets of the body as hexadecimal digits"
-
-
-def log_row(question: Question, said: Said) -> Explained | None:
-    """Faults that only rows of logs have."""
-    spot = spot_of(question, "log", said.numbers["row"])
-    if not spot:
-        return None
-    fields, line = spot.row.fields, renumbered(question, "log", said)
-    at, message = 0, ""
-    if said.word == "BadBody":
-        at = len(fields) - 1
-        message = f"{quoted(fields[at], 30)} isn't the body of a request"
-        why, remedy = body_words(fields[at])
-    elif said.word == "BadFront":
-        message, why = f"front {quoted(fields[0], 20)} isn't a number", "columns in another order, or a name"
-        remedy = f"write the number of the front, from 0 on: {LOG_HEADERS['fronts'][0]}"
-    elif said.word == "TooManyRegions":
-        at = spot.header.index("region") if "region" in spot.header else 0
-        message, why = (
-            f"{quoted(fields[at])} is the {MOST_REGIONS + 1}th region",
-            "a region for each network or country",
-        )
-        remedy = f"join networks under at most {MOST_REGIONS} names of regions"
-    elif said.word == "TooManyKinds":
-        message, why = (
-            f"here begins the {MOST_DEMAND_ROWS + 1:,}rd kind",
-            "costs to all sites, or server counts without common factors",
-        )
-        remedy = "give each region costs for only the three or four sites that it uses"
-    else:
-        return None
-    words = Words(message, remedy, why, kind=f"{said.word} {why}")
-    return Explained(found(spot.path, spot.place(at), words, line), [spot.without()])
 
 
 def far_row(question: Question, said: Said) -> Explained:

@@ -12,7 +12,7 @@ from hsp.base.spelling import near
 from hsp.doctor.findings import Finding, Place, Text, Words, found, quoted
 from hsp.doctor.question import Question, Said
 from hsp.doctor.rows import joined, table_of
-from hsp.doctor.table_faults import Explained, Spot, renumbered, spot_of
+from hsp.doctor.table_faults import Explained, Faulty, numbered_row
 from hsp.doctor.toml_places import data_of, listed_in
 
 
@@ -48,19 +48,20 @@ def site_at(question: Question, number: int) -> Known:
 
 def unknown_site(question: Question, said: Said) -> Explained | None:
     """A row with a site that the settings lack."""
-    spot = spot_of(question, said.table, said.numbers["row"])
-    if not spot:
+    faulty = numbered_row(question, said.table, said)
+    if not faulty:
         return None
     if data_of(question.files["settings"].original) == {}:
         return Explained(_without_sites(question, said))
-    at = spot.header.index("site")
-    name, names = spot.row.fields[at], names_in(question)
+    at = faulty.header.index("site")
+    name, names = faulty.fields[at], names_in(question)
+    without = question.without_rows(said.table, [faulty.row])
     if name in _left_out_sites(question) or question.lacks_site:
-        return Explained(None, [spot.without()])
-    line = renumbered(question, said.table, said)
-    meant, words = _site_words(question, spot, name, names)
-    mended = [spot.with_field(at, meant)] if meant else []
-    return Explained(found(spot.path, spot.place(at), words, line), [*mended, spot.without()], True)
+        return Explained(None, [without])
+    meant, words = _site_words(question, faulty, name, names)
+    fields = [*faulty.fields[:at], meant, *faulty.fields[at + 1 :]]
+    mended = [question.with_row(said.table, faulty.row, fields)] if meant else []
+    return Explained(found(faulty.path, faulty.place(at), words, faulty.words()), [*mended, without], True)
 
 
 def _without_sites(question: Question, said: Said) -> Finding:
@@ -87,7 +88,7 @@ def short_of(name: str, names: list[str]) -> str:
     return found[0] if len(found) == 1 else ""
 
 
-def _site_words(question: Question, spot: Spot, name: str, names: list[str]) -> tuple[str, Words]:
+def _site_words(question: Question, faulty: Faulty, name: str, names: list[str]) -> tuple[str, Words]:
     """The site that was likely meant, and what is said of a name that no site has."""
     meant = near(name, names) or short_of(name, names)
     tables = [kind for kind in ("costs", "capacity") if kind in question.files]
@@ -100,13 +101,13 @@ def _site_words(question: Question, spot: Spot, name: str, names: list[str]) -> 
     elif meant:
         remedy, why = f"write {meant}", f"the settings have {listed(names, 6)}"
         why = f"another case of letters; {why}" if meant.casefold() == name.casefold() else why
-    elif spot.row.fields[0] in names and name.isdigit() and spot.kind == "costs":
+    elif faulty.fields[0] in names and name.isdigit() and faulty.table == "costs":
         remedy, why = (
             "move the row to the capacities",
-            f"{spot.row.fields[0]} is a site, and {name} one of its servers",
+            f"{faulty.fields[0]} is a site, and {name} one of its servers",
         )
     elif "demand" in question.files and name in table_of(question.text("demand")).column("region"):
-        remedy, why = "put the columns in the order " + ",".join(spot.header), f"{quoted(name)} is a region"
+        remedy, why = "put the columns in the order " + ",".join(faulty.header), f"{quoted(name)} is a region"
     else:
         remedy = f'add a block [[site]] with name = "{name}" to the settings, or take its rows out'
         known = list(filter(None, names or _names(question.files["settings"].original)))
@@ -123,10 +124,10 @@ def _left_out_sites(question: Question) -> set[str]:
 
 def unknown_server(question: Question, said: Said) -> Explained | None:
     """A row of the capacities with an identifier that the site lacks."""
-    spot = spot_of(question, "capacity", said.numbers["row"])
-    if not spot:
+    faulty = numbered_row(question, "capacity", said)
+    if not faulty:
         return None
-    name, text = spot.row.fields[0], spot.row.fields[1]
+    name, text, room = faulty.fields
     names = names_in(question)
     site = site_at(question, names.index(name)) if name in names else Known(name, [])
     rows = table_of(question.text("capacity")).rows
@@ -144,9 +145,9 @@ def unknown_server(question: Question, said: Said) -> Explained | None:
     elif not free:
         remedy = "take the row out: each server has its row"
     words = Words(f"site {name} has no server {text}", remedy, why, kind=f"UnknownServer {name}")
-    mended = [spot.with_field(1, free[0])] if free else []
-    line = renumbered(question, "capacity", said)
-    return Explained(found(spot.path, spot.place(1), words, line), [*mended, spot.without()])
+    mended = [question.with_row("capacity", faulty.row, [name, free[0], room])] if free else []
+    finding = found(faulty.path, faulty.place(1), words, faulty.words())
+    return Explained(finding, [*mended, question.without_rows("capacity", [faulty.row])])
 
 
 def no_capacity(question: Question, said: Said) -> Explained:

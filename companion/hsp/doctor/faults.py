@@ -7,7 +7,7 @@ import subprocess
 from collections.abc import Callable
 from dataclasses import replace
 
-from hsp.base.grammar import COMMANDS, FILES
+from hsp.base.grammar import COMMANDS, FILES, HEADERS
 from hsp.base.programs import Programs, program, run
 from hsp.base.text import is_utf8
 from hsp.doctor import (
@@ -22,12 +22,15 @@ from hsp.doctor import (
 from hsp.doctor.commands import Line, line_of, split
 from hsp.doctor.file_faults import file_finding
 from hsp.doctor.findings import Finding, Place, Words, found
-from hsp.doctor.question import ORDER, Diagnosis, Question, Said, Show, draft_of, said_of, unheard
-from hsp.doctor.table_faults import Explained, row_fault
+from hsp.doctor.question import ORDER, Diagnosis, Draft, Mend, Question, Said, Show, draft_of, said_of, unheard
+from hsp.doctor.rows import columns_of
+from hsp.doctor.table_faults import OPEN_QUOTE, Explained, faulty_rows, numbered_row, said_of_row, with_reasons
 from hsp.doctor.word_doubts import word_doubts
 
 # How often hsplan is asked about copies that were mended, and how many octets these may have together.
 TURNS, OCTETS = 120, 100_000_000
+# How many faults a row may have, one behind the other.
+MOST_OF_ROW = 8
 USAGE_STATUS = 2
 
 Way = Callable[[Question, Said], "Explained | None"]
@@ -56,16 +59,17 @@ OF_BUILD: dict[str, Way] = {
 
 
 def _of_table(question: Question, said: Said) -> Explained | None:
-    kind = said.where
-    if kind not in question.files:
+    """What is refused of a table or a log that has no faulty row of its own."""
+    table = said.where
+    if table not in question.files:
         return None
     if said.word == "Header":
-        return header_faults.header_fault(question, kind, said)
+        return header_faults.header_fault(question, table, said)
     if said.word in ("TooManyRows", "TooManyRegions") and "row" not in said.numbers:
-        return header_faults.too_many(question, kind, said)
-    if kind == "log":
+        return header_faults.too_many(question, table, said)
+    if table == "log":
         return _of_log(question, said)
-    return row_fault(question, kind, said) if "row" in said.numbers else None
+    return None
 
 
 def _of_log(question: Question, said: Said) -> Explained | None:
@@ -77,8 +81,16 @@ def _of_log(question: Question, said: Said) -> Explained | None:
         return answer_faults.count_too_large(question, said)
     if "row" not in said.numbers:
         return None
-    found_one = answer_faults.log_row(question, said) or row_fault(question, "log", said)
-    return found_one or answer_faults.far_row(question, said)
+    faulty = numbered_row(question, "log", said)
+    if not faulty:
+        return answer_faults.far_row(question, said)
+    (faulty,) = with_reasons(question, [faulty])
+    about = said_of_row(faulty, columns_of(question.text("log"))[0], set())
+    if not about:
+        return None
+    mended = question.with_mends("log", [Mend(faulty.row, faulty.row.last, about[0].mended)])
+    finding = found(faulty.path, about[1], about[0], faulty.words())
+    return Explained(finding, [mended, question.without_rows("log", [faulty.row])])
 
 
 def explained(question: Question, said: Said, line: Line | None) -> Explained:
@@ -199,9 +211,17 @@ def diagnosed(question: Question, line: Line | None = None, show: Show = unheard
             question = without_answers(question)
         said = question.ask()
     octets = sum(len(draft.original.octets) for draft in question.files.values())
+    looked: list[Draft] = []
     for _ in range(max(3, min(TURNS, OCTETS // max(1, octets)))):
         if not said.line or _is_consequence(question, said):
             return result
+        draft = question.files.get(said.where)
+        if said.where in (*HEADERS, "log") and said.word != "Header" and draft and draft not in looked:
+            question = _without_faulty(question, said.where, result)
+            looked.append(question.files[said.where])
+            if question.files[said.where] is not draft:
+                said = question.ask()
+                continue
         one = explained(question, said, line)
         if one.finding and not _is_known(result.findings, one.finding):
             result.add(one.finding)
@@ -211,6 +231,32 @@ def diagnosed(question: Question, line: Line | None = None, show: Show = unheard
         question, said = then
     result.is_cut_short = bool(said.line)
     return result
+
+
+def _without_faulty(question: Question, table: str, result: Diagnosis) -> Question:
+    """Adds a finding for each faulty row of a table or a log. Returns the question with a copy that has none of them.
+
+    In a copy a faulty field is mended, since a row may have several. All rows are mended at once.
+    """
+    findings: list[Finding] = []
+    spent: set[int] = set()
+    for _ in range(MOST_OF_ROW):
+        every = [faulty for faulty in faulty_rows(question, table) if "row" in faulty.said.numbers]
+        if not every:
+            break
+        names, others = columns_of(question.text(table)), {faulty.row.first for faulty in every}
+        lines: dict[int, Mend] = {faulty.row.first: Mend(faulty.row, faulty.row.last) for faulty in every}
+        for faulty in every:
+            about = said_of_row(faulty, names[min(1, faulty.field or 0)], others)
+            if about and faulty.row.first not in spent:
+                findings.append(found(faulty.path, about[1], about[0], faulty.words()))
+                last = faulty.row.first if about[0].kind == OPEN_QUOTE else faulty.row.last
+                lines[faulty.row.first] = Mend(faulty.row, last, about[0].mended)
+                spent |= {faulty.row.first} if faulty.said.word == "Fields" and last == faulty.row.last else set()
+        question = question.with_mends(table, lines.values())
+    for finding in sorted(findings, key=lambda finding: finding.line):
+        result.add(finding)
+    return question
 
 
 def without_answers(question: Question) -> Question:

@@ -50,7 +50,10 @@ class Place:
 
 @dataclass(frozen=True)
 class Words:
-    """What is said of a place: the message, the remedy, the reason, and a word beside the caret."""
+    """What is said of a place: the message, the remedy, the reason, and a word beside the caret.
+
+    `mended` is what stands in a copy in place of a row's first line, where the row isn't left out.
+    """
 
     message: str
     remedy: str
@@ -58,6 +61,7 @@ class Words:
     mark: str = ""
     kind: str = ""
     name: str = ""
+    mended: str | None = None
 
 
 def found(path: str, place: Place, words: Words, said: str = "", severity: str = ERROR) -> Finding:

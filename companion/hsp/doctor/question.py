@@ -7,13 +7,15 @@ import os
 import re
 import stat
 import subprocess
-from collections.abc import Callable
+from collections.abc import Callable, Iterable
 from dataclasses import dataclass, field, replace
+from typing import NamedTuple
 
 from hsp.base.grammar import HEADERS
 from hsp.base.programs import Programs, program
 from hsp.base.text import is_utf8
 from hsp.doctor.findings import Finding, Text, encoded, read_text
+from hsp.doctor.rows import Row, joined
 
 # The files in the order in which hsplan reads them.
 ORDER = ("settings", "values", "demand", "costs", "capacity", "plan", "log", "file")
@@ -99,6 +101,17 @@ def said_of(status: int, line: str) -> Said:
     )
 
 
+class Mend(NamedTuple):
+    """A row, the last line of its mend, and the text that stands there; nothing where the row is left out.
+
+    Where that is two rows, the second one is left out, so that later lines keep their numbers.
+    """
+
+    row: Row
+    last: int
+    text: str | None = None
+
+
 @dataclass(frozen=True)
 class Question:
     """A program, its command, its files, and its other words. `left_out` are rows that copies no longer have."""
@@ -145,10 +158,23 @@ class Question:
         draft = Draft(self.files[kind].original, tuple(STANDS_IN.get(kind, "").split("\n")))
         return replace(self.with_file(kind, draft), absent=self.absent | {kind})
 
-    def without_row(self, kind: str, line: int, last: int, fields: list[str]) -> Question:
-        """The same without a row. Later lines keep their numbers, since hsplan passes over an empty line."""
-        question = self.with_line(kind, line, "", last)
-        return replace(question, left_out=(*self.left_out, (kind, tuple(fields))))
+    def with_row(self, table: str, row: Row, fields: list[str]) -> Question:
+        """The same with other fields in a row."""
+        return self.with_line(table, row.first, joined(fields), row.last)
+
+    def with_mends(self, table: str, mends: Iterable[Mend]) -> Question:
+        """The same with rows mended or left out. Later lines keep their numbers, since an empty line is no row."""
+        lines, left_out = list(self.text(table).lines), self.left_out
+        for row, last, text in mends:
+            own, _, other = (text or "").partition("\n")
+            lines[row.first - 1 : last] = [own] + [""] * (last - row.first)
+            left_out += ((table, tuple(row.fields)),) if text is None else ()
+            left_out += ((table, tuple(other.split(","))),) if other else ()
+        draft = replace(self.files[table], lines=tuple(lines))
+        return replace(self.with_file(table, draft), left_out=left_out)
+
+    def without_rows(self, table: str, rows: Iterable[Row]) -> Question:
+        return self.with_mends(table, [Mend(row, row.last) for row in rows])
 
     def size(self) -> int:
         """How many lines with a text the files have."""

@@ -63,24 +63,17 @@ def without_block(question: Question, kind: str, number: int) -> Question | None
     question = question.with_line("settings", block.first, "", block.last)
     if kind == "site" and (not isinstance(name, str) or slug(name) != name):
         question = replace(question, lacks_site=True)
-    for table, column in (("costs", "site"), ("capacity", "site")):
-        if kind == "site" and table in question.files:
-            question = without_rows(question, table, column, str(name))
+    for table in ("costs", "capacity") if kind == "site" else ():
+        if table in question.files:
+            question = without_site(question, table, str(name))
     return question
 
 
-def without_rows(question: Question, kind: str, column: str, name: str) -> Question:
-    """A table without the rows that have a name in a column."""
+def without_site(question: Question, kind: str, name: str) -> Question:
+    """A table without the rows of a site."""
     table = table_of(question.text(kind))
-    at = table.header.index(column) if column in table.header else 0
-    lines = list(table.text.lines)
-    left_out = question.left_out
-    for row in table.rows:
-        if at < len(row.fields) and row.fields[at] == name:
-            lines[row.first - 1 : row.last] = [""] * (row.last - row.first + 1)
-            left_out += ((kind, tuple(row.fields)),)
-    mended = question.with_file(kind, question.files[kind].with_text("\n".join(lines)))
-    return replace(mended, left_out=left_out)
+    at = table.header.index("site") if "site" in table.header else 0
+    return question.without_rows(kind, [row for row in table.rows if row.fields[at : at + 1] == [name]])
 
 
 def mends(*questions: Question | None) -> Iterator[Question]:
