@@ -242,9 +242,9 @@ class Programs:
         """What the checker says of a certificate: `yes`, or `no` and why."""
         return run("hsplan", "check", *self.in_units(inputs).words(), "--plan", plan).out.strip()
 
-    def _report(self, inputs: Inputs, plan: str, kind: str) -> list[str]:
+    def _report(self, inputs: Inputs, plan: str, report: str) -> list[str]:
         words = self.in_units(inputs).words()
-        return asked("hsplan", "report", *words, "--plan", plan, "--kind", kind).splitlines()
+        return asked("hsplan", "report", *words, "--plan", plan, "--kind", report).splitlines()
 
     def loads(self, inputs: Inputs, plan: str) -> tuple[list[Load], Bound]:
         """The load of each server, in the order of the settings, and the sums that show the cost."""
@@ -287,7 +287,7 @@ class Programs:
 
     def without_sites(self, demand: bytes = b"") -> Inputs:
         """The inputs of a service that has no site and no cost, with the rows of a demand."""
-        costs, capacity = (self.put_table(HEADERS[kind], []) for kind in ("costs", "capacity"))
+        costs, capacity = (self.put_table(HEADERS[role], []) for role in ("costs", "capacity"))
         table = demand or f"{HEADERS['demand']}\n".encode()
         return Inputs(self.put(b"", ".toml"), self.put(table, ".csv"), costs, capacity)
 

@@ -107,9 +107,9 @@ def newer_than(question: Question, path: str) -> list[str]:
         return []
     time = os.stat(path).st_mtime
     paths = [
-        question.files[kind].original.path
-        for kind in ("settings", "values", "demand", "costs", "capacity")
-        if kind in question.files
+        question.files[role].original.path
+        for role in ("settings", "values", "demand", "costs", "capacity")
+        if role in question.files
     ]
     return [os.path.basename(own) for own in paths if os.path.isfile(own) and os.stat(own).st_mtime > time]
 

@@ -66,7 +66,7 @@ def unknown_site(question: Question, said: Said) -> Explained | None:
 
 def _without_sites(question: Question, said: Said) -> Finding:
     """The one cause of many unknown names: settings without any block."""
-    tables = [kind for kind in ("costs", "capacity") if kind in question.files]
+    tables = [role for role in ("costs", "capacity") if role in question.files]
     names = dict.fromkeys(site for table in tables for site in table_of(question.text(table)).column("site"))
     words = Words(
         "the settings have no site",
@@ -91,7 +91,7 @@ def short_of(name: str, names: list[str]) -> str:
 def _site_words(question: Question, faulty: Faulty, name: str, names: list[str]) -> tuple[str, Words]:
     """The site that was likely meant, and what is said of a name that no site has."""
     meant = near(name, names) or short_of(name, names)
-    tables = [kind for kind in ("costs", "capacity") if kind in question.files]
+    tables = [role for role in ("costs", "capacity") if role in question.files]
     used = {used_name for table in tables for used_name in table_of(question.text(table)).column("site")}
     lone = [other for other in names if other not in used]
     if len(lone) == 1 and (not meant or meant == lone[0]):
@@ -144,7 +144,7 @@ def unknown_server(question: Question, said: Said) -> Explained | None:
         remedy = "bring the site's new record in (hsp sites), or take the row out: each server has its row"
     elif not free:
         remedy = "take the row out: each server has its row"
-    words = Words(f"site {name} has no server {text}", remedy, why, kind=f"UnknownServer {name}")
+    words = Words(f"site {name} has no server {text}", remedy, why, group=f"UnknownServer {name}")
     mended = [question.with_row("capacity", faulty.row, [name, free[0], room])] if free else []
     finding = found(faulty.path, faulty.place(1), words, faulty.words())
     return Explained(finding, [*mended, question.without_rows("capacity", [faulty.row])])
@@ -196,7 +196,7 @@ def _without_rows(text: Text, said: Said) -> Finding:
 
 def _follows(question: Question, site: str, server: str) -> bool:
     """Whether a server lacks its row only because a copy no longer has it."""
-    for kind, fields in question.left_out:
-        if kind == "capacity" and (server in fields[1:2] or fields[:1] == (site,) or len(fields) != 3):
+    for role, fields in question.left_out:
+        if role == "capacity" and (server in fields[1:2] or fields[:1] == (site,) or len(fields) != 3):
             return True
     return False

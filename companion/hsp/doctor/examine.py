@@ -50,15 +50,15 @@ def examined(
     folder: str, programs: Programs, given: dict[str, str | None], title: str | None = None, cost: str | None = None
 ) -> Examined:
     """What is wrong with a folder, or what is doubtful where nothing is wrong."""
-    paths = {kind: given.get(kind) or path_in(folder, name) for kind, name in NAMES.items()}
+    paths = {role: given.get(role) or path_in(folder, name) for role, name in NAMES.items()}
     beside = path_in(folder, VALUES)
     values = given.get("values") or (beside if os.path.isfile(beside) else None)
     if values:
         paths["values"] = values
-    if not any(os.path.exists(paths[kind]) for kind in NAMES):
+    if not any(os.path.exists(paths[role]) for role in NAMES):
         return Examined([_no_service(folder)], 5)
-    question = Question(programs, "plan", {kind: draft_of(programs, path) for kind, path in paths.items()})
-    copies = {kind: draft.copy for kind, draft in question.files.items() if draft.copy}
+    question = Question(programs, "plan", {role: draft_of(programs, path) for role, path in paths.items()})
+    copies = {role: draft.copy for role, draft in question.files.items() if draft.copy}
     try:
         mark = mark_of(folder, given)
         inputs = inputs_in(folder, {**given, **copies}, mark.unit)

@@ -127,10 +127,10 @@ def explained(question: Question, said: Said, line: Line | None) -> Explained:
 
 def _numbered(question: Question, said: Said, one: Explained) -> Explained:
     """The same with hsplan's words as they are for the files as they were, where a copy lacks a block."""
-    for kind in ("site", "host"):
-        if one.finding and "settings" in question.files and kind in said.numbers:
-            number = settings_faults.number_then(question, kind, said.numbers[kind])
-            line = re.sub(rf"\b{kind} \d+", f"{kind} {number}", one.finding.said, count=1)
+    for block in ("site", "host"):
+        if one.finding and "settings" in question.files and block in said.numbers:
+            number = settings_faults.number_then(question, block, said.numbers[block])
+            line = re.sub(rf"\b{block} \d+", f"{block} {number}", one.finding.said, count=1)
             one = one._replace(finding=replace(one.finding, said=line))
     return one
 
@@ -138,13 +138,13 @@ def _numbered(question: Question, said: Said, one: Explained) -> Explained:
 def _files_first(question: Question, line: str) -> tuple[Question, list[Finding]]:
     """Faults of files that can't be read, and the question with others in their place."""
     findings = []
-    for kind in ORDER:
-        if kind in question.files:
-            text = question.files[kind].original
-            finding = file_finding(text.path, kind, line, len(text.octets))
+    for role in ORDER:
+        if role in question.files:
+            text = question.files[role].original
+            finding = file_finding(text.path, role, line, len(text.octets))
             if finding:
                 findings.append(finding)
-                question = question.with_stand_in(kind)
+                question = question.with_stand_in(role)
     return question, findings
 
 
@@ -207,7 +207,7 @@ def diagnosed(question: Question, line: Line | None = None, show: Show = unheard
             )
             result.add(found("", Place(), words, said.line))
             return result
-        if any(kind in question.absent for kind in ("plan", "log", "file", "values")):
+        if any(role in question.absent for role in ("plan", "log", "file", "values")):
             question = without_answers(question)
         said = question.ask()
     octets = sum(len(draft.original.octets) for draft in question.files.values())
@@ -250,7 +250,7 @@ def _without_faulty(question: Question, table: str, result: Diagnosis) -> Questi
             about = said_of_row(faulty, names[min(1, faulty.field or 0)], others)
             if about and faulty.row.first not in spent:
                 findings.append(found(faulty.path, about[1], about[0], faulty.words()))
-                last = faulty.row.first if about[0].kind == OPEN_QUOTE else faulty.row.last
+                last = faulty.row.first if about[0].group == OPEN_QUOTE else faulty.row.last
                 lines[faulty.row.first] = Mend(faulty.row, last, about[0].mended)
                 spent |= {faulty.row.first} if faulty.said.word == "Fields" and last == faulty.row.last else set()
         question = question.with_mends(table, lines.values())
@@ -263,7 +263,7 @@ def without_answers(question: Question) -> Question:
     """Only the planning of a question: of a command whose plan or log can't be read, the inputs still can."""
     if question.command not in ("check", "dispatch", "report", "answer", "plan"):
         return question
-    files = {kind: draft for kind, draft in question.files.items() if kind not in ("plan", "log", "file")}
+    files = {role: draft for role, draft in question.files.items() if role not in ("plan", "log", "file")}
     if "values" in question.absent:
         files.pop("values", None)
     return replace(question, program="hsplan", command="plan", files=files, options=(), words=())
@@ -272,14 +272,14 @@ def without_answers(question: Question) -> Question:
 def question_of(programs: Programs, line: Line) -> Question:
     """The question that the words of a line ask."""
     options, others = split(line)
-    form = COMMANDS[line.command]
+    command = COMMANDS[line.command]
     values: dict[str, str] = {}
     for option in options:
         if option.name in FILES and option.value is not None:
             values.setdefault(option.name, option.value)
     files = {name: draft_of(programs, value) for name, value in values.items()}
     rest = tuple(f"--{option.name}={option.value}" for option in options if option.name not in FILES)
-    if form.last == "file" and others:
+    if command.last == "file" and others:
         files["file"] = draft_of(programs, others[0].text)
     return Question(programs, line.command, files, rest, tuple(word.text for word in others), line.program)
 
@@ -323,10 +323,10 @@ def _status(line: Line, question: Question) -> int:
 
 def _of_files(question: Question) -> list[Finding]:
     """Beside words that are no command: files that aren't there, and the faults of inputs where all are given."""
-    findings = [file_finding(draft.original.path, kind, "") for kind, draft in question.files.items()]
+    findings = [file_finding(draft.original.path, role, "") for role, draft in question.files.items()]
     found_ones = [replace(finding, said="read failed") for finding in findings if finding]
     kinds = {"settings", "demand", "costs", "capacity"}
     if found_ones or not kinds <= set(question.files):
         return found_ones
-    files = {kind: draft for kind, draft in question.files.items() if kind in kinds | {"values"}}
+    files = {role: draft for role, draft in question.files.items() if role in kinds | {"values"}}
     return diagnosed(Question(question.programs, "plan", files)).findings

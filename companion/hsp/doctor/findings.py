@@ -28,8 +28,8 @@ class Finding:
     mark: str = ""
     said: str = ""
     severity: str = ERROR
-    # Findings of one kind are shown once at a terminal, and counted.
-    kind: str = ""
+    # Findings of one group are shown once at a terminal, and counted.
+    group: str = ""
     # What hsp.toml calls a warning that it accepts; empty where it can't be accepted.
     name: str = ""
 
@@ -59,7 +59,7 @@ class Words:
     remedy: str
     why: str = ""
     mark: str = ""
-    kind: str = ""
+    group: str = ""
     name: str = ""
     mended: str | None = None
 
@@ -78,7 +78,7 @@ def found(path: str, place: Place, words: Words, said: str = "", severity: str =
         mark=words.mark,
         said=said,
         severity=severity,
-        kind=words.kind or words.message,
+        group=words.group or words.message,
         name=words.name,
     )
 

@@ -16,7 +16,7 @@ from hsp.plans.service import Service
 
 # From this share on, what rounding adds is worth a smaller unit.
 MUCH = 0.05
-# The kind of that doubt.
+# The group of that doubt.
 MUCH_ADDED = "unit"
 # Rows whose kinds all differ by chance less often than once in e^7, which is once in 1,100, are joined ones.
 UNLIKELY = 7.0
@@ -34,7 +34,7 @@ def rounding(service: Service) -> Iterator[Finding]:
     path = path_in(service.folder, TITLES)
     why = f"each of {some(len(service.rows), 'row')} is rounded up; the log had {service.mark.queries:,} queries"
     message = f"units of {service.unit:,} add {part(service.added)} to the demand"
-    words = Words(message, remedy, why, kind=MUCH_ADDED, name="rounded units")
+    words = Words(message, remedy, why, group=MUCH_ADDED, name="rounded units")
     yield found(path, value_of(read_text(path), TABLE, 0, "unit"), words, "", WARNING)
 
 
@@ -60,7 +60,7 @@ def unmarked(service: Service, demand: Text) -> Iterator[Finding]:
     why = f"each of its {some(len(service.rows), 'row')} has servers of its own, which so many handles seldom have"
     message = "the demand looks joined by kinds, and hsp.toml doesn't say so"
     yield found(
-        demand.path, Place(), Words(message, JOINED, why, kind="unmarked", name="unmarked kinds"), "", WARNING
+        demand.path, Place(), Words(message, JOINED, why, group="unmarked", name="unmarked kinds"), "", WARNING
     )
 
 

@@ -19,7 +19,7 @@ from hsp.doctor.rows import Row, joined
 
 # The files in the order in which hsplan reads them.
 ORDER = ("settings", "values", "demand", "costs", "capacity", "plan", "log", "file")
-STANDS_IN = {"settings": ""} | {kind: f"{header}\n" for kind, header in HEADERS.items()}
+STANDS_IN = {"settings": ""} | {role: f"{header}\n" for role, header in HEADERS.items()}
 
 
 @dataclass(frozen=True)
@@ -130,33 +130,33 @@ class Question:
     def arguments(self) -> list[str]:
         """The words of the command."""
         found = [self.command]
-        for kind in ORDER:
-            if kind in self.files and kind != "file":
-                found.append(f"--{kind}={self.path(kind)}")
+        for role in ORDER:
+            if role in self.files and role != "file":
+                found.append(f"--{role}={self.path(role)}")
         found += self.options
         last = [self.path("file")] if "file" in self.files else list(self.words)
         return found + (["--", *last] if last else [])
 
-    def path(self, kind: str) -> str:
+    def path(self, role: str) -> str:
         """The file itself, or its copy where that was mended."""
-        draft = self.files[kind]
+        draft = self.files[role]
         if draft.lines is None:
             return draft.copy or draft.original.path
         return self.programs.put(draft.text.octets)
 
-    def text(self, kind: str) -> Text:
-        return self.files[kind].text
+    def text(self, role: str) -> Text:
+        return self.files[role].text
 
-    def with_file(self, kind: str, draft: Draft) -> Question:
-        return replace(self, files={**self.files, kind: draft})
+    def with_file(self, role: str, draft: Draft) -> Question:
+        return replace(self, files={**self.files, role: draft})
 
-    def with_line(self, kind: str, line: int, text: str, last: int = 0) -> Question:
-        return self.with_file(kind, self.files[kind].with_line(line, text, last))
+    def with_line(self, role: str, line: int, text: str, last: int = 0) -> Question:
+        return self.with_file(role, self.files[role].with_line(line, text, last))
 
-    def with_stand_in(self, kind: str) -> Question:
+    def with_stand_in(self, role: str) -> Question:
         """The same with a file that has no fault, and nothing in it."""
-        draft = Draft(self.files[kind].original, tuple(STANDS_IN.get(kind, "").split("\n")))
-        return replace(self.with_file(kind, draft), absent=self.absent | {kind})
+        draft = Draft(self.files[role].original, tuple(STANDS_IN.get(role, "").split("\n")))
+        return replace(self.with_file(role, draft), absent=self.absent | {role})
 
     def with_row(self, table: str, row: Row, fields: list[str]) -> Question:
         """The same with other fields in a row."""

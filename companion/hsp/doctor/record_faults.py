@@ -144,7 +144,7 @@ def bad_record(question: Question, said: Said) -> Explained:
     if start >= 0 and "at" in said.numbers:
         column = min(start + 2 * said.numbers["at"], max(start, start + len(record) - 2))
         place = Place(place.line, column + 1, 2, place.text)
-    words = Words(f"the record of '{name}' can't be read", advised.remedy, advised.why, kind=f"BadRecord {number}")
+    words = Words(f"the record of '{name}' can't be read", advised.remedy, advised.why, group=f"BadRecord {number}")
     ways = mends(
         with_value(question, "site", number, "record", f'"{octets_then.hex()}"') if octets_then else None,
         without_block(question, "site", number),
@@ -160,7 +160,7 @@ def _bad_value(question: Question, said: Said, number: int, name: str) -> Explai
         f"the value of '{name}' isn't a record that can be read",
         "give the index of the site's value: hsplan site --index N FILE prints a good one",
         f"the value list has other octets there ({said.detail or said.word})",
-        kind=f"BadRecord {number}",
+        group=f"BadRecord {number}",
     )
     ways = mends(without_block(question, "site", number), question.with_stand_in("settings"))
     return Explained(found(path, place_in(question, "site", number, "index"), words, said.line), ways)
@@ -191,7 +191,7 @@ def no_value(question: Question, said: Said) -> Explained:
             f"the value with index {index} isn't an HS_SITE",
             f"write the index of the site's value{other}",
             "another value of the handle, as a key or an address",
-            kind=f"NotSiteValue {number}",
+            group=f"NotSiteValue {number}",
         )
     else:
         other = f"write index = {good}" if good else "write an index that the list has"
@@ -199,7 +199,7 @@ def no_value(question: Question, said: Said) -> Explained:
             f"no value has the index {index}",
             f"{other}; or give the right list",
             "another value list, or a slip",
-            kind=f"NoValue {number}",
+            group=f"NoValue {number}",
         )
     ways = mends(without_block(question, "site", number), question.with_stand_in("settings"))
     return Explained(found(text.path, place_in(question, "site", number, "index"), words, said.line), ways)
@@ -250,12 +250,12 @@ def site_record(question: Question, said: Said) -> Explained:
     return Explained(found(text.path, place, advised, said.line), ways)
 
 
-def bad_file(question: Question, said: Said, kind: str) -> Explained:
+def bad_file(question: Question, said: Said, role: str) -> Explained:
     """A file that is no record, or no value list."""
-    draft = question.files[kind]
+    draft = question.files[role]
     octets = draft.original.octets
-    if kind == "values" or any(option.startswith("--index") for option in question.options):
-        return _bad_list(question, said, kind)
+    if role == "values" or any(option.startswith("--index") for option in question.options):
+        return _bad_list(question, said, role)
     advised, _ = record_words(octets, said, draft.original.path, question.programs)
     place = Place()
     words = Words(
@@ -264,8 +264,8 @@ def bad_file(question: Question, said: Said, kind: str) -> Explained:
     return Explained(found(draft.original.path, place, words, said.line), [])
 
 
-def _bad_list(question: Question, said: Said, kind: str) -> Explained:
-    draft = question.files[kind]
+def _bad_list(question: Question, said: Said, role: str) -> Explained:
+    draft = question.files[role]
     path, octets = draft.original.path, draft.original.octets
     remedy, why = (
         "give the value list, octet for octet",
@@ -276,7 +276,7 @@ def _bad_list(question: Question, said: Said, kind: str) -> Explained:
             "write its digits as record in the settings; or give the value list",
             "this is one site's record",
         )
-        if kind == "file":
+        if role == "file":
             remedy = f"hsplan site {shell_word(path)}, without --index"
     elif said.word == "IndexTwice":
         why = f"two values have the index {said.numbers.get('index', 0)}"

@@ -19,29 +19,29 @@ from hsp.doctor.table_faults import NAME_RULE, Explained, slug
 from hsp.doctor.toml_places import KEYS, blocks, data_of, head_of, listed_in, value_of
 
 
-def place_in(question: Question, kind: str, number: int, key: str) -> Place:
+def place_in(question: Question, block: str, number: int, key: str) -> Place:
     """Where the value of a key stands in the settings as they were, for a block that counts in the mended copy."""
     draft = question.files["settings"]
-    place = value_of(draft.text, kind, number, key)
+    place = value_of(draft.text, block, number, key)
     line = draft.number(place.line)
     if draft.original.line(line) != place.text:
         return draft.original.whole(line)
     return Place(line, place.column, place.width, place.text)
 
 
-def number_then(question: Question, kind: str, number: int) -> int:
+def number_then(question: Question, block: str, number: int) -> int:
     """The number that a block of the mended copy has in the settings as they were."""
     draft = question.files["settings"]
-    own = blocks(draft.text, kind)
-    firsts = [block.first for block in blocks(draft.original, kind)]
+    own = blocks(draft.text, block)
+    firsts = [own_block.first for own_block in blocks(draft.original, block)]
     line = draft.number(own[number].first) if number < len(own) else 0
     return firsts.index(line) if line in firsts else number
 
 
-def with_value(question: Question, kind: str, number: int, key: str, value: str) -> Question:
+def with_value(question: Question, block: str, number: int, key: str, value: str) -> Question:
     """The settings with another value of a key."""
     text = question.text("settings")
-    place = value_of(text, kind, number, key)
+    place = value_of(text, block, number, key)
     line = place.text[: place.column - 1] + value + place.text[place.end - 1 :]
     fence = place.text[place.column - 1 :][:3]
     if fence in ('"' * 3, "'" * 3) and fence not in place.text[place.column + 2 :]:
@@ -53,27 +53,27 @@ def with_value(question: Question, kind: str, number: int, key: str, value: str)
     return question.with_line("settings", place.line, line)
 
 
-def without_block(question: Question, kind: str, number: int) -> Question | None:
+def without_block(question: Question, block: str, number: int) -> Question | None:
     """The settings without a block, and the tables without the rows of its site."""
-    own = blocks(question.text("settings"), kind)
+    own = blocks(question.text("settings"), block)
     if number >= len(own):
         return None
-    block = own[number]
-    name = listed_in(question.text("settings"), kind)[number].get("name")
-    question = question.with_line("settings", block.first, "", block.last)
-    if kind == "site" and (not isinstance(name, str) or slug(name) != name):
+    first, last = own[number]
+    name = listed_in(question.text("settings"), block)[number].get("name")
+    question = question.with_line("settings", first, "", last)
+    if block == "site" and (not isinstance(name, str) or slug(name) != name):
         question = replace(question, lacks_site=True)
-    for table in ("costs", "capacity") if kind == "site" else ():
+    for table in ("costs", "capacity") if block == "site" else ():
         if table in question.files:
             question = without_site(question, table, str(name))
     return question
 
 
-def without_site(question: Question, kind: str, name: str) -> Question:
+def without_site(question: Question, table: str, name: str) -> Question:
     """A table without the rows of a site."""
-    table = table_of(question.text(kind))
-    at = table.header.index("site") if "site" in table.header else 0
-    return question.without_rows(kind, [row for row in table.rows if row.fields[at : at + 1] == [name]])
+    read = table_of(question.text(table))
+    at = read.header.index("site") if "site" in read.header else 0
+    return question.without_rows(table, [row for row in read.rows if row.fields[at : at + 1] == [name]])
 
 
 def mends(*questions: Question | None) -> Iterator[Question]:
@@ -85,29 +85,29 @@ def unknown_key(question: Question, said: Said) -> Explained:
     text = question.text("settings")
     data = data_of(text) or {}
     parts: list[tuple[str, int, dict[str, Any]]] = [("", 0, data)]
-    parts += [(kind, at, table) for kind in KEYS for at, table in enumerate(listed_in(text, kind))]
-    for kind, at, table in parts:
-        allowed = KEYS.get(kind, list(KEYS))
+    parts += [(block, at, table) for block in KEYS for at, table in enumerate(listed_in(text, block))]
+    for block, at, table in parts:
+        allowed = KEYS.get(block, list(KEYS))
         key = next((key for key in table if key not in allowed), "")
         if key or "" in table:
-            return _unknown(question, said, (kind, at), key)
+            return _unknown(question, said, (block, at), key)
     words = Words("a key means nothing where it stands", "keep only name, record, index, address and limit")
     place = question.files["settings"].original.whole(1)
     return Explained(found(text.path, place, words, said.line), [question.with_stand_in("settings")])
 
 
 def _unknown(question: Question, said: Said, where: tuple[str, int], key: str) -> Explained:
-    kind, number = where
+    block, number = where
     text = question.text("settings")
-    allowed = KEYS.get(kind, list(KEYS))
+    allowed = KEYS.get(block, list(KEYS))
     pattern = rf"^[\s\[{{]*[\"']?({re.escape(key)})[\"']?\s*[\]=.]"
-    own = blocks(text, kind) if kind else []
+    own = blocks(text, block) if block else []
     place = text.match(pattern, *own[number]) if number < len(own) else None
     place = place or text.match(pattern) or text.match(rf"({re.escape(key)})") or text.whole(1)
     meant = near(key, allowed, 0.7)
-    where_words = f"a {kind} has only {', '.join(allowed)}" if kind else "settings have only [[site]] and [[host]]"
+    where_words = f"a {block} has only {', '.join(allowed)}" if block else "settings have only [[site]] and [[host]]"
     remedy = f"write {meant}" if meant else "take it out"
-    if not kind and key in ("name", "record", "index", "address", "limit"):
+    if not block and key in ("name", "record", "index", "address", "limit"):
         of = "host" if key in KEYS["host"] else "site"
         where_words, remedy = f"{key} belongs into a block", f"put [[{of}]] above it"
     elif not meant and key.lower() in ("title", "unit", "units", "cost", "time"):
@@ -115,7 +115,7 @@ def _unknown(question: Question, said: Said, where: tuple[str, int], key: str) -
     mark = f"did you mean {meant}?" if meant else ""
     words = Words(f"the key {quoted(key)} means nothing here", remedy, where_words, mark, f"UnknownKey {key}")
     line = place.text[: place.column - 1] + meant + place.text[place.end - 1 :]
-    head = f"[[{'host' if key in KEYS['host'] else 'site'}]]\n{place.text}" if not kind and not meant else ""
+    head = f"[[{'host' if key in KEYS['host'] else 'site'}]]\n{place.text}" if not block and not meant else ""
     ways = [question.with_line("settings", place.line, line)] if meant else []
     if head and "above" in remedy:
         draft = question.files["settings"]
@@ -207,18 +207,18 @@ def bad_site(question: Question, said: Said) -> Explained:
     return Explained(found(text.path, place, words, said.line), ways)
 
 
-def _one_table(question: Question, said: Said, kind: str) -> Explained:
+def _one_table(question: Question, said: Said, block: str) -> Explained:
     """A single table, or another value, where a list of blocks stands."""
     text = question.text("settings")
-    place = text.match(rf"^\s*(\[\s*{kind}\s*\])") or head_of(text, kind, 0)
+    place = text.match(rf"^\s*(\[\s*{block}\s*\])") or head_of(text, block, 0)
     words = Words(
-        f"{place.text.strip()[:20]} is one table; {kind}s are a list",
-        f"write [[{kind}]] for each",
+        f"{place.text.strip()[:20]} is one table; {block}s are a list",
+        f"write [[{block}]] for each",
         "two brackets on each side",
     )
     return Explained(
         found(text.path, place, words, said.line),
-        [question.with_line("settings", place.line, f"[[{kind}]]"), question.with_stand_in("settings")],
+        [question.with_line("settings", place.line, f"[[{block}]]"), question.with_stand_in("settings")],
     )
 
 
@@ -227,9 +227,9 @@ def _bad_site_name(question: Question, said: Said, number: int, name: object) ->
     taken = {site.get("name") for site in listed_in(text, "site")}
     used = [
         site
-        for kind in ("costs", "capacity")
-        if kind in question.files
-        for site in table_of(question.text(kind)).column("site")
+        for role in ("costs", "capacity")
+        if role in question.files
+        for site in table_of(question.text(role)).column("site")
     ]
     free = [other for other in dict.fromkeys(used) if other not in taken and slug(other) == other and other]
     plain = slug(name) if isinstance(name, str) else ""
@@ -266,9 +266,9 @@ def site_twice(question: Question, said: Said) -> Explained:
     first = next((at for at, other in enumerate(sites[:number]) if other.get("name") == name), 0)
     used = [
         other
-        for kind in ("costs", "capacity")
-        if kind in question.files
-        for other in table_of(question.text(kind)).column("site")
+        for role in ("costs", "capacity")
+        if role in question.files
+        for other in table_of(question.text(role)).column("site")
     ]
     free = [other for other in dict.fromkeys(used) if other not in {site.get("name") for site in sites} and other]
     remedy = (
@@ -367,15 +367,15 @@ def host_twice(question: Question, said: Said) -> Explained:
 
 def too_many_blocks(question: Question, said: Said) -> Explained:
     """More sites or hosts than hsplan takes."""
-    kind = "site" if said.word == "TooManySites" else "host"
+    block = "site" if said.word == "TooManySites" else "host"
     text = question.text("settings")
-    own = blocks(text, kind)
-    most = MOST_SITES if kind == "site" else MOST_HOSTS
+    own = blocks(text, block)
+    most = MOST_SITES if block == "site" else MOST_HOSTS
     remedy = (
         "plan in parts, each with the regions that use its sites"
-        if kind == "site"
+        if block == "site"
         else "keep hosts with several servers only"
     )
-    words = Words(f"{len(own):,} {kind}s; hsplan takes {most:,}", remedy, "every block counts")
-    place = head_of(text, kind, min(most, len(own) - 1) if own else 0)
+    words = Words(f"{len(own):,} {block}s; hsplan takes {most:,}", remedy, "every block counts")
+    place = head_of(text, block, min(most, len(own) - 1) if own else 0)
     return Explained(found(text.path, place, words, said.line), [question.with_stand_in("settings")])

@@ -159,16 +159,16 @@ def bad_number(faulty: Faulty) -> Words:
     at = faulty.field or 0
     name = header[at]
     advised = advice(fields[at], name)
-    message, kind = (
+    message, group = (
         f"{name} {quoted(fields[at], 30)} isn't a whole number within its limit",
         f"BadNumber {name} {advised.why}",
     )
     mended = None if name == "server_id" else faulty.with_field(advised.mended)
-    words = Words(message, advised.remedy, advised.why, kind=kind, mended=mended)
+    words = Words(message, advised.remedy, advised.why, group=group, mended=mended)
     others = [field for column, field in zip(header, fields) if column not in NUMBERS]
     if not re.search(r"[0-9]", fields[at]) and any(re.fullmatch(r"[0-9]+", field) for field in others):
         why = "digits stand in another column, so the columns may be in another order"
-        words = Words(message, f"put the columns in the order {','.join(header)}", why, kind=kind, mended=mended)
+        words = Words(message, f"put the columns in the order {','.join(header)}", why, group=group, mended=mended)
     if advised.why.startswith("a blank") and all(other.startswith(" ") for other in fields[1:]):
         remedy = f"{advised.remedy}; in the whole table: sed 's/, */,/g' {shell_word(faulty.path)} > plain.csv"
         words = replace(words, remedy=remedy)
@@ -191,7 +191,7 @@ def bad_name(faulty: Faulty, names: dict[int, str]) -> Words:
     name, field = faulty.header[faulty.field or 0], fields[faulty.field or 0]
     if not "".join(fields).strip():
         return Words(
-            "a row of commas only", "take the line out", "an empty row of a spreadsheet", kind="BadName empty"
+            "a row of commas only", "take the line out", "an empty row of a spreadsheet", group="BadName empty"
         )
     known = [other for other in names.values() if other and slug(other) == other]
     meant = near(field, set(known), 0.8) or slug(field) or ("eu" if name == "region" else "paris")
@@ -206,45 +206,45 @@ def bad_name(faulty: Faulty, names: dict[int, str]) -> Words:
         why = f"{len(field)} letters; a name has at most {LONGEST_NAME}"
     elif "/" in field:
         why, remedy = "this looks like a handle", f"put the columns in the order {','.join(faulty.header)}"
-    kind = f"BadName {name} /" if "/" in field else f"BadName {name} {field}"
+    group = f"BadName {name} /" if "/" in field else f"BadName {name} {field}"
     names[faulty.row.first] = meant
-    return Words(f"{name} {quoted(field)} isn't a name", remedy, why, kind=kind, mended=faulty.with_field(meant))
+    return Words(f"{name} {quoted(field)} isn't a name", remedy, why, group=group, mended=faulty.with_field(meant))
 
 
 def handle_words(handle: str, detail: str, path: str) -> Words:
     """What is said of a field that is no handle, for hsplan's reason."""
-    shown, kind = quoted(handle), f"BadHandle {detail}"
+    shown, group = quoted(handle), f"BadHandle {detail}"
     if detail == "NotUtf8":
         octets = handle.encode("utf-8", "surrogateescape")
         meant = octets.decode("cp1252", "replace")
         remedy = f"iconv -f windows-1252 -t utf-8 {shell_word(path)} > utf8.csv"
         return Words(
-            f"the handle isn't UTF-8; likely '{meant}'", remedy, "a file in Latin-1 or Windows-1252", kind=kind
+            f"the handle isn't UTF-8; likely '{meant}'", remedy, "a file in Latin-1 or Windows-1252", group=group
         )
     if detail == "TooLong":
         size = len(handle.encode("utf-8", "surrogateescape"))
         why = f"{size:,} octets; a handle has at most {LONGEST_HANDLE:,}"
         return Words(
-            f"{quoted(handle, 30)} is too long", "put the handle here: an open quote may join lines", why, kind=kind
+            f"{quoted(handle, 30)} is too long", "put the handle here: an open quote may join lines", why, group=group
         )
     if detail == "EmptySegment":
         meant = re.sub(r"\.{2,}", ".", handle).strip("./ ")
         remedy = f"write {meant}" if "/" in meant else "write prefix, '/', suffix, as 20.500.1234/report-2024"
         why = "the prefix before '/' is empty, or has an empty part"
-        return Words(f"{shown} isn't a handle", remedy, why, kind=kind)
+        return Words(f"{shown} isn't a handle", remedy, why, group=group)
     if "/" in unquote(handle):
-        return Words(f"{shown} isn't a handle", f"write {unquote(handle)}", "its '/' is percent-encoded", kind=kind)
+        return Words(f"{shown} isn't a handle", f"write {unquote(handle)}", "its '/' is percent-encoded", group=group)
     if "\\" in handle:
         meant = handle.replace("\\", "/", 1)
-        return Words(f"{shown} isn't a handle", f"write {meant}", "a backslash in place of '/'", kind=kind)
+        return Words(f"{shown} isn't a handle", f"write {meant}", "a backslash in place of '/'", group=group)
     if not handle.strip():
-        return Words("the handle is empty", "write a handle, or take the row out", "an empty field", kind=kind)
+        return Words("the handle is empty", "write a handle, or take the row out", "an empty field", group=group)
     why = "a handle is a prefix, '/' and a suffix; here is no '/'"
     remedy = f"write the suffix too, as {handle.strip()}/report-2024"
     # A prefix begins with a number, as 20.500.1234 and 21.T11998 do.
     if not re.fullmatch(r"\s*[0-9]+(\.[0-9A-Za-z]+)*\s*", handle):
         remedy = f"write the prefix too, as 20.500.1234/{handle.strip()[:40]}; or are the columns in another order?"
-    return Words(f"{shown} isn't a handle", remedy, why, kind=kind)
+    return Words(f"{shown} isn't a handle", remedy, why, group=group)
 
 
 def bad_handle(faulty: Faulty) -> Words:
@@ -256,7 +256,7 @@ def bad_handle(faulty: Faulty) -> Words:
     slashed = [field for number, field in enumerate(fields) if "/" in field and number != at]
     if "/" not in handle and slashed:
         remedy = f"put the columns in the order {','.join(faulty.header)}"
-        words = Words(words.message, remedy, f"{quoted(slashed[0], 30)} looks like the handle", kind=words.kind)
+        words = Words(words.message, remedy, f"{quoted(slashed[0], 30)} looks like the handle", group=words.group)
     return replace(words, mended=faulty.with_field(f"20.500.1234/mended-{faulty.row.first}"))
 
 
@@ -336,7 +336,7 @@ def bad_fields(faulty: Faulty) -> Words:
     fields, want = faulty.fields, len(faulty.header)
     advised = _too_many(faulty) if len(fields) > want else _too_few(faulty)
     message = f"{some(len(fields), 'field')} in place of {want} ({','.join(faulty.header)})"
-    return replace(advised, message=message, kind=f"Fields {advised.why}")
+    return replace(advised, message=message, group=f"Fields {advised.why}")
 
 
 def _place_of_fields(faulty: Faulty) -> Place:
@@ -377,7 +377,7 @@ def open_quote(faulty: Faulty) -> tuple[Words, Place] | None:
     at = line.index('"', spans_of(line)[-1][0])
     why = f"it makes one row of the lines {number(row.first)} to {number(row.last)}"
     remedy, mended = "take the quote out, or close it behind its field", line[:at] + line[at + 1 :]
-    words = Words("a quote isn't closed in its line", remedy, why, kind=OPEN_QUOTE, mended=mended)
+    words = Words("a quote isn't closed in its line", remedy, why, group=OPEN_QUOTE, mended=mended)
     return words, faulty.draft.original.part(number(row.first), at, 1)
 
 
@@ -413,13 +413,13 @@ def _body_words(body: str) -> tuple[str, str]:
 def bad_body(faulty: Faulty) -> Words:
     body = faulty.fields[-1]
     why, remedy = _body_words(body)
-    return Words(f"{quoted(body, 30)} isn't the body of a request", remedy, why, kind=f"BadBody {why}")
+    return Words(f"{quoted(body, 30)} isn't the body of a request", remedy, why, group=f"BadBody {why}")
 
 
 def bad_front(faulty: Faulty) -> Words:
     why = "columns in another order, or a name"
     remedy = f"write the number of the front, from 0 on: {LOG_HEADERS['fronts'][0]}"
-    return Words(f"front {quoted(faulty.fields[0], 20)} isn't a number", remedy, why, kind=f"BadFront {why}")
+    return Words(f"front {quoted(faulty.fields[0], 20)} isn't a number", remedy, why, group=f"BadFront {why}")
 
 
 def too_many_regions(faulty: Faulty) -> Words:
@@ -428,13 +428,13 @@ def too_many_regions(faulty: Faulty) -> Words:
         f"join networks under at most {MOST_REGIONS} names of regions",
     )
     message = f"{quoted(faulty.fields[0])} is the {MOST_REGIONS + 1}th region"
-    return Words(message, remedy, why, kind=f"TooManyRegions {why}")
+    return Words(message, remedy, why, group=f"TooManyRegions {why}")
 
 
 def too_many_kinds(_: Faulty) -> Words:
     why = "costs to all sites, or server counts without common factors"
     remedy = "give each region costs for only the three or four sites that it uses"
-    return Words(f"here begins the {MOST_DEMAND_ROWS + 1:,}rd kind", remedy, why, kind=f"TooManyKinds {why}")
+    return Words(f"here begins the {MOST_DEMAND_ROWS + 1:,}rd kind", remedy, why, group=f"TooManyKinds {why}")
 
 
 ROWS = {

@@ -55,16 +55,19 @@ def _head_slip(text: Text, number: int) -> Slip | None:
     line = text.line(number)
     match = re.match(r"\s*[\[({]+\s*(\w+)\s*[\])}]*\s*$", line)
     if match:
-        kind = near(match[1], KEYS, 0.7) or "site"
-        if line.strip() == f"[{kind}]":
+        block = near(match[1], KEYS, 0.7) or "site"
+        if line.strip() == f"[{block}]":
             return Slip(
                 "one bracket makes one table; sites and hosts are lists",
-                f"write [[{kind}]] for each",
-                f"[[{kind}]]",
+                f"write [[{block}]] for each",
+                f"[[{block}]]",
                 text.whole(number),
             )
         return Slip(
-            "a head of a block has two brackets on each side", f"write [[{kind}]]", f"[[{kind}]]", text.whole(number)
+            "a head of a block has two brackets on each side",
+            f"write [[{block}]]",
+            f"[[{block}]]",
+            text.whole(number),
         )
     return None
 
@@ -242,7 +245,7 @@ def not_toml(question: Question, said: Said) -> Explained:
     else:
         number = _best(text, list(dict.fromkeys(line for line, _ in _candidates(text))))
         slip = slip_of(text, number, reason)
-        words = Words(f"the settings aren't TOML: {slip.why}", slip.remedy, "", kind=f"NotToml {slip.why}")
+        words = Words(f"the settings aren't TOML: {slip.why}", slip.remedy, "", group=f"NotToml {slip.why}")
     if draft.original.line(draft.number(number)) != text.line(number):
         blank = [question.with_line("settings", number, "")] if text.line(number).strip() else []
         return Explained(None, [*blank, question.with_stand_in("settings")])

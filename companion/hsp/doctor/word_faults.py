@@ -40,13 +40,13 @@ def at_word(line: Line, word: Word | None, words: Words) -> Finding:
 def command_fault(line: Line) -> Finding | None:
     """A command that isn't there, or is another program's."""
     if not line.words:
-        which = [name for name, form in COMMANDS.items() if form.program == line.program]
+        which = [name for name, takes in COMMANDS.items() if takes.program == line.program]
         return at_word(line, None, Words("no command", f"write one of {', '.join(which)} behind {line.program}", ""))
     command, first = line.command, line.words[0]
     if command in HELP and line.program == "hsplan":
         remedy = "hsplan-stream --version prints it" if command in VERSION else "man hsplan is its help"
         return at_word(line, first, Words(f"hsplan has no {command}", remedy, "it takes commands only"))
-    own = [name for name, form in COMMANDS.items() if form.program == line.program]
+    own = [name for name, takes in COMMANDS.items() if takes.program == line.program]
     if command in own:
         return None
     if command in COMMANDS:
@@ -94,20 +94,20 @@ def _of_companion(line: Line) -> Words:
     )
 
 
-def meant_by(name: str, form: Command, taken: set[str]) -> str:
+def meant_by(name: str, takes: Command, taken: set[str]) -> str:
     """The option that a misspelt one likely is: a near one, or the only one that begins so."""
-    free = [option for option in form.options if option not in taken] or form.options
+    free = [option for option in takes.options if option not in taken] or takes.options
     start = [option for option in free if name and option.startswith(name)]
     return near(name, free, 0.6) or (start[0] if len(start) == 1 else "")
 
 
-def _unknown_option(line: Line, form: Command, option: Option, taken: set[str]) -> Finding:
+def _unknown_option(line: Line, takes: Command, option: Option, taken: set[str]) -> Finding:
     command = line.command
-    meant = meant_by(option.name, form, taken)
+    meant = meant_by(option.name, takes, taken)
     elsewhere = [name for name, other in COMMANDS.items() if option.name in other.options]
     if option.name in ("h", "help"):
         words = Words(
-            f"{command} has no {option.word.text}", f"man {form.program} is its help", "it takes files only"
+            f"{command} has no {option.word.text}", f"man {takes.program} is its help", "it takes files only"
         )
     elif meant:
         words = Words(f"no option {option.word.text}", f"write --{meant}", "", f"did you mean --{meant}?")
@@ -119,18 +119,18 @@ def _unknown_option(line: Line, form: Command, option: Option, taken: set[str]) 
         )
     else:
         words = Words(
-            f"no option {option.word.text}", f"take it out; {command} has --{', --'.join(form.options)}", ""
+            f"no option {option.word.text}", f"take it out; {command} has --{', --'.join(takes.options)}", ""
         )
     return at_word(line, option.word, words)
 
 
-def _option_faults(line: Line, form: Command, options: list[Option]) -> Iterator[Finding]:
+def _option_faults(line: Line, takes: Command, options: list[Option]) -> Iterator[Finding]:
     seen: dict[str, Option] = {}
-    right = {option.name for option in options if option.name in form.options}
+    right = {option.name for option in options if option.name in takes.options}
     for option in options:
         is_short = not option.word.text.startswith("--")
-        if option.name not in form.options:
-            yield _unknown_option(line, form, option, right)
+        if option.name not in takes.options:
+            yield _unknown_option(line, takes, option, right)
         elif is_short:
             words = Words(f"{option.word.text} has one hyphen", f"write --{option.name}", "options have two hyphens")
             yield at_word(line, option.word, words)
@@ -173,11 +173,11 @@ def _option_faults(line: Line, form: Command, options: list[Option]) -> Iterator
         seen.setdefault(option.name, option)
 
 
-def _missing(line: Line, form: Command, options: list[Option]) -> Iterator[Finding]:
+def _missing(line: Line, takes: Command, options: list[Option]) -> Iterator[Finding]:
     """Options that a command needs and the line lacks, but for those that are misspelt in it."""
     names = {option.name for option in options}
-    misspelt = [meant_by(option.name, form, names) for option in options if option.name not in form.options]
-    lacking = [option for option in form.needed if option not in names and option not in misspelt]
+    misspelt = [meant_by(option.name, takes, names) for option in options if option.name not in takes.options]
+    lacking = [option for option in takes.needed if option not in names and option not in misspelt]
     if lacking:
         listed = " and ".join(f"--{name}" for name in lacking)
         values = " ".join(f"--{name} {'FILE' if name in FILES else 'load'}" for name in lacking)
@@ -232,29 +232,29 @@ def _locate(line: Line, names: set[str]) -> Iterator[Finding]:
             )
 
 
-def _other_words(line: Line, form: Command, options: list[Option], others: list[Word]) -> Iterator[Finding]:
+def _other_words(line: Line, takes: Command, options: list[Option], others: list[Word]) -> Iterator[Finding]:
     """Words that belong to no option: the last word of some commands, and no other."""
-    wanted = 1 if form.last else 0
+    wanted = 1 if takes.last else 0
     if len(others) < wanted:
-        example = "20.500.1234/report-2024" if form.last == "handle" else "FILE"
+        example = "20.500.1234/report-2024" if takes.last == "handle" else "FILE"
         yield at_word(
             line,
             None,
             Words(
-                f"the {form.last} is missing",
+                f"the {takes.last} is missing",
                 f"write {example} as the last word",
                 f"the form is {shown(line.command)}",
             ),
         )
     given = {option.name for option in options}
     for other in others[wanted:]:
-        meant = near(other.text.split(".")[0], form.options, 0.6)
+        meant = near(other.text.split(".")[0], takes.options, 0.6)
         why, remedy = "each file stands behind its option", "take it out, or put its option in front"
-        if form.last == "handle" and "/" in other.text:
+        if takes.last == "handle" and "/" in other.text:
             why = "locate takes one handle"
             remedy = "ask for one at a time; hsplan-stream places takes a log of them"
         elif wanted:
-            why = f"a {'handle' if form.last == 'handle' else 'name'} with a blank stands in quotes"
+            why = f"a {'handle' if takes.last == 'handle' else 'name'} with a blank stands in quotes"
             remedy = "put quotes about the whole, or take it out"
         elif meant in given:
             why, remedy = f"--{meant} takes one file, and has it", "take it out, or make one file of both"
@@ -268,12 +268,12 @@ def usage(line: Line) -> list[Finding]:
     wrong = command_fault(line)
     if wrong:
         return [wrong]
-    form = COMMANDS[line.command]
+    takes = COMMANDS[line.command]
     options, others = split(line)
-    faults = list(_option_faults(line, form, options))
-    faults += _other_words(line, form, options, others)
-    if not {"h", "help"} & {option.name for option in options if option.name not in form.options}:
-        faults += _missing(line, form, options)
+    faults = list(_option_faults(line, takes, options))
+    faults += _other_words(line, takes, options, others)
+    if not {"h", "help"} & {option.name for option in options if option.name not in takes.options}:
+        faults += _missing(line, takes, options)
     if not faults:
         words = Words(
             "these words are no command",

@@ -89,7 +89,7 @@ def _servers_in(path: str, octets: bytes) -> set[tuple[str, str]]:
 
 def joined(folder: str, sites: list[Found], capacity: int, programs: Programs) -> Joined:
     """Adds sites to the texts of a folder's settings and capacities. hsplan reads back what comes out."""
-    settings, capacities = (path_in(folder, NAMES[kind]) for kind in ("settings", "capacity"))
+    settings, capacities = (path_in(folder, NAMES[role]) for role in ("settings", "capacity"))
     texts = {path: _octets(path) for path in (settings, capacities)}
     before = _settings_in(settings, texts[settings])
     there = dict(before)
