@@ -127,8 +127,10 @@ def table_headers() -> dict[str, list[str]]:
 
 
 def log_headers() -> dict[str, list[list[str]]]:
-    """The headers that the log of each command may have; `fronts` is that of a dispatch for several fronts."""
-    return {command: _headers_in(*place.split(" fn ")) for command, place in LOGS.items()}
+    """The headers that the log of each command may have, and of a dispatch for several fronts; `faults` reads all."""
+    found = {command: _headers_in(*place.split(" fn ")) for command, place in LOGS.items()}
+    every = [header for headers in found.values() for header in headers]
+    return {**found, "faults": [header for at, header in enumerate(every) if header not in every[:at]]}
 
 
 def _headers_in(path: str, function: str) -> list[list[str]]:

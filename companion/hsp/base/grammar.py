@@ -65,6 +65,7 @@ LOG_HEADERS: dict[str, tuple[str, ...]] = {
     "kinds": ("region,handle", "region,handle,count"),
     "places": ("handle", "region,handle"),
     "answer": ("region,handle", "region,body"),
+    "faults": ("region,handle", "region,body", "front,region,handle", "region,handle,count", "handle"),
 }
 LOG_HEAD = LOG_HEADERS["dispatch"][0].encode() + b"\n"
 

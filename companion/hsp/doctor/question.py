@@ -2,6 +2,7 @@
 
 from __future__ import annotations
 
+import csv
 import functools
 import os
 import re
@@ -184,7 +185,7 @@ class Question:
 
     def ask(self) -> Said:
         """What hsplan says. Its answer is the status only, since answers to a log may be long."""
-        short = self.command in ("check", "plan")
+        short = self.command in ("check", "plan", "faults")
         done = subprocess.run(
             [program(self.program), *self.arguments()],
             stdin=subprocess.DEVNULL,
@@ -195,6 +196,8 @@ class Question:
         verdict = done.stdout.decode("utf-8", "replace").strip() if self.command == "check" else ""
         if done.returncode == 3 and verdict.startswith("no "):
             return Said(3, verdict, "check", verdict.split()[-1])
+        if self.command == "faults" and done.returncode == 1:
+            line = next(csv.reader(done.stdout.decode("utf-8", "replace").splitlines()[1:2]), [line])[-1]
         if done.returncode in (0, 3) and not line.startswith(f"{self.program}: "):
             return Said(0, "")
         return said_of(done.returncode, line.removeprefix(f"{self.program}: "))

@@ -132,12 +132,21 @@ def with_reasons(question: Question, every: list[Faulty]) -> list[Faulty]:
 
 def _faulty(draft: Draft, table: str, listed_row: list[str]) -> Faulty:
     _, line, field, octet, words = listed_row
-    octets, first = draft.text.octets, int(line)
+    octets, number = draft.text.octets, int(field) if field else None
     begin = max(octets.rfind(b"\n", 0, int(octet)), octets.rfind(b"\r", 0, int(octet))) + 1
-    before = decoded(octets[begin : int(octet)])
-    is_there = draft.text.line(first).startswith(before)
-    number = int(field) if field else None
-    return Faulty(draft, table, row_at(draft, first), said_of(1, words), number, len(before) if is_there else None)
+    column = len(decoded(octets[begin : int(octet)]))
+    row = row_of(draft, int(line), number or 0, column)
+    return Faulty(draft, table, row, said_of(1, words), number, column if row.first == int(line) else None)
+
+
+def row_of(draft: Draft, line: int, field: int, column: int) -> Row:
+    """The row whose field begins at a column of a line: mostly the one that begins in this line."""
+    spans = spans_of(draft.text.line(line))
+    if field < len(spans) and spans[field][0] == column:
+        return row_at(draft, line)
+    rows = table_of(draft.text).rows
+    around = [row for row in rows if row.first <= line <= row.last]
+    return around[0] if around else row_at(draft, line)
 
 
 def row_at(draft: Draft, first: int) -> Row:

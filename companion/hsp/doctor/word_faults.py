@@ -190,6 +190,9 @@ def _missing(line: Line, takes: Command, options: list[Option]) -> Iterator[Find
                 f"the form is {shown(line.command)}",
             ),
         )
+    if line.command == "faults" and len(names & set(takes.options)) != 1:
+        choices = " or ".join(f"--{option} FILE" for option in takes.options)
+        yield at_word(line, None, Words("faults reads one file", f"write one of {choices}", "a table, or a log"))
     if line.command == "locate":
         yield from _locate(line, names | set(misspelt))
     if line.command == "answer" and ("fronts" in names) != ("front" in names):
