@@ -123,22 +123,17 @@ def wrong_kind(question: Question, said: Said) -> Explained:
     else:
         remedy = "plan again with more capacity: hsp plan shows the least purchase"
     what, wanted = ("a shortage", "a plan") if is_shortage else ("a plan", "a shortage")
-    words = Words(
-        f"this is {what}, and {question.command} wants {wanted}",
-        remedy,
-        "the demand can't be met" if is_shortage else "the demand can be met",
-    )
+    message = f"this is {what}, and {question.command} wants {wanted}"
+    words = Words(message, remedy, "the demand can't be met" if is_shortage else "the demand can be met")
     return Explained(found(text.path, text.whole(2), words, said.line), [])
 
 
 def far_row(question: Question, said: Said) -> Explained:
     """A row of a log beyond the octets that are read of it."""
     path, line = question.files["log"].original.path, said.numbers["row"] + 2
-    words = Words(
-        f"row {line - 2:,} of the log has a fault: {said.word} {said.detail}".rstrip(),
-        f"look at the line: sed -n {line}p {shell_word(path)}; hsp doctor on a short log with it says more",
-        "the log is long, and the row is far behind",
-    )
+    message = f"row {line - 2:,} of the log has a fault: {said.word} {said.detail}".rstrip()
+    remedy = f"look at the line: sed -n {line}p {shell_word(path)}; hsp doctor on a short log with it says more"
+    words = Words(message, remedy, "the log is long, and the row is far behind")
     return Explained(found(path, Place(line, 0, 0, ""), words, said.line))
 
 
@@ -148,11 +143,8 @@ def count_too_large(question: Question, said: Said) -> Explained:
     remedy = f"give --unit {unit}, and divide capacities and limits by {unit:,}"
     if unit > GREATEST_UNIT:
         remedy = f"cut the log in parts, and plan each by itself: a unit is at most {GREATEST_UNIT:,}"
-    words = Words(
-        f"a row of the table is above {GREATEST_COUNT:,}",
-        remedy,
-        f"row {said.numbers.get('row', 0)} of the table that kinds makes: a long log",
-    )
+    message = f"a row of the table is above {GREATEST_COUNT:,}"
+    words = Words(message, remedy, f"row {said.numbers.get('row', 0)} of the table that kinds makes: a long log")
     return Explained(found(log, Place(), words, said.line), [])
 
 
@@ -172,19 +164,15 @@ def streams(question: Question, said: Said) -> Explained:
         )
         words = Words("the log can't be read to its end", remedy, why)
     else:
+        message = "an answer can't be written"
         words = Words(
-            "an answer can't be written",
-            "make room on the disk, or keep the reader of the pipe open",
-            "a full disk, or a closed pipe",
+            message, "make room on the disk, or keep the reader of the pipe open", "a full disk, or a closed pipe"
         )
     return Explained(found(log, Place(), words, said.line), [])
 
 
 def memory(question: Question, said: Said) -> Iterator[Explained]:
     size = sum(len(draft.original.octets) for draft in question.files.values())
-    words = Words(
-        "memory ran out",
-        "give the process more memory (ulimit -v), or close other programs",
-        f"the files have {some(size, 'octet')}",
-    )
+    remedy = "give the process more memory (ulimit -v), or close other programs"
+    words = Words("memory ran out", remedy, f"the files have {some(size, 'octet')}")
     yield Explained(found("", Place(), words, said.line), [])

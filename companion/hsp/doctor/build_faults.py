@@ -68,11 +68,8 @@ def _without_sites(question: Question, said: Said) -> Finding:
     """The one cause of many unknown names: settings without any block."""
     tables = [role for role in ("costs", "capacity") if role in question.files]
     names = dict.fromkeys(site for table in tables for site in table_of(question.text(table)).column("site"))
-    words = Words(
-        "the settings have no site",
-        "add a block [[site]] for each: hsp sites makes it",
-        f"the tables name {listed(map(quoted, names), 6)}",
-    )
+    remedy = "add a block [[site]] for each: hsp sites makes it"
+    words = Words("the settings have no site", remedy, f"the tables name {listed(map(quoted, names), 6)}")
     text = question.files["settings"].original
     return found(text.path, text.whole(1), words, said.line)
 
@@ -174,23 +171,16 @@ def no_capacity(question: Question, said: Said) -> Explained:
     )
     if near(site, like, 0.8) and not own:
         why = f"the rows may be those of {near(site, like, 0.8)}"
-    words = Words(
-        f"server {server} of {site} has no capacity",
-        f"add the row {site},{server},N with what it takes in place of N; 0 if it may get nothing",
-        why,
-        "the row belongs below this line",
-        f"NoCapacity {site}",
-    )
+    message = f"server {server} of {site} has no capacity"
+    remedy = f"add the row {site},{server},N with what it takes in place of N; 0 if it may get nothing"
+    words = Words(message, remedy, why, "the row belongs below this line", f"NoCapacity {site}")
     return Explained(found(draft.original.path, place, words, said.line), [mended])
 
 
 def _without_rows(text: Text, said: Said) -> Finding:
     """The one cause where each server lacks its row: capacities that are only a header."""
-    words = Words(
-        "the capacities have no rows",
-        f"add a row {HEADERS['capacity']} for each server, with what it takes; 0 if it may get nothing",
-        "each server of the settings has one",
-    )
+    remedy = f"add a row {HEADERS['capacity']} for each server, with what it takes; 0 if it may get nothing"
+    words = Words("the capacities have no rows", remedy, "each server of the settings has one")
     return found(text.path, text.whole(1), words, said.line)
 
 

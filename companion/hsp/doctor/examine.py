@@ -95,11 +95,9 @@ def _refused(question: Question, folder: str, fault: Exception) -> Examined:
 
 def _unexplained(path: str, said: Said) -> Finding:
     """What is said where time or memory ran out before the first fault was explained."""
-    words = Words(
-        f"hsplan says {said.line or 'nothing'}",
-        "look at the files there; FAULTS, which is installed with hsplan, has the word",
-        f"they are too large or too odd to be explained within {SECONDS:.0f} seconds",
-    )
+    message = f"hsplan says {said.line or 'nothing'}"
+    remedy = "look at the files there; FAULTS, which is installed with hsplan, has the word"
+    words = Words(message, remedy, f"they are too large or too odd to be explained within {SECONDS:.0f} seconds")
     return found(path, Place(), words, said.line)
 
 
@@ -110,11 +108,8 @@ def _no_service(folder: str) -> Finding:
     message = f"none of {listed(NAMES.values())} is here"
     if there:
         near = path_in(folder, there[0])
-        words = Words(
-            message,
-            f"hsp doctor {shell_word(near)}",
-            f"{listed(there)} in it {'has' if len(there) == 1 else 'have'} settings",
-        )
+        remedy = f"hsp doctor {shell_word(near)}"
+        words = Words(message, remedy, f"{listed(there)} in it {'has' if len(there) == 1 else 'have'} settings")
     else:
         words = Words(message, "give the folder that has them; hsp new makes such a folder", "another folder?")
     return found(folder, Place(), words, "read failed")
@@ -133,11 +128,8 @@ def titles_faults(folder: str) -> list[Finding]:
     try:
         said = tomllib.loads(text.octets.decode("utf-8"))
     except UnicodeDecodeError:
-        words = Words(
-            f"{TITLES} isn't UTF-8",
-            f"iconv -f windows-1252 -t utf-8 {shell_word(path)} > utf8.toml",
-            "a letter of Latin-1",
-        )
+        remedy = f"iconv -f windows-1252 -t utf-8 {shell_word(path)} > utf8.toml"
+        words = Words(f"{TITLES} isn't UTF-8", remedy, "a letter of Latin-1")
         return [found(path, Place(), words)]
     except tomllib.TOMLDecodeError as fault:
         advised = re.search(r"line (\d+)", str(fault))

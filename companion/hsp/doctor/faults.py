@@ -31,6 +31,8 @@ from hsp.doctor.word_doubts import word_doubts
 TURNS, OCTETS = 120, 100_000_000
 # How many faults a row may have, one behind the other.
 MOST_OF_ROW = 8
+# What hsplan-stream lists faulty rows of.
+LISTED = (*HEADERS, "log")
 USAGE_STATUS = 2
 
 Way = Callable[[Question, Said], "Explained | None"]
@@ -135,17 +137,20 @@ def _numbered(question: Question, said: Said, one: Explained) -> Explained:
     return one
 
 
-def _files_first(question: Question, line: str) -> tuple[Question, list[Finding]]:
-    """Faults of files that can't be read, and the question with others in their place."""
-    findings = []
-    for role in ORDER:
-        if role in question.files:
-            text = question.files[role].original
-            finding = file_finding(text.path, role, line, len(text.octets))
-            if finding:
-                findings.append(finding)
-                question = question.with_stand_in(role)
-    return question, findings
+def _with_readable(question: Question, line: str, result: Diagnosis) -> Question:
+    """Adds a finding for each file that can't be read. Returns the question with others in their place."""
+    for role in [role for role in ORDER if role in question.files]:
+        text = question.files[role].original
+        if finding := file_finding(text.path, role, line, len(text.octets)):
+            result.add(finding)
+            question = question.with_stand_in(role)
+    if not question.absent:
+        remedy, why = (
+            "look at the files one by one: cat FILE > /dev/null",
+            "a file that changes, or a disk that fails",
+        )
+        result.add(found("", Place(), Words("a file can't be read", remedy, why), line))
+    return without_answers(question) if question.absent & {"plan", "log", "file", "values"} else question
 
 
 def _is_another(explained: Explained, then: Explained) -> bool:
@@ -193,35 +198,20 @@ def diagnosed(question: Question, line: Line | None = None, show: Show = unheard
     """Asks, explains, mends a copy, and asks again until hsplan has no fault. Shows each finding at once."""
     said = question.ask()
     result = Diagnosis([], said.status, show=show)
-    if not said.line:
-        return result
     if said.word == "read failed":
-        question, findings = _files_first(question, said.line)
-        for finding in findings:
-            result.add(finding)
-        if not result.findings:
-            words = Words(
-                "a file can't be read",
-                "look at the files one by one: cat FILE > /dev/null",
-                "a file that changes, or a disk that fails",
-            )
-            result.add(found("", Place(), words, said.line))
-            return result
-        if any(role in question.absent for role in ("plan", "log", "file", "values")):
-            question = without_answers(question)
-        said = question.ask()
+        question = _with_readable(question, said.line, result)
+        said = question.ask() if question.absent else Said(0, "")
     octets = sum(len(draft.original.octets) for draft in question.files.values())
-    looked: list[Draft] = []
+    listed: dict[str, Draft] = {}
     for _ in range(max(3, min(TURNS, OCTETS // max(1, octets)))):
         if not said.line or _is_consequence(question, said):
             return result
-        draft = question.files.get(said.where)
-        if said.where in (*HEADERS, "log") and said.word != "Header" and draft and draft not in looked:
-            question = _without_faulty(question, said.where, result)
-            looked.append(question.files[said.where])
-            if question.files[said.where] is not draft:
-                said = question.ask()
-                continue
+        table = said.where
+        if table in LISTED and said.word != "Header" and question.files.get(table) is not listed.get(table):
+            question = _without_faulty(question, table, result)
+            listed[table] = question.files[table]
+            said = question.ask()
+            continue
         one = explained(question, said, line)
         if one.finding and not _is_known(result.findings, one.finding):
             result.add(one.finding)

@@ -23,11 +23,8 @@ def unreadable(path: str, role: str) -> Words | None:
     if path == "-":
         return Words("'-' is no file here", "give /dev/stdin for standard input", "'-' is a name like any other")
     if not path:
-        return Words(
-            f"the name of the file for --{role} is empty",
-            f"give a file behind --{role}",
-            "a variable of the shell that isn't set?",
-        )
+        message = f"the name of the file for --{role} is empty"
+        return Words(message, f"give a file behind --{role}", "a variable of the shell that isn't set?")
     try:
         mode = os.stat(path).st_mode
     except FileNotFoundError:
@@ -53,11 +50,8 @@ def _of_mode(path: str, role: str, mode: int) -> Words | None:
     if stat.S_ISREG(mode) and role != "log" and os.stat(path).st_size > LARGEST:
         return TOO_LARGE
     if not os.access(path, os.R_OK):
-        return Words(
-            "you may not read this file",
-            f"chmod +r {shell_word(path)}, or run as its owner",
-            "its rights don't let you",
-        )
+        message = "you may not read this file"
+        return Words(message, f"chmod +r {shell_word(path)}, or run as its owner", "its rights don't let you")
     return None
 
 
@@ -65,17 +59,11 @@ def _absent(path: str, role: str) -> Words:
     """A file that isn't there: a near name in its folder, or the nearest folder that is."""
     folder = os.path.dirname(path) or "."
     if os.path.islink(path):
-        return Words(
-            "a link to a file that isn't there",
-            "mend the link, or put its file back",
-            f"it leads to {os.readlink(path)}",
-        )
+        message = "a link to a file that isn't there"
+        return Words(message, "mend the link, or put its file back", f"it leads to {os.readlink(path)}")
     if path.startswith("~"):
-        return Words(
-            "no such file",
-            f"write $HOME in place of ~, or a blank before it: --{role} ~/..",
-            "the shell didn't replace ~",
-        )
+        remedy = f"write $HOME in place of ~, or a blank before it: --{role} ~/.."
+        return Words("no such file", remedy, "the shell didn't replace ~")
     if not os.path.isdir(folder):
         return Words("no such file", f"mend the path: there is no folder {folder}", f"{folder} isn't there")
     names = sorted(name for name in os.listdir(folder) if not name.startswith("."))
@@ -85,11 +73,8 @@ def _absent(path: str, role: str) -> Words:
     if near and not difflib.get_close_matches(stem, [os.path.splitext(near[0])[0]], 1, 0.6):
         near = [name for name in (CONVENTIONS.get(role, ""),) if name in names]
     if near:
-        return Words(
-            "no such file",
-            f"did you mean {os.path.join(os.path.dirname(path), near[0])}? Rename it, or give it by --{role}",
-            f"{near[0]} is there",
-        )
+        remedy = f"did you mean {os.path.join(os.path.dirname(path), near[0])}? Rename it, or give it by --{role}"
+        return Words("no such file", remedy, f"{near[0]} is there")
     remedy = f"give another file by --{role}" + (
         "; hsp new makes a folder with all of them" if role in CONVENTIONS else ""
     )

@@ -39,11 +39,8 @@ def _of_octets(text: Text) -> Cause | None:
     """A file that is packed, or in another encoding."""
     octets = text.octets
     if octets[:2] in (b"\xff\xfe", b"\xfe\xff"):
-        return Cause(
-            "a file in UTF-16, as programs of Windows write",
-            f"iconv -f utf-16 -t utf-8 {shell_word(text.path)} > utf8.csv",
-            octets.decode("utf-16", "replace"),
-        )
+        remedy = f"iconv -f utf-16 -t utf-8 {shell_word(text.path)} > utf8.csv"
+        return Cause("a file in UTF-16, as programs of Windows write", remedy, octets.decode("utf-16", "replace"))
     if octets[:2] == b"\x1f\x8b":
         try:
             plain = decoded(gzip.decompress(octets))
@@ -67,11 +64,8 @@ def _of_whole(text: Text, wanted: list[str]) -> Cause | None:
     bare = re.sub(r"\s*,\s*", ",", first.strip())
     if bare in wanted and first != bare:
         plain = "\n".join(re.sub(r" *, *", ",", line.strip()) for line in text.lines)
-        return Cause(
-            "blanks beside the commas",
-            f"sed 's/ *, */,/g; s/^ *//; s/ *$//' {shell_word(text.path)} > plain.csv",
-            plain,
-        )
+        why = "blanks beside the commas"
+        return Cause(why, f"sed 's/ *, */,/g; s/^ *//; s/ *$//' {shell_word(text.path)} > plain.csv", plain)
     return None
 
 
@@ -210,9 +204,6 @@ def too_many(question: Question, role: str, said: Said) -> Explained:
 
 def log_too_long(question: Question, said: Said) -> Finding:
     """A log that has more rows than dispatch takes."""
-    words = Words(
-        "the log has more rows than dispatch takes",
-        "hsplan-stream answer takes a log of any length; or cut the log in parts",
-        f"each run of dispatch takes {MOST_LOG_ROWS:,} rows",
-    )
+    message, why = "the log has more rows than dispatch takes", f"each run of dispatch takes {MOST_LOG_ROWS:,} rows"
+    words = Words(message, "hsplan-stream answer takes a log of any length; or cut the log in parts", why)
     return found(question.files["log"].original.path, Place(), words, said.line)

@@ -74,11 +74,9 @@ def of_mark(question: Question, mark: Mark) -> list[Finding]:
 
 def _undivided(question: Question, mark: Mark) -> Words:
     folder = shell_word(folder_of(question) or ".")
-    return Words(
-        f"the demand counts in units of {mark.unit:,}, and these capacities count in queries",
-        f"give the ones in units, which hsp plan {folder} keeps beside its plan",
-        f"each server would take {mark.unit:,} times what it can",
-    )
+    message = f"the demand counts in units of {mark.unit:,}, and these capacities count in queries"
+    remedy = f"give the ones in units, which hsp plan {folder} keeps beside its plan"
+    return Words(message, remedy, f"each server would take {mark.unit:,} times what it can")
 
 
 @dataclass(frozen=True)

@@ -72,12 +72,9 @@ def of_another(service: Service) -> Iterator[Finding]:
     if 0 <= service.asked - known <= len(service.rows) * (service.unit - 1):
         return
     path = path_in(service.folder, TITLES)
-    words = Words(
-        "the table [demand] of hsp.toml is of another demand",
-        "count the logs again, or write [demand] for this demand by hand",
-        f"it has {known:,} queries, and the demand comes to {service.asked:,}",
-        name="mark of another demand",
-    )
+    remedy = "count the logs again, or write [demand] for this demand by hand"
+    why = f"it has {known:,} queries, and the demand comes to {service.asked:,}"
+    words = Words("the table [demand] of hsp.toml is of another demand", remedy, why, name="mark of another demand")
     yield found(path, value_of(read_text(path), TABLE, 0, "queries"), words, "", WARNING)
 
 

@@ -65,11 +65,8 @@ def octets_words(octets: bytes, path: str, programs: Programs) -> Words | None:
     """What octets are that aren't a record."""
     stripped = octets.strip()
     if not stripped:
-        return Words(
-            "",
-            "hsp sites prints the fields of a site from JSON, hexadecimal digits or base64",
-            f"the {'file' if path else 'record'} is empty",
-        )
+        remedy = "hsp sites prints the fields of a site from JSON, hexadecimal digits or base64"
+        return Words("", remedy, f"the {'file' if path else 'record'} is empty")
     if stripped[:1] in (b"{", b"["):
         head = b"TOML" if stripped[:2] == b"[[" else b"JSON"
         if head == b"TOML":
@@ -86,11 +83,8 @@ def octets_words(octets: bytes, path: str, programs: Programs) -> Words | None:
         return Words("", "give the octets of the record, as siteinfo.bin has them", "a text in place of octets")
     values = run("hsplan", "site", "--index=1", programs.put(octets, ".values"))
     if not values.status or "Value" in values.line:
-        return Words(
-            "",
-            f"hsplan site --index N {shell_word(path)}, with the index of the site's value",
-            "a value list in place of a record",
-        )
+        remedy = f"hsplan site --index N {shell_word(path)}, with the index of the site's value"
+        return Words("", remedy, "a value list in place of a record")
     return None
 
 
@@ -101,14 +95,8 @@ def record_words(octets: bytes, said: Said, path: str, programs: Programs) -> tu
     if advised:
         return advised, b""
     if said.detail == "TooManyServers" or said.word == "TooManyServers":
-        return (
-            Words(
-                "",
-                "give the octets of the record, as siteinfo.bin has them",
-                "octets that aren't a record, or a very large service",
-            ),
-            b"",
-        )
+        remedy = "give the octets of the record, as siteinfo.bin has them"
+        return (Words("", remedy, "octets that aren't a record, or a very large service"), b"")
     counted = with_number(programs, octets, at)
     if counted:
         old, new, changed = counted
@@ -156,12 +144,9 @@ def bad_record(question: Question, said: Said) -> Explained:
 def _bad_value(question: Question, said: Said, number: int, name: str) -> Explained:
     """A value of a list that isn't a site's record."""
     path = question.files["settings"].original.path
-    words = Words(
-        f"the value of '{name}' isn't a record that can be read",
-        "give the index of the site's value: hsplan site --index N FILE prints a good one",
-        f"the value list has other octets there ({said.detail or said.word})",
-        group=f"BadRecord {number}",
-    )
+    remedy = "give the index of the site's value: hsplan site --index N FILE prints a good one"
+    why = f"the value list has other octets there ({said.detail or said.word})"
+    words = Words(f"the value of '{name}' isn't a record that can be read", remedy, why, group=f"BadRecord {number}")
     ways = mends(without_block(question, "site", number), question.with_stand_in("settings"))
     return Explained(found(path, place_in(question, "site", number, "index"), words, said.line), ways)
 
@@ -180,19 +165,13 @@ def no_value(question: Question, said: Said) -> Explained:
             if os.path.exists(beside)
             else "put the value list in sites.values beside the settings"
         )
-        words = Words(
-            f"site '{name}' has an index, and there is no value list",
-            f"give --values FILE; {there}",
-            "an index counts in a value list",
-        )
+        message = f"site '{name}' has an index, and there is no value list"
+        words = Words(message, f"give --values FILE; {there}", "an index counts in a value list")
     elif said.word == "NotSiteValue":
         other = f"; HS_SITE stands at {good}" if good else ""
-        words = Words(
-            f"the value with index {index} isn't an HS_SITE",
-            f"write the index of the site's value{other}",
-            "another value of the handle, as a key or an address",
-            group=f"NotSiteValue {number}",
-        )
+        remedy = f"write the index of the site's value{other}"
+        why = "another value of the handle, as a key or an address"
+        words = Words(f"the value with index {index} isn't an HS_SITE", remedy, why, group=f"NotSiteValue {number}")
     else:
         other = f"write index = {good}" if good else "write an index that the list has"
         words = Words(

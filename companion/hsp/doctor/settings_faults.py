@@ -144,11 +144,10 @@ def record_words(record: str, folder: str) -> Words:
         return Words("", "take the blanks or colons out", "blanks or colons between the digits")
     if re.search(r"\.\w{1,6}$", record) or os.path.exists(os.path.join(folder, record)):
         why = "the name of a file in place of its octets"
-        return Words(
-            "",
-            f"hsp sites {shell_word(record[:40])} prints the block; or xxd -p {shell_word(record[:40])} | tr -d '\\n'",
-            why,
+        remedy = (
+            f"hsp sites {shell_word(record[:40])} prints the block; or xxd -p {shell_word(record[:40])} | tr -d '\\n'"
         )
+        return Words("", remedy, why)
     if record.lstrip().startswith(("{", "[")):
         return Words("", "save it in a file; hsp sites prints the block", "JSON in place of hexadecimal digits")
     wrong = re.search(r"[^0-9A-Fa-f]", record)
@@ -176,11 +175,8 @@ def _source_words(name: str, site: dict[str, Any], folder: str) -> Words:
     if record is not None:
         return Words(f"the record of '{name}' isn't a text", "put quotes about the digits", "a record is a text")
     why = f"an index is a whole number up to {GREATEST_ID:,}, without quotes"
-    return Words(
-        f"the index of '{name}' isn't a whole number from 0 on",
-        "write the index of the site's value, as index = 3",
-        why,
-    )
+    message = f"the index of '{name}' isn't a whole number from 0 on"
+    return Words(message, "write the index of the site's value, as index = 3", why)
 
 
 def bad_site(question: Question, said: Said) -> Explained:
@@ -211,11 +207,8 @@ def _one_table(question: Question, said: Said, block: str) -> Explained:
     """A single table, or another value, where a list of blocks stands."""
     text = question.text("settings")
     place = text.match(rf"^\s*(\[\s*{block}\s*\])") or head_of(text, block, 0)
-    words = Words(
-        f"{place.text.strip()[:20]} is one table; {block}s are a list",
-        f"write [[{block}]] for each",
-        "two brackets on each side",
-    )
+    message = f"{place.text.strip()[:20]} is one table; {block}s are a list"
+    words = Words(message, f"write [[{block}]] for each", "two brackets on each side")
     return Explained(
         found(text.path, place, words, said.line),
         [question.with_line("settings", place.line, f"[[{block}]]"), question.with_stand_in("settings")],
@@ -236,11 +229,8 @@ def _bad_site_name(question: Question, said: Said, number: int, name: object) ->
     meant = near(plain, free) if plain else (free[0] if len(free) == 1 else "")
     as_used = f'write name = "{meant}", as the tables have it' if meant else ""
     if name is None:
-        words = Words(
-            f"site {number + 1} has no name",
-            as_used or 'write a line name = ".." in its block',
-            "each site has a name",
-        )
+        message = f"site {number + 1} has no name"
+        words = Words(message, as_used or 'write a line name = ".." in its block', "each site has a name")
     elif not isinstance(name, str):
         words = Words("the name of a site isn't a text", f'write name = "{name}"', "a name stands in quotes")
     else:
@@ -290,21 +280,15 @@ def _address_words(address: str) -> tuple[Words, str]:
     """What is wrong with the address of a host, and what it likely is."""
     try:
         octets = ipaddress.ip_address(address.strip()).packed.rjust(16, bytes(1)).hex()
-        return (
-            Words("", f'write address = "{octets}"', "an address is written as 16 octets in hexadecimal digits"),
-            octets,
-        )
+        remedy = f'write address = "{octets}"'
+        return (Words("", remedy, "an address is written as 16 octets in hexadecimal digits"), octets)
     except ValueError:
         pass
     bare = re.sub(r"^0[xX]|[^0-9A-Fa-f]", "", address)
     if len(bare) in (8, 32) and len(address) - len(bare) < 20:
         octets = bare.rjust(32, "0")
-        return (
-            Words(
-                "", f'write address = "{octets}"', "16 octets are 32 digits; an IPv4 address has 24 zeros in front"
-            ),
-            octets,
-        )
+        remedy = f'write address = "{octets}"'
+        return (Words("", remedy, "16 octets are 32 digits; an IPv4 address has 24 zeros in front"), octets)
     why = f"{len(address)} signs in place of 32 hexadecimal digits"
     return Words("", "copy the address of a server as hsplan site prints it", why), ""
 
@@ -327,11 +311,8 @@ def _host_words(host: dict[str, Any]) -> tuple[str, Words, str]:
     is_plain = digits and len(digits) < 12 and not str(limit).startswith("-")
     remedy = f"write limit = {digits}" if is_plain else f"write a whole number from 0 to {GREATEST_LIMIT}"
     message = f"the limit {quoted(str(limit))} isn't a whole number within its bounds"
-    return (
-        "limit",
-        Words(message, remedy, f"a limit has only digits, without quotes, up to 10^{len(str(GREATEST_LIMIT)) - 1}"),
-        "1000000",
-    )
+    why = f"a limit has only digits, without quotes, up to 10^{len(str(GREATEST_LIMIT)) - 1}"
+    return ("limit", Words(message, remedy, why), "1000000")
 
 
 def bad_host(question: Question, said: Said) -> Explained:

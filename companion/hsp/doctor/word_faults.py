@@ -51,13 +51,8 @@ def command_fault(line: Line) -> Finding | None:
         return None
     if command in COMMANDS:
         other = COMMANDS[command].program
-        return at_word(
-            line,
-            first,
-            Words(
-                f"{line.program} has no command {command}", f"write {other} {command}", f"it is a command of {other}"
-            ),
-        )
+        message = f"{line.program} has no command {command}"
+        return at_word(line, first, Words(message, f"write {other} {command}", f"it is a command of {other}"))
     if command.startswith("-"):
         _, others = split(replace(line, words=[first, *line.words]))
         later = next((word.text for word in others if word.text in own), "")
@@ -84,11 +79,8 @@ def _of_companion(line: Line) -> Words:
     second, third = ([word.text for word in line.words] + ["", ""])[1:3]
     if second in OF_FOLDERS:
         folder = third if third and not third.startswith("-") else "DIR"
-        return Words(
-            "hsp's own words need no --",
-            f"hsp doctor {folder if folder == 'DIR' else shell_word(folder)}",
-            f"hsp {second} asks the doctor about its folder first",
-        )
+        remedy = f"hsp doctor {folder if folder == 'DIR' else shell_word(folder)}"
+        return Words("hsp's own words need no --", remedy, f"hsp {second} asks the doctor about its folder first")
     return Words(
         "hsp's own words aren't for the doctor", "hsp --help lists its commands", "behind -- stand words of hsplan"
     )
@@ -112,11 +104,8 @@ def _unknown_option(line: Line, takes: Command, option: Option, taken: set[str])
     elif meant:
         words = Words(f"no option {option.word.text}", f"write --{meant}", "", f"did you mean --{meant}?")
     elif elsewhere:
-        words = Words(
-            f"{command} has no option --{option.name}",
-            "take it out with its value",
-            f"it is an option of {', '.join(elsewhere)}",
-        )
+        message = f"{command} has no option --{option.name}"
+        words = Words(message, "take it out with its value", f"it is an option of {', '.join(elsewhere)}")
     else:
         words = Words(
             f"no option {option.word.text}", f"take it out; {command} has --{', --'.join(takes.options)}", ""
@@ -125,52 +114,36 @@ def _unknown_option(line: Line, takes: Command, option: Option, taken: set[str])
 
 
 def _option_faults(line: Line, takes: Command, options: list[Option]) -> Iterator[Finding]:
-    seen: dict[str, Option] = {}
+    seen: set[str] = set()
     right = {option.name for option in options if option.name in takes.options}
     for option in options:
-        is_short = not option.word.text.startswith("--")
         if option.name not in takes.options:
             yield _unknown_option(line, takes, option, right)
-        elif is_short:
-            words = Words(f"{option.word.text} has one hyphen", f"write --{option.name}", "options have two hyphens")
-            yield at_word(line, option.word, words)
-        elif option.name in seen:
-            words = Words(f"--{option.name} stands twice", "take one of them out with its value", "", "the second")
-            yield at_word(line, option.word, words)
-        elif option.value_word and option.value_word.text == "=":
-            words = Words(
-                "a blank stands beside '='", f"write --{option.name} {option.value}", "", "an option and its value"
-            )
-            yield at_word(line, option.value_word, words)
-        elif option.value is None:
-            what = "a file" if option.name in FILES else "a value"
-            words = Words(
-                f"--{option.name} has no value",
-                f"write {what} behind --{option.name}",
-                "the next word is an option, or there is none",
-            )
-            yield at_word(line, option.word, words)
-        elif (
-            option.value_word
-            and option.value_word is not option.word
-            and option.value.startswith("-")
-            and len(option.value) > 1
-        ):
-            remedy = f"write --{option.name}={option.value}"
-            yield at_word(
-                line,
-                option.value_word,
-                Words(f"{option.value} is read as an option", remedy, "it begins with a hyphen"),
-            )
-        elif option.name == "kind" and option.value not in KINDS:
-            meant = near(option.value, KINDS, 0.6)
-            remedy = f"write {meant}" if meant else f"write one of {', '.join(KINDS)}"
-            yield at_word(
-                line,
-                option.value_word,
-                Words(f"no kind {quoted(option.value)}", remedy, f"the kinds are {', '.join(KINDS)}"),
-            )
-        seen.setdefault(option.name, option)
+        elif about := _of_option(option, option.name in seen):
+            yield at_word(line, *about)
+        seen.add(option.name)
+
+
+def _of_option(option: Option, is_second: bool) -> tuple[Word | None, Words] | None:
+    """What is wrong with an option that the command has, or with its value."""
+    name, value, own = option.name, option.value, option.value_word
+    if not option.word.text.startswith("--"):
+        return option.word, Words(f"{option.word.text} has one hyphen", f"write --{name}", "options have two hyphens")
+    if is_second:
+        return option.word, Words(f"--{name} stands twice", "take one of them out with its value", "", "the second")
+    if own and own.text == "=":
+        return own, Words("a blank stands beside '='", f"write --{name} {value}", "", "an option and its value")
+    if value is None:
+        remedy = f"write {'a file' if name in FILES else 'a value'} behind --{name}"
+        why = "the next word is an option, or there is none"
+        return option.word, Words(f"--{name} has no value", remedy, why)
+    if own and own is not option.word and value.startswith("-") and len(value) > 1:
+        return own, Words(f"{value} is read as an option", f"write --{name}={value}", "it begins with a hyphen")
+    if name == "kind" and value not in KINDS:
+        meant, kinds = near(value, KINDS, 0.6), ", ".join(KINDS)
+        remedy = f"write {meant}" if meant else f"write one of {kinds}"
+        return own, Words(f"no kind {quoted(value)}", remedy, f"the kinds are {kinds}")
+    return None
 
 
 def _missing(line: Line, takes: Command, options: list[Option]) -> Iterator[Finding]:
@@ -181,15 +154,8 @@ def _missing(line: Line, takes: Command, options: list[Option]) -> Iterator[Find
     if lacking:
         listed = " and ".join(f"--{name}" for name in lacking)
         values = " ".join(f"--{name} {'FILE' if name in FILES else 'load'}" for name in lacking)
-        yield at_word(
-            line,
-            None,
-            Words(
-                f"{line.command} needs {listed} too",
-                f"write {values} behind it",
-                f"the form is {shown(line.command)}",
-            ),
-        )
+        message = f"{line.command} needs {listed} too"
+        yield at_word(line, None, Words(message, f"write {values} behind it", f"the form is {shown(line.command)}"))
     if line.command == "faults" and len(names & set(takes.options)) != 1:
         choices = " or ".join(f"--{option} FILE" for option in takes.options)
         yield at_word(line, None, Words("faults reads one file", f"write one of {choices}", "a table, or a log"))
@@ -197,29 +163,15 @@ def _missing(line: Line, takes: Command, options: list[Option]) -> Iterator[Find
         yield from _locate(line, names | set(misspelt))
     if line.command == "answer" and ("fronts" in names) != ("front" in names):
         absent = "front" if "fronts" in names else "fronts"
-        yield at_word(
-            line,
-            None,
-            Words(
-                f"--{absent} is missing",
-                f"write --{absent} N too, or neither of the two",
-                "--fronts N --front K belong together",
-            ),
-        )
+        remedy = f"write --{absent} N too, or neither of the two"
+        yield at_word(line, None, Words(f"--{absent} is missing", remedy, "--fronts N --front K belong together"))
 
 
 def _locate(line: Line, names: set[str]) -> Iterator[Finding]:
     forms = f"locate --settings FILE HANDLE, or locate --option {VALUES['option']} --servers N HANDLE"
     if "settings" in names and names & {"option", "servers"}:
-        yield at_word(
-            line,
-            None,
-            Words(
-                "--settings and --option exclude each other",
-                "keep either --settings, or --option and --servers",
-                f"the forms are {forms}",
-            ),
-        )
+        message, why = "--settings and --option exclude each other", f"the forms are {forms}"
+        yield at_word(line, None, Words(message, "keep either --settings, or --option and --servers", why))
     elif "settings" not in names:
         lacking = [name for name in ("option", "servers") if name not in names]
         if lacking:
@@ -240,14 +192,9 @@ def _other_words(line: Line, takes: Command, options: list[Option], others: list
     wanted = 1 if takes.last else 0
     if len(others) < wanted:
         example = "20.500.1234/report-2024" if takes.last == "handle" else "FILE"
+        message = f"the {takes.last} is missing"
         yield at_word(
-            line,
-            None,
-            Words(
-                f"the {takes.last} is missing",
-                f"write {example} as the last word",
-                f"the form is {shown(line.command)}",
-            ),
+            line, None, Words(message, f"write {example} as the last word", f"the form is {shown(line.command)}")
         )
     given = {option.name for option in options}
     for other in others[wanted:]:
@@ -278,11 +225,8 @@ def usage(line: Line) -> list[Finding]:
     if not {"h", "help"} & {option.name for option in options if option.name not in takes.options}:
         faults += _missing(line, takes, options)
     if not faults:
-        words = Words(
-            "these words are no command",
-            f"compare with {shown(line.command)}",
-            "an option is missing, misspelt, or twice",
-        )
+        message = "these words are no command"
+        words = Words(message, f"compare with {shown(line.command)}", "an option is missing, misspelt, or twice")
         faults = [at_word(line, None, words)]
     return faults
 
@@ -325,11 +269,9 @@ def value_fault(line: Line, word: str) -> Finding:
     finding = at_word(
         line, option.value_word if option else None, Words(f"--{name} doesn't take {quoted(value)}", remedy, why)
     )
+    message = finding.message
     return found(
-        "",
-        Place(1, finding.column, finding.end - finding.column, line.text),
-        Words(finding.message, remedy, why),
-        word,
+        "", Place(1, finding.column, finding.end - finding.column, line.text), Words(message, remedy, why), word
     )
 
 
