@@ -88,7 +88,7 @@ def test_a_row_has_as_many_faults_as_fields(tmp_path: Path) -> None:
 def test_bad_handles_of_a_log_have_their_reasons(tmp_path: Path) -> None:
     handles = [b"20.1", b"20..1/a", b"20.1/\xe4", b"20.1/" + b"a" * 4096, b'"20.1\n/a"', b"20.1/a"]
     question = of_table(tmp_path / "log.csv", LOG + b"".join(b"eu,%b\n" % it for it in handles), "log")
-    found = table_faults.faulty_rows(question, "log")
+    found = list(table_faults.faulty_rows(question, "log"))
     assert [it.said.detail for it in found] == ["NoSlash", "EmptySegment", "NotUtf8", "TooLong"]
     assert [(it.row.first, it.field, it.column) for it in found] == [(line, 1, 3) for line in (2, 3, 4, 5)]
 
@@ -96,12 +96,11 @@ def test_bad_handles_of_a_log_have_their_reasons(tmp_path: Path) -> None:
 def test_so_many_rows_are_looked_at(tmp_path: Path, monkeypatch: pytest.MonkeyPatch) -> None:
     monkeypatch.setattr(table_faults, "MOST_FAULTY", 3)
     question = of_table(tmp_path / "demand.csv", HEAD + b"eu,20.1,1\n" * 9)
-    assert len(table_faults.faulty_rows(question, "demand")) == 3
+    assert len(list(table_faults.faulty_rows(question, "demand"))) == 3
 
 
 def test_a_header_is_no_row(tmp_path: Path) -> None:
     question = of_table(tmp_path / "demand.csv", b"region,handle\neu,20.1\n")
-    (only,) = table_faults.faulty_rows(question, "demand")
-    assert (only.said.line, only.field) == ("demand: Header", None)
+    assert list(table_faults.faulty_rows(question, "demand")) == []
     result = Diagnosis([], 1)
     assert faults._without_faulty(question, "demand", result) is question and result.findings == []

@@ -152,3 +152,13 @@ def name_signs() -> str:
     ranges = "".join(f"{a}-{b}" for a, b in re.findall(r"b'(.)'\.\.=b'(.)'", body))
     single = re.findall(r"(?:^|\| )b'(.)'(?= \||$)", body)
     return ranges + "".join(sorted(single, key=lambda sign: sign == "-"))
+
+
+def name_rule() -> str:
+    """The same in words, which know these ranges only."""
+    signs = name_signs()
+    bare = signs.removeprefix("A-Za-z0-9")
+    if bare == signs:
+        raise Unread("the signs of a name have other ranges than tools/lib/grammar.py has words for")
+    *first, last = (f"'{sign}'" for sign in sorted(bare, key="-_.".find))
+    return f"a name has only ASCII letters, digits, {', '.join(first)} and {last}"

@@ -118,3 +118,5 @@ LONGEST_ROW = 1_048_576
 GREATEST_UNIT = 1_000_000
 # The greatest count of a row of a log.
 GREATEST_ROW_COUNT = 1_000_000_000_000
+
+NAME_RULE = f"a name has only ASCII letters, digits, '-', '_' and '.', and at most {LONGEST_NAME} of them"

@@ -166,7 +166,7 @@ class Bound(NamedTuple):
     cost: int
 
 
-def table_of(header: str, rows: Iterable[Iterable[object]]) -> str:
+def table_text(header: str, rows: Iterable[Iterable[object]]) -> str:
     """A table as comma-separated values."""
     out = io.StringIO()
     csv.writer(out, lineterminator="\n").writerows(rows)
@@ -204,7 +204,7 @@ class Programs:
             file.writelines(pieces)
 
     def put_table(self, header: str, rows: Iterable[Iterable[object]]) -> str:
-        return self.put(table_of(header, rows), ".csv")
+        return self.put(table_text(header, rows), ".csv")
 
     def in_units(self, inputs: Inputs) -> Inputs:
         """The inputs as hsplan takes them: capacities and limits in the units of the demand, rounded down."""

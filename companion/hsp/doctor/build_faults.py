@@ -10,7 +10,7 @@ from hsp.base.numbers import listed
 from hsp.base.programs import run
 from hsp.base.spelling import near
 from hsp.doctor.findings import Finding, Place, Text, Words, found, quoted
-from hsp.doctor.question import Question, Said
+from hsp.doctor.question import Question, Said, sites_used
 from hsp.doctor.rows import joined, table_of
 from hsp.doctor.table_faults import Explained, Faulty, numbered_row
 from hsp.doctor.toml_places import data_of, listed_in
@@ -66,10 +66,10 @@ def unknown_site(question: Question, said: Said) -> Explained | None:
 
 def _without_sites(question: Question, said: Said) -> Finding:
     """The one cause of many unknown names: settings without any block."""
-    tables = [role for role in ("costs", "capacity") if role in question.files]
-    names = dict.fromkeys(site for table in tables for site in table_of(question.text(table)).column("site"))
     remedy = "add a block [[site]] for each: hsp sites makes it"
-    words = Words("the settings have no site", remedy, f"the tables name {listed(map(quoted, names), 6)}")
+    words = Words(
+        "the settings have no site", remedy, f"the tables name {listed(map(quoted, sites_used(question)), 6)}"
+    )
     text = question.files["settings"].original
     return found(text.path, text.whole(1), words, said.line)
 
@@ -88,8 +88,7 @@ def short_of(name: str, names: list[str]) -> str:
 def _site_words(question: Question, faulty: Faulty, name: str, names: list[str]) -> tuple[str, Words]:
     """The site that was likely meant, and what is said of a name that no site has."""
     meant = near(name, names) or short_of(name, names)
-    tables = [role for role in ("costs", "capacity") if role in question.files]
-    used = {used_name for table in tables for used_name in table_of(question.text(table)).column("site")}
+    used = sites_used(question)
     lone = [other for other in names if other not in used]
     if len(lone) == 1 and (not meant or meant == lone[0]):
         meant = lone[0]

@@ -24,13 +24,15 @@ from hsp.doctor.file_faults import file_finding
 from hsp.doctor.findings import Finding, Place, Words, found
 from hsp.doctor.question import ORDER, Diagnosis, Draft, Mend, Question, Said, Show, draft_of, said_of, unheard
 from hsp.doctor.rows import columns_of
-from hsp.doctor.table_faults import OPEN_QUOTE, Explained, faulty_rows, numbered_row, said_of_row, with_reasons
+from hsp.doctor.table_faults import Explained, faulty_rows, mend_of, numbered_row, said_of_row, with_reasons
 from hsp.doctor.word_doubts import word_doubts
 
 # How often hsplan is asked about copies that were mended, and how many octets these may have together.
 TURNS, OCTETS = 120, 100_000_000
 # How many faults a row may have, one behind the other.
 MOST_OF_ROW = 8
+# So many findings of rows wait for those of lines above them.
+AT_ONCE = 200
 # What hsplan-stream lists faulty rows of.
 LISTED = (*HEADERS, "log")
 USAGE_STATUS = 2
@@ -87,10 +89,10 @@ def _of_log(question: Question, said: Said) -> Explained | None:
     if not faulty:
         return answer_faults.far_row(question, said)
     (faulty,) = with_reasons(question, [faulty])
-    about = said_of_row(faulty, columns_of(question.text("log"))[0], set())
+    about = said_of_row(faulty, columns_of(question.text("log"))[0], ())
     if not about:
         return None
-    mended = question.with_mends("log", [Mend(faulty.row, faulty.row.last, about[0].mended)])
+    mended = question.with_mends("log", [mend_of(faulty, about)])
     finding = found(faulty.path, about[1], about[0], faulty.words())
     return Explained(finding, [mended, question.without_rows("log", [faulty.row])])
 
@@ -228,24 +230,22 @@ def _without_faulty(question: Question, table: str, result: Diagnosis) -> Questi
 
     In a copy a faulty field is mended, since a row may have several. All rows are mended at once.
     """
-    findings: list[Finding] = []
-    spent: set[int] = set()
+    waiting: list[Finding] = []
+    whole: set[int] = set()  # rows whose next fault is one of a wrong mend
     for _ in range(MOST_OF_ROW):
-        every = [faulty for faulty in faulty_rows(question, table) if "row" in faulty.said.numbers]
-        if not every:
+        names, mends = columns_of(question.text(table)), dict[int, Mend]()
+        for faulty in faulty_rows(question, table):
+            first = faulty.row.first
+            about = None if first in whole else said_of_row(faulty, names[min(1, faulty.field or 0)], mends)
+            mends[first] = mend_of(faulty, about)
+            waiting += [found(faulty.path, about[1], about[0], faulty.words())] if about else []
+            whole |= {first} if faulty.said.word == "Fields" and mends[first].last == faulty.row.last else set()
+            if len(waiting) >= AT_ONCE:
+                result.add_all(waiting)
+        if not mends:
             break
-        names, others = columns_of(question.text(table)), {faulty.row.first for faulty in every}
-        lines: dict[int, Mend] = {faulty.row.first: Mend(faulty.row, faulty.row.last) for faulty in every}
-        for faulty in every:
-            about = said_of_row(faulty, names[min(1, faulty.field or 0)], others)
-            if about and faulty.row.first not in spent:
-                findings.append(found(faulty.path, about[1], about[0], faulty.words()))
-                last = faulty.row.first if about[0].group == OPEN_QUOTE else faulty.row.last
-                lines[faulty.row.first] = Mend(faulty.row, last, about[0].mended)
-                spent |= {faulty.row.first} if faulty.said.word == "Fields" and last == faulty.row.last else set()
-        question = question.with_mends(table, lines.values())
-    for finding in sorted(findings, key=lambda finding: finding.line):
-        result.add(finding)
+        question = question.with_mends(table, mends.values())
+    result.add_all(waiting)
     return question
 
 

@@ -16,7 +16,7 @@ from hsp.base.grammar import HEADERS
 from hsp.base.programs import Programs, program
 from hsp.base.text import is_utf8
 from hsp.doctor.findings import Finding, Text, encoded, read_text
-from hsp.doctor.rows import Row, joined
+from hsp.doctor.rows import Row, joined, table_of
 
 # The files in the order in which hsplan reads them.
 ORDER = ("settings", "values", "demand", "costs", "capacity", "plan", "log", "file")
@@ -86,6 +86,12 @@ class Diagnosis:
     def add(self, finding: Finding) -> None:
         self.findings.append(finding)
         self.show(finding)
+
+    def add_all(self, waiting: list[Finding]) -> None:
+        """Adds findings of one file by their lines, so that none waits any more."""
+        for finding in sorted(waiting, key=lambda finding: finding.line):
+            self.add(finding)
+        waiting.clear()
 
 
 def said_of(status: int, line: str) -> Said:
@@ -201,6 +207,12 @@ class Question:
         if done.returncode in (0, 3) and not line.startswith(f"{self.program}: "):
             return Said(0, "")
         return said_of(done.returncode, line.removeprefix(f"{self.program}: "))
+
+
+def sites_used(question: Question) -> list[str]:
+    """The names of sites in the costs and the capacities."""
+    tables = [table_of(question.text(role)) for role in ("costs", "capacity") if role in question.files]
+    return list(dict.fromkeys(site for table in tables for site in table.column("site")))
 
 
 def draft_of(programs: Programs, path: str) -> Draft:

@@ -9,13 +9,13 @@ from collections.abc import Iterator
 from dataclasses import replace
 from typing import Any
 
-from hsp.base.grammar import GREATEST_ID, GREATEST_LIMIT, MOST_HOSTS, MOST_SITES
+from hsp.base.grammar import GREATEST_ID, GREATEST_LIMIT, MOST_HOSTS, MOST_SITES, NAME_RULE
 from hsp.base.paths import shell_word
 from hsp.base.spelling import near
 from hsp.doctor.findings import Place, Words, found, quoted
-from hsp.doctor.question import Question, Said
+from hsp.doctor.question import Question, Said, sites_used
 from hsp.doctor.rows import table_of
-from hsp.doctor.table_faults import NAME_RULE, Explained, slug
+from hsp.doctor.table_faults import Explained, slug
 from hsp.doctor.toml_places import KEYS, blocks, data_of, head_of, listed_in, value_of
 
 
@@ -218,13 +218,7 @@ def _one_table(question: Question, said: Said, block: str) -> Explained:
 def _bad_site_name(question: Question, said: Said, number: int, name: object) -> Explained:
     text = question.text("settings")
     taken = {site.get("name") for site in listed_in(text, "site")}
-    used = [
-        site
-        for role in ("costs", "capacity")
-        if role in question.files
-        for site in table_of(question.text(role)).column("site")
-    ]
-    free = [other for other in dict.fromkeys(used) if other not in taken and slug(other) == other and other]
+    free = [other for other in sites_used(question) if other not in taken and slug(other) == other and other]
     plain = slug(name) if isinstance(name, str) else ""
     meant = near(plain, free) if plain else (free[0] if len(free) == 1 else "")
     as_used = f'write name = "{meant}", as the tables have it' if meant else ""
@@ -254,13 +248,7 @@ def site_twice(question: Question, said: Said) -> Explained:
     sites = listed_in(text, "site")
     name = str(sites[number].get("name")) if number < len(sites) else ""
     first = next((at for at, other in enumerate(sites[:number]) if other.get("name") == name), 0)
-    used = [
-        other
-        for role in ("costs", "capacity")
-        if role in question.files
-        for other in table_of(question.text(role)).column("site")
-    ]
-    free = [other for other in dict.fromkeys(used) if other not in {site.get("name") for site in sites} and other]
+    free = [other for other in sites_used(question) if other not in {site.get("name") for site in sites} and other]
     remedy = (
         f'write name = "{free[0]}", which the tables have and the settings lack'
         if free

@@ -7,7 +7,7 @@ import itertools
 import re
 import subprocess
 import unicodedata
-from collections.abc import Iterator
+from collections.abc import Collection, Iterator
 from dataclasses import dataclass, replace
 from typing import NamedTuple
 from urllib.parse import unquote
@@ -20,6 +20,7 @@ from hsp.base.grammar import (
     LONGEST_NAME,
     MOST_DEMAND_ROWS,
     MOST_REGIONS,
+    NAME_RULE,
     NAME_SIGNS,
 )
 from hsp.base.numbers import listed, some
@@ -28,10 +29,9 @@ from hsp.base.programs import program
 from hsp.base.spelling import near
 from hsp.doctor.findings import Finding, Place, Words, decoded, encoded, quoted
 from hsp.doctor.numbers_advice import QUOTES, advice
-from hsp.doctor.question import Draft, Question, Said, said_of
+from hsp.doctor.question import Draft, Mend, Question, Said, said_of
 from hsp.doctor.rows import Row, joined, spans_of, table_of
 
-NAME_RULE = f"a name has only ASCII letters, digits, '-', '_' and '.', and at most {LONGEST_NAME} of them"
 NUMBERS = ("count", "cost", "capacity", "server_id", "front")
 # So many faulty rows of a file are looked at.
 MOST_FAULTY = 10_000
@@ -104,15 +104,17 @@ class Faulty:
         return re.sub(r"row \d+", f"row {number}", self.said.line, count=1)
 
 
-def faulty_rows(question: Question, table: str) -> list[Faulty]:
-    """All rows of a table or a log that hsplan refuses, and what it refuses of the whole: those have no fields."""
+def faulty_rows(question: Question, table: str) -> Iterator[Faulty]:
+    """The rows of a table or a log that hsplan refuses, as they are found."""
     command = [program("hsplan-stream"), "faults", f"--{table}={question.path(table)}"]
     with subprocess.Popen(command, stdin=subprocess.DEVNULL, stdout=subprocess.PIPE, text=True) as run:
         assert run.stdout
-        rows = list(itertools.islice(csv.reader(run.stdout), 1, MOST_FAULTY + 1))
+        every = itertools.islice(csv.reader(run.stdout), 1, MOST_FAULTY + 1)
+        rows = (
+            faulty for row in every if "row" in (faulty := _faulty(question.files[table], table, row)).said.numbers
+        )
+        yield from rows if table in HEADERS else with_reasons(question, list(rows))
         run.kill()
-    every = [_faulty(question.files[table], table, row) for row in rows]
-    return every if table in HEADERS else with_reasons(question, every)
 
 
 def with_reasons(question: Question, every: list[Faulty]) -> list[Faulty]:
@@ -359,7 +361,7 @@ def _place_of_fields(faulty: Faulty) -> Place:
     return faulty.whole()
 
 
-def row_twice(faulty: Faulty, others: set[int]) -> Words:
+def row_twice(faulty: Faulty, others: Collection[int]) -> Words:
     """A row whose key an earlier one has; `others` are the lines of faulty ones."""
     fields, rows = faulty.fields, table_of(faulty.draft.text).rows
     first = next(row for row in rows if row.fields[:2] == fields[:2] and row.first not in others)
@@ -390,8 +392,8 @@ def open_quote(faulty: Faulty) -> tuple[Words, Place] | None:
     return words, faulty.draft.original.part(number(row.first), at, 1)
 
 
-def said_of_row(faulty: Faulty, names: dict[int, str], others: set[int]) -> tuple[Words, Place] | None:
-    """What is said of a faulty row, and where. `names` are those of its column, `others` the lines of faulty rows."""
+def said_of_row(faulty: Faulty, names: dict[int, str], others: Collection[int]) -> tuple[Words, Place] | None:
+    """What is said of a faulty row, and where. `names` are those of its column, `others` lines of faulty rows."""
     word = faulty.said.word
     if faulty.fields == faulty.header:
         return Words("the header stands among the rows", "take the line out", "two tables joined"), faulty.whole()
@@ -444,6 +446,12 @@ def too_many_kinds(_: Faulty) -> Words:
     why = "costs to all sites, or server counts without common factors"
     remedy = "give each region costs for only the three or four sites that it uses"
     return Words(f"here begins the {MOST_DEMAND_ROWS + 1:,}rd kind", remedy, why, group=f"TooManyKinds {why}")
+
+
+def mend_of(faulty: Faulty, about: tuple[Words, Place] | None) -> Mend:
+    """What stands in a copy in place of a faulty row. Where a quote is taken out, the lines below it are rows again."""
+    row, is_open = faulty.row, about is not None and about[0].group == OPEN_QUOTE
+    return Mend(row, row.first if is_open else row.last, about[0].mended if about else None)
 
 
 ROWS = {

@@ -7,7 +7,7 @@ from collections.abc import Sequence
 from importlib.resources import files
 
 from hsp.base.grammar import HEADERS
-from hsp.base.programs import table_of
+from hsp.base.programs import table_text
 from hsp.intake.records import Interface, ServerRecord, SiteRecord
 from hsp.plans.marks import TITLES
 from hsp.plans.service import NAMES
@@ -63,7 +63,7 @@ def example() -> dict[str, str]:
     titles = 'title = "An example"\ncost = "ms"\ntime = "the busiest hour"\n'
     return {
         NAMES["settings"]: _text(NAMES["settings"]) + "\n" + "\n".join(blocks),
-        **{NAMES[role]: table_of(HEADERS[role], rows) for role, rows in tables.items()},
+        **{NAMES[role]: table_text(HEADERS[role], rows) for role, rows in tables.items()},
         TITLES: titles,
         README: EXAMPLE + _text(README).partition("\n\n")[2],
     }
