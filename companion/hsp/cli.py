@@ -174,16 +174,16 @@ def main(context: click.Context) -> None:
 
 def with_files(command: Command) -> Command:
     """Adds the folder, and the options for other files."""
-    for kind in ("values", "capacity", "costs", "demand", "settings"):
-        words = "the value list that the settings refer to" if kind == "values" else f"in place of DIR's {kind}"
-        command = click.option(f"--{kind}", metavar="FILE", help=words)(command)
+    for role in ("values", "capacity", "costs", "demand", "settings"):
+        words = "the value list that the settings refer to" if role == "values" else f"in place of DIR's {role}"
+        command = click.option(f"--{role}", metavar="FILE", help=words)(command)
     return click.argument("folder", metavar="[DIR]", default=".", type=Folder())(command)
 
 
 def read_in(folder: str, given: Mapping[str, str | None]) -> list[str]:
     """The files of a folder that a command may read."""
     names = {**NAMES, "values": VALUES, "titles": TITLES}
-    return [given.get(kind) or path_in(folder, name) for kind, name in names.items()]
+    return [given.get(role) or path_in(folder, name) for role, name in names.items()]
 
 
 def write(path: str, text: str) -> None:
@@ -217,8 +217,8 @@ def sound(
         for line in list(finding_lines(found.errors))[:-1]:
             say(line, err=True)
         sys.exit(found.status)
-    warnings = [warning for warning in found.warnings if warning.kind != OLD_PLAN]
-    for warning in (warning for warning in warnings if warning.kind == MUCH_ADDED):
+    warnings = [warning for warning in found.warnings if warning.group != OLD_PLAN]
+    for warning in (warning for warning in warnings if warning.group == MUCH_ADDED):
         say(f"hsp: {warning.message}; {warning.remedy}", err=True)
     if warnings:
         titles = visible(listed(dict.fromkeys(warning.message for warning in warnings), 2))

@@ -372,7 +372,7 @@ def test_regions_of_a_maxmind_database(tmp_path: Path) -> None:
         (b'network,region\n10.0.0.0/8,"eu\n', "line 2: "),
         (
             b"network,region\n10.0.0.0/8,eu\n10.1.0.0/16,EU West\n192.0.2.0/24,EU West\n",
-            "networks.csv: line 3: hsplan refuses the region 'EU West': BadName; a region's name has ASCII letters",
+            "networks.csv: line 3: hsplan refuses the region 'EU West': BadName; a name has only ASCII letters",
         ),
         (
             b"network,region\n" + b"".join(b"10.%d.0.0/16,r%d\n" % (it, it) for it in range(99)) + b"::/0,\xc3\xa9\n",

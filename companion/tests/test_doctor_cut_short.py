@@ -16,7 +16,7 @@ from test_sites import invoke
 
 Example = Callable[[str], Path]
 FILES = ("settings.toml", "demand.csv", "costs.csv", "capacity.csv")
-HEADER = "region,handle,count\n"
+HEADER = "region,site,cost\n"
 AGAIN = "mend these, and ask again"
 
 
@@ -25,10 +25,10 @@ def at(file: Path, line: int, said: str = "demand: BadNumber row 0", severity: s
 
 
 def rows(bad: int, good: int, times: int) -> str:
-    """Rows of which the last ones of each turn have a count that isn't a number."""
-    turn = ["1"] * good + ["many"] * bad
-    handles = (f"20.500.1/{number}-{at},{count}" for number in range(times) for at, count in enumerate(turn))
-    return HEADER + "".join(f"eu,{it}\n" for it in handles)
+    """Costs of sites that the settings lack, with empty lines before those of each turn."""
+    turn = "\n" * good + "eu,{},5\n" * bad
+    names = iter(range(bad * times))
+    return HEADER + "".join(turn.format(*(f"none{next(names)}" for _ in range(bad))) for _ in range(times))
 
 
 @pytest.mark.parametrize("number, said", [(7, 7), (99, 99), (124, 120), (126, 130), (4960, 5000), (5100.4, 5100)])
@@ -48,7 +48,7 @@ def test_the_findings_of_all_rows_are_estimated_by_those_that_were_read(
     example: Example, few: None, bad: int, good: int, said: str
 ) -> None:
     folder = example("two-sites")
-    (folder / "demand.csv").write_text(rows(bad, good, 2000 // (bad + good)))
+    (folder / "costs.csv").write_text(rows(bad, good, 2000 // (bad + good)))
     shown = invoke("doctor", folder, status=1).stdout
     assert shown.splitlines()[-1] == f"the first 12 of some {said} findings: {AGAIN}"
     objects = json.loads(invoke("doctor", folder, "--json", status=1).stdout)
@@ -60,7 +60,7 @@ def test_the_findings_of_all_rows_are_estimated_by_those_that_were_read(
 
 def test_faults_of_words_are_estimated_too(example: Example, few: None) -> None:
     folder = example("two-sites")
-    (folder / "demand.csv").write_text(rows(1, 1, 500))
+    (folder / "costs.csv").write_text(rows(1, 1, 500))
     words = [it for name in FILES for it in (f"--{name.partition('.')[0]}", folder / name)]
     assert f"the first 12 of some 500 findings: {AGAIN}\n" in invoke("doctor", "--", "plan", *words, status=1).stdout
 
@@ -103,7 +103,7 @@ def test_large_files_are_asked_about_a_few_times(
 ) -> None:
     """As often as there is room for copies, but three times at least."""
     folder = example("two-sites")
-    (folder / "demand.csv").write_text(rows(1, 0, 100))
+    (folder / "costs.csv").write_text(rows(1, 0, 100))
     octets = sum((folder / it).stat().st_size for it in (*FILES, "sites.values"))
     for room, turns in ((1, 3), (4 * octets, 4), (5 * octets - 1, 4), (10**9, 12)):
         monkeypatch.setattr(faults, "OCTETS", room)

@@ -90,7 +90,7 @@ def test_a_doubt_is_not_raised_where_it_is_not_due(example: Example) -> None:
         folder = example("two-sites")
         (folder / file).write_text(edit((folder / file).read_text()))
         found = examined(str(folder), Programs(), {"settings": str(folder / file)} if file == HOSTS else {})
-        assert len(found.warnings) == 1 or len({it.kind for it in found.warnings}) == 1, (name, found.warnings)
+        assert len(found.warnings) == 1 or len({it.group for it in found.warnings}) == 1, (name, found.warnings)
         subprocess.run(["rm", "-r", str(folder)], check=True)
 
 

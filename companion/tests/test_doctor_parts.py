@@ -12,8 +12,8 @@ from hsp.doctor import answer_faults, faults, toml_faults
 from hsp.doctor.findings import Text
 from hsp.doctor.numbers_advice import advice
 from hsp.doctor.printing import lines
-from hsp.doctor.question import Draft, Question, Said
-from hsp.doctor.table_faults import open_quote, spot_of
+from hsp.doctor.question import Draft, Mend, Question, Said
+from hsp.doctor.table_faults import numbered_row, open_quote
 
 from printed import assert_kept
 from test_sites import invoke
@@ -37,12 +37,13 @@ def test_a_line_below_those_that_were_put_in_has_its_own_number() -> None:
 
 def test_an_open_quote_is_taken_out_and_nothing_else() -> None:
     question = question_of("demand", 'region,handle,count\neu,"20.500.1/a,1\neu,20.500.1/b,2\n')
-    spot = spot_of(question, "demand", 0)
-    assert spot
-    found = open_quote(spot, "demand: Fields row 0")
-    assert found and found.finding
-    assert next(iter(found.mended)).text("demand").line(2) == "eu,20.500.1/a,1"
-    assert (found.finding.line, found.finding.column) == (2, 4)
+    faulty = numbered_row(question, "demand", Said(1, "demand: Fields row 0", "demand", "Fields", numbers={"row": 0}))
+    assert faulty
+    found = open_quote(faulty)
+    assert found and found[0].mended == "eu,20.500.1/a,1"
+    mended = question.with_mends("demand", [Mend(faulty.row, faulty.row.first, found[0].mended)])
+    assert mended.text("demand").lines[1:3] == ["eu,20.500.1/a,1", "eu,20.500.1/b,2"]
+    assert (found[1].line, found[1].column) == (2, 4)
 
 
 def test_one_bracket_is_said_of_a_table_and_of_no_other_head() -> None:

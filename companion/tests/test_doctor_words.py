@@ -92,6 +92,8 @@ WORDS = [
     ("hsp sites answer.json", "hsp", "hsp --help"),
     ("site", "", "FILE as the last word"),
     ("hsplan-stream answer " + FILES + " --plan plan.txt --log log.csv --fronts 2", "", "--front N"),
+    ("hsplan-stream faults", "", "--demand FILE or --costs FILE or --capacity FILE or --log FILE"),
+    ("hsplan-stream faults --demand demand.csv --log log.csv", "", "write one of --demand FILE"),
 ]
 VALUES = [
     ("locate --option whole --servers 3 20.500.1234/film-5", "whole", "na, local or handle", "BadOption"),
@@ -227,6 +229,8 @@ LATER: list[tuple[str, str, bytes, bytes, int, str, str]] = [
     ("kinds", "log.csv", b"region,handle\n", b"region,handle,count\n", 2, "region,handle,count", "log: Fields row 0"),
     ("places", "log.csv", b"region,handle\n", b"handle,region\n", 1, "order", "log: Header"),
     ("locate", "settings.toml", b"name = ", b"name ", 2, 'name = "paris"', "settings: NotToml"),
+    ("faults", "demand.csv", b"report-2024,475", b"report-2024,4.5", 2, "write 5", "demand: BadNumber row 0"),
+    ("faults", "demand.csv", b"region,handle,count", b"region,handle", 1, "count it", "demand: Header"),
 ]
 COMMANDS = {
     "check": f"check {FILES} --plan plan.txt",
@@ -237,6 +241,7 @@ COMMANDS = {
     "places": "places --settings settings.toml --log log.csv",
     "locate": "locate --settings settings.toml 20.500.1234/film-5",
     "site": "site paris.site",
+    "faults": "faults --demand demand.csv",
 }
 
 

@@ -156,7 +156,7 @@ def test_a_unit_that_adds_much_is_warned_of(hsp: Hsp, tmp_path: Path) -> None:
     counted = 200 * sum(int(it[2]) for it in rows(folder / "demand.csv"))
     share = 100 * (counted - 20_000) / 20_000
     assert share > 5
-    found = [it for it in examined(str(folder), Programs(), {}).warnings if it.kind == "unit"]
+    found = [it for it in examined(str(folder), Programs(), {}).warnings if it.group == "unit"]
     shown = f"{share:.0f}%" if share >= 10 else f"{share:.1f}%"
     assert [(it.message, it.remedy) for it in found] == [
         (f"units of 200 add {shown} to the demand", "count again without --unit")
@@ -164,7 +164,7 @@ def test_a_unit_that_adds_much_is_warned_of(hsp: Hsp, tmp_path: Path) -> None:
     said = hsp("plan", str(folder))
     assert said.stderr.startswith(f"hsp: units of 200 add {shown} to the demand; count again without --unit\n")
     assert f"{counted:,} queries in units of 200, which add {shown}" in said.stdout.splitlines()[0]
-    assert [it for it in examined(str(folder), Programs(), {}).warnings if it.kind == OLD_PLAN] == []
+    assert [it for it in examined(str(folder), Programs(), {}).warnings if it.group == OLD_PLAN] == []
 
 
 @pytest.mark.parametrize("unit, change", [(1, -1), (1, 1), (10, -1), (10, 10_000)])
@@ -186,7 +186,7 @@ def test_a_demand_that_looks_joined_is_warned_of(tmp_path: Path) -> None:
     folder = service(tmp_path, "--unit", 1)
 
     def kinds() -> list[str]:
-        return [it.kind for it in examined(str(folder), Programs(), {}).warnings if it.kind == "unmarked"]
+        return [it.group for it in examined(str(folder), Programs(), {}).warnings if it.group == "unmarked"]
 
     assert kinds() == []
     (folder / "hsp.toml").unlink()
@@ -196,7 +196,7 @@ def test_a_demand_that_looks_joined_is_warned_of(tmp_path: Path) -> None:
     demand.write_text("".join(whole[:4]))
     assert kinds() == []
     plain = service(tmp_path, seed=4)
-    assert [it for it in examined(str(plain), Programs(), {}).warnings if it.kind == "unmarked"] == []
+    assert [it for it in examined(str(plain), Programs(), {}).warnings if it.group == "unmarked"] == []
 
 
 def test_a_joined_demand_is_shown_as_kinds(hsp: Hsp, tmp_path: Path) -> None:
@@ -247,7 +247,7 @@ def test_a_handle_that_names_a_kind_may_be_odd(tmp_path: Path, rows_are: str, nu
         capacity="north,1,400\n",
         titles=f'[demand]\nrows = "{rows_are}"\n',
     )
-    found = [it.kind for it in examined(str(folder), Programs(), {}).warnings]
+    found = [it.group for it in examined(str(folder), Programs(), {}).warnings]
     assert sum(it in ("handle blank", "twin handles") for it in found) == number
 
 

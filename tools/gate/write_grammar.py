@@ -129,7 +129,8 @@ def module() -> str:
             f'NAME_SIGNS = "{grammar.name_signs()}"\n\n',
             "# The greatest identifier of a server, index of a value and number of a front: these have four octets.\n",
             f"GREATEST_ID = {(1 << 32) - 1:_}\n",
-            *(f"\n# {limit.meaning}\n{limit.name} = {limit.number:_}\n" for limit in grammar.limits()),
+            *(f"# {limit.meaning}\n{limit.name} = {limit.number:_}\n" for limit in grammar.limits()),
+            f'\nNAME_RULE = f"{grammar.name_rule()}, and at most {{LONGEST_NAME}} of them"\n',
         ]
     )
 

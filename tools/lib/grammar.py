@@ -127,8 +127,10 @@ def table_headers() -> dict[str, list[str]]:
 
 
 def log_headers() -> dict[str, list[list[str]]]:
-    """The headers that the log of each command may have; `fronts` is that of a dispatch for several fronts."""
-    return {command: _headers_in(*place.split(" fn ")) for command, place in LOGS.items()}
+    """The headers that the log of each command may have, and of a dispatch for several fronts; `faults` reads all."""
+    found = {command: _headers_in(*place.split(" fn ")) for command, place in LOGS.items()}
+    every = [header for headers in found.values() for header in headers]
+    return {**found, "faults": [header for at, header in enumerate(every) if header not in every[:at]]}
 
 
 def _headers_in(path: str, function: str) -> list[list[str]]:
@@ -150,3 +152,13 @@ def name_signs() -> str:
     ranges = "".join(f"{a}-{b}" for a, b in re.findall(r"b'(.)'\.\.=b'(.)'", body))
     single = re.findall(r"(?:^|\| )b'(.)'(?= \||$)", body)
     return ranges + "".join(sorted(single, key=lambda sign: sign == "-"))
+
+
+def name_rule() -> str:
+    """The same in words, which know these ranges only."""
+    signs = name_signs()
+    bare = signs.removeprefix("A-Za-z0-9")
+    if bare == signs:
+        raise Unread("the signs of a name have other ranges than tools/lib/grammar.py has words for")
+    *first, last = (f"'{sign}'" for sign in sorted(bare, key="-_.".find))
+    return f"a name has only ASCII letters, digits, {', '.join(first)} and {last}"

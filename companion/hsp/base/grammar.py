@@ -65,6 +65,7 @@ LOG_HEADERS: dict[str, tuple[str, ...]] = {
     "kinds": ("region,handle", "region,handle,count"),
     "places": ("handle", "region,handle"),
     "answer": ("region,handle", "region,body"),
+    "faults": ("region,handle", "region,body", "front,region,handle", "region,handle,count", "handle"),
 }
 LOG_HEAD = LOG_HEADERS["dispatch"][0].encode() + b"\n"
 
@@ -73,69 +74,49 @@ NAME_SIGNS = "A-Za-z0-9_.-"
 
 # The greatest identifier of a server, index of a value and number of a front: these have four octets.
 GREATEST_ID = 4_294_967_295
-
 # The greatest number of sites.
 MOST_SITES = 32
-
 # The greatest number of servers of a site, and of all sites together.
 MOST_SERVERS = 1_024
-
 # The greatest number of hosts.
 MOST_HOSTS = 1_024
-
 # The greatest number of regions that the rows of one table may name.
 MOST_REGIONS = 64
-
 # The greatest number of rows in the table of demand.
 MOST_DEMAND_ROWS = 8_192
-
 # The greatest number of rows in the table of costs.
 MOST_COST_ROWS = 2_048
-
 # The greatest number of rows in the table of capacities.
 MOST_CAPACITY_ROWS = 1_024
-
 # The greatest number of rows in a log.
 MOST_LOG_ROWS = 10_000_000
-
 # The greatest number of fronts that may share one plan.
 MOST_FRONTS = 64
-
 # The greatest length of the name of a region or a site, in octets.
 LONGEST_NAME = 64
-
 # The greatest length of a handle, in octets.
 LONGEST_HANDLE = 4_096
-
 # The greatest count of a row of the demand, in queries.
 GREATEST_COUNT = 1_000_000
-
 # The greatest cost of a query.
 GREATEST_COST = 1_000_000
-
 # The greatest capacity of a server, in queries.
 GREATEST_CAPACITY = 1_000_000_000
-
 # The greatest limit of a host: the queries that its servers may take together.
 GREATEST_LIMIT = 1_000_000_000_000
-
 # The greatest price in a certificate.
 GREATEST_PRICE = 1_000_000_000_000
-
 # The greatest sum in a certificate: a cost, a demand or a capacity.
 GREATEST_SUM = 10_000_000_000_000_000
-
 # The greatest size of a file that is read whole, in octets.
 LARGEST_FILE = 67_108_864
-
 # The greatest length of the first line of an input, in octets.
 LONGEST_FIRST_LINE = 65_536
-
 # The greatest length of a row that reaches a responder whole, in octets.
 LONGEST_ROW = 1_048_576
-
 # The most answers for which one query of a plan may stand.
 GREATEST_UNIT = 1_000_000
-
 # The greatest count of a row of a log.
 GREATEST_ROW_COUNT = 1_000_000_000_000
+
+NAME_RULE = f"a name has only ASCII letters, digits, '-', '_' and '.', and at most {LONGEST_NAME} of them"

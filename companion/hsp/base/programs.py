@@ -166,7 +166,7 @@ class Bound(NamedTuple):
     cost: int
 
 
-def table_of(header: str, rows: Iterable[Iterable[object]]) -> str:
+def table_text(header: str, rows: Iterable[Iterable[object]]) -> str:
     """A table as comma-separated values."""
     out = io.StringIO()
     csv.writer(out, lineterminator="\n").writerows(rows)
@@ -204,7 +204,7 @@ class Programs:
             file.writelines(pieces)
 
     def put_table(self, header: str, rows: Iterable[Iterable[object]]) -> str:
-        return self.put(table_of(header, rows), ".csv")
+        return self.put(table_text(header, rows), ".csv")
 
     def in_units(self, inputs: Inputs) -> Inputs:
         """The inputs as hsplan takes them: capacities and limits in the units of the demand, rounded down."""
@@ -242,9 +242,9 @@ class Programs:
         """What the checker says of a certificate: `yes`, or `no` and why."""
         return run("hsplan", "check", *self.in_units(inputs).words(), "--plan", plan).out.strip()
 
-    def _report(self, inputs: Inputs, plan: str, kind: str) -> list[str]:
+    def _report(self, inputs: Inputs, plan: str, report: str) -> list[str]:
         words = self.in_units(inputs).words()
-        return asked("hsplan", "report", *words, "--plan", plan, "--kind", kind).splitlines()
+        return asked("hsplan", "report", *words, "--plan", plan, "--kind", report).splitlines()
 
     def loads(self, inputs: Inputs, plan: str) -> tuple[list[Load], Bound]:
         """The load of each server, in the order of the settings, and the sums that show the cost."""
@@ -287,7 +287,7 @@ class Programs:
 
     def without_sites(self, demand: bytes = b"") -> Inputs:
         """The inputs of a service that has no site and no cost, with the rows of a demand."""
-        costs, capacity = (self.put_table(HEADERS[kind], []) for kind in ("costs", "capacity"))
+        costs, capacity = (self.put_table(HEADERS[role], []) for role in ("costs", "capacity"))
         table = demand or f"{HEADERS['demand']}\n".encode()
         return Inputs(self.put(b"", ".toml"), self.put(table, ".csv"), costs, capacity)
 

@@ -25,12 +25,10 @@ def needless(service: Service, findings: Iterable[Finding]) -> Iterator[Finding]
             continue
         text = read_text(path_in(service.folder, TITLES))
         meant = near(name, names, 0.8)
+        message = f"{TITLES} accepts {quoted(name)}, and no warning has this name"
+        remedy = f"write {meant}" if meant else "take it out, if what it names is mended"
+        why = "hsp doctor --json has the name of each warning"
         words = Words(
-            f"{TITLES} accepts {quoted(name)}, and no warning has this name",
-            f"write {meant}" if meant else "take it out, if what it names is mended",
-            "hsp doctor --json has the name of each warning",
-            f"did you mean {meant}?" if meant else "",
-            "needless name",
-            f"needless name {name}",
+            message, remedy, why, f"did you mean {meant}?" if meant else "", "needless name", f"needless name {name}"
         )
         yield found(text.path, text.match(re.escape(name)) or Place(), words, "", WARNING)

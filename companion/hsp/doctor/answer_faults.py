@@ -6,12 +6,12 @@ import os
 import re
 from collections.abc import Iterator
 
-from hsp.base.grammar import GREATEST_COUNT, GREATEST_UNIT, LOG_HEADERS, MOST_DEMAND_ROWS, MOST_REGIONS
+from hsp.base.grammar import GREATEST_COUNT, GREATEST_UNIT
 from hsp.base.numbers import listed, some
 from hsp.base.paths import shell_word
 from hsp.doctor.findings import Place, Text, Words, found, quoted
 from hsp.doctor.question import Question, Said
-from hsp.doctor.table_faults import Explained, renumbered, spot_of
+from hsp.doctor.table_faults import Explained
 
 AGAIN = "print it again: hsplan plan .. > plan.txt"
 # The reasons of a no, and the file that they speak of.
@@ -107,9 +107,9 @@ def newer_than(question: Question, path: str) -> list[str]:
         return []
     time = os.stat(path).st_mtime
     paths = [
-        question.files[kind].original.path
-        for kind in ("settings", "values", "demand", "costs", "capacity")
-        if kind in question.files
+        question.files[role].original.path
+        for role in ("settings", "values", "demand", "costs", "capacity")
+        if role in question.files
     ]
     return [os.path.basename(own) for own in paths if os.path.isfile(own) and os.stat(own).st_mtime > time]
 
@@ -123,67 +123,17 @@ def wrong_kind(question: Question, said: Said) -> Explained:
     else:
         remedy = "plan again with more capacity: hsp plan shows the least purchase"
     what, wanted = ("a shortage", "a plan") if is_shortage else ("a plan", "a shortage")
-    words = Words(
-        f"this is {what}, and {question.command} wants {wanted}",
-        remedy,
-        "the demand can't be met" if is_shortage else "the demand can be met",
-    )
+    message = f"this is {what}, and {question.command} wants {wanted}"
+    words = Words(message, remedy, "the demand can't be met" if is_shortage else "the demand can be met")
     return Explained(found(text.path, text.whole(2), words, said.line), [])
-
-
-def body_words(body: str) -> tuple[str, str]:
-    """Why the body of a request can't be read."""
-    if re.search(r"\s", body.strip()) and re.fullmatch(r"[0-9A-Fa-f\s:]+", body):
-        return "blanks between the digits", "take them out"
-    if re.fullmatch(r"[0-9A-Fa-f]+", body):
-        why = "an odd number of digits" if len(body) % 2 else "these octets aren't the body of a resolution request"
-        return why, "write only the body, without the envelope and the header of the message"
-    if re.fullmatch(r"[A-Za-z0-9+/]{16,}=*", body):
-        return "base64 in place of hexadecimal digits", "write the octets as hexadecimal digits: base64 -d | xxd -p"
-    return "signs that aren't hexadecimal digits", "write the octets of the body as hexadecimal digits"
-
-
-def log_row(question: Question, said: Said) -> Explained | None:
-    """Faults that only rows of logs have."""
-    spot = spot_of(question, "log", said.numbers["row"])
-    if not spot:
-        return None
-    fields, line = spot.row.fields, renumbered(question, "log", said)
-    at, message = 0, ""
-    if said.word == "BadBody":
-        at = len(fields) - 1
-        message = f"{quoted(fields[at], 30)} isn't the body of a request"
-        why, remedy = body_words(fields[at])
-    elif said.word == "BadFront":
-        message, why = f"front {quoted(fields[0], 20)} isn't a number", "columns in another order, or a name"
-        remedy = f"write the number of the front, from 0 on: {LOG_HEADERS['fronts'][0]}"
-    elif said.word == "TooManyRegions":
-        at = spot.header.index("region") if "region" in spot.header else 0
-        message, why = (
-            f"{quoted(fields[at])} is the {MOST_REGIONS + 1}th region",
-            "a region for each network or country",
-        )
-        remedy = f"join networks under at most {MOST_REGIONS} names of regions"
-    elif said.word == "TooManyKinds":
-        message, why = (
-            f"here begins the {MOST_DEMAND_ROWS + 1:,}rd kind",
-            "costs to all sites, or server counts without common factors",
-        )
-        remedy = "give each region costs for only the three or four sites that it uses"
-    else:
-        return None
-    words = Words(message, remedy, why, kind=f"{said.word} {why}")
-    return Explained(found(spot.path, spot.place(at), words, line), [spot.without()])
 
 
 def far_row(question: Question, said: Said) -> Explained:
     """A row of a log beyond the octets that are read of it."""
     path, line = question.files["log"].original.path, said.numbers["row"] + 2
-    words = Words(
-        f"row {line - 2:,} of the log has a fault: {said.word} {said.detail}".rstrip(),
-        f"look at the line: sed -n {line}p {shell_word(path)}; hsp doctor on a short log with it says more",
-        "the log is long, and the row is far behind",
-    )
+    message = f"row {line - 2:,} of the log has a fault: {said.word} {said.detail}".rstrip()
+    remedy = f"look at the line: sed -n {line}p {shell_word(path)}; hsp doctor on a short log with it says more"
+    words = Words(message, remedy, "the log is long, and the row is far behind")
     return Explained(found(path, Place(line, 0, 0, ""), words, said.line))
 
 
@@ -193,11 +143,8 @@ def count_too_large(question: Question, said: Said) -> Explained:
     remedy = f"give --unit {unit}, and divide capacities and limits by {unit:,}"
     if unit > GREATEST_UNIT:
         remedy = f"cut the log in parts, and plan each by itself: a unit is at most {GREATEST_UNIT:,}"
-    words = Words(
-        f"a row of the table is above {GREATEST_COUNT:,}",
-        remedy,
-        f"row {said.numbers.get('row', 0)} of the table that kinds makes: a long log",
-    )
+    message = f"a row of the table is above {GREATEST_COUNT:,}"
+    words = Words(message, remedy, f"row {said.numbers.get('row', 0)} of the table that kinds makes: a long log")
     return Explained(found(log, Place(), words, said.line), [])
 
 
@@ -217,19 +164,15 @@ def streams(question: Question, said: Said) -> Explained:
         )
         words = Words("the log can't be read to its end", remedy, why)
     else:
+        message = "an answer can't be written"
         words = Words(
-            "an answer can't be written",
-            "make room on the disk, or keep the reader of the pipe open",
-            "a full disk, or a closed pipe",
+            message, "make room on the disk, or keep the reader of the pipe open", "a full disk, or a closed pipe"
         )
     return Explained(found(log, Place(), words, said.line), [])
 
 
 def memory(question: Question, said: Said) -> Iterator[Explained]:
     size = sum(len(draft.original.octets) for draft in question.files.values())
-    words = Words(
-        "memory ran out",
-        "give the process more memory (ulimit -v), or close other programs",
-        f"the files have {some(size, 'octet')}",
-    )
+    remedy = "give the process more memory (ulimit -v), or close other programs"
+    words = Words("memory ran out", remedy, f"the files have {some(size, 'octet')}")
     yield Explained(found("", Place(), words, said.line), [])

@@ -10,9 +10,9 @@ from hsp.base.numbers import listed
 from hsp.base.programs import run
 from hsp.base.spelling import near
 from hsp.doctor.findings import Finding, Place, Text, Words, found, quoted
-from hsp.doctor.question import Question, Said
+from hsp.doctor.question import Question, Said, sites_used
 from hsp.doctor.rows import joined, table_of
-from hsp.doctor.table_faults import Explained, Spot, renumbered, spot_of
+from hsp.doctor.table_faults import Explained, Faulty, numbered_row
 from hsp.doctor.toml_places import data_of, listed_in
 
 
@@ -48,29 +48,27 @@ def site_at(question: Question, number: int) -> Known:
 
 def unknown_site(question: Question, said: Said) -> Explained | None:
     """A row with a site that the settings lack."""
-    spot = spot_of(question, said.table, said.numbers["row"])
-    if not spot:
+    faulty = numbered_row(question, said.table, said)
+    if not faulty:
         return None
     if data_of(question.files["settings"].original) == {}:
         return Explained(_without_sites(question, said))
-    at = spot.header.index("site")
-    name, names = spot.row.fields[at], names_in(question)
+    at = faulty.header.index("site")
+    name, names = faulty.fields[at], names_in(question)
+    without = question.without_rows(said.table, [faulty.row])
     if name in _left_out_sites(question) or question.lacks_site:
-        return Explained(None, [spot.without()])
-    line = renumbered(question, said.table, said)
-    meant, words = _site_words(question, spot, name, names)
-    mended = [spot.with_field(at, meant)] if meant else []
-    return Explained(found(spot.path, spot.place(at), words, line), [*mended, spot.without()], True)
+        return Explained(None, [without])
+    meant, words = _site_words(question, faulty, name, names)
+    fields = [*faulty.fields[:at], meant, *faulty.fields[at + 1 :]]
+    mended = [question.with_row(said.table, faulty.row, fields)] if meant else []
+    return Explained(found(faulty.path, faulty.place(at), words, faulty.words()), [*mended, without], True)
 
 
 def _without_sites(question: Question, said: Said) -> Finding:
     """The one cause of many unknown names: settings without any block."""
-    tables = [kind for kind in ("costs", "capacity") if kind in question.files]
-    names = dict.fromkeys(site for table in tables for site in table_of(question.text(table)).column("site"))
+    remedy = "add a block [[site]] for each: hsp sites makes it"
     words = Words(
-        "the settings have no site",
-        "add a block [[site]] for each: hsp sites makes it",
-        f"the tables name {listed(map(quoted, names), 6)}",
+        "the settings have no site", remedy, f"the tables name {listed(map(quoted, sites_used(question)), 6)}"
     )
     text = question.files["settings"].original
     return found(text.path, text.whole(1), words, said.line)
@@ -87,11 +85,10 @@ def short_of(name: str, names: list[str]) -> str:
     return found[0] if len(found) == 1 else ""
 
 
-def _site_words(question: Question, spot: Spot, name: str, names: list[str]) -> tuple[str, Words]:
+def _site_words(question: Question, faulty: Faulty, name: str, names: list[str]) -> tuple[str, Words]:
     """The site that was likely meant, and what is said of a name that no site has."""
     meant = near(name, names) or short_of(name, names)
-    tables = [kind for kind in ("costs", "capacity") if kind in question.files]
-    used = {used_name for table in tables for used_name in table_of(question.text(table)).column("site")}
+    used = sites_used(question)
     lone = [other for other in names if other not in used]
     if len(lone) == 1 and (not meant or meant == lone[0]):
         meant = lone[0]
@@ -100,13 +97,13 @@ def _site_words(question: Question, spot: Spot, name: str, names: list[str]) -> 
     elif meant:
         remedy, why = f"write {meant}", f"the settings have {listed(names, 6)}"
         why = f"another case of letters; {why}" if meant.casefold() == name.casefold() else why
-    elif spot.row.fields[0] in names and name.isdigit() and spot.kind == "costs":
+    elif faulty.fields[0] in names and name.isdigit() and faulty.table == "costs":
         remedy, why = (
             "move the row to the capacities",
-            f"{spot.row.fields[0]} is a site, and {name} one of its servers",
+            f"{faulty.fields[0]} is a site, and {name} one of its servers",
         )
     elif "demand" in question.files and name in table_of(question.text("demand")).column("region"):
-        remedy, why = "put the columns in the order " + ",".join(spot.header), f"{quoted(name)} is a region"
+        remedy, why = "put the columns in the order " + ",".join(faulty.header), f"{quoted(name)} is a region"
     else:
         remedy = f'add a block [[site]] with name = "{name}" to the settings, or take its rows out'
         known = list(filter(None, names or _names(question.files["settings"].original)))
@@ -123,10 +120,10 @@ def _left_out_sites(question: Question) -> set[str]:
 
 def unknown_server(question: Question, said: Said) -> Explained | None:
     """A row of the capacities with an identifier that the site lacks."""
-    spot = spot_of(question, "capacity", said.numbers["row"])
-    if not spot:
+    faulty = numbered_row(question, "capacity", said)
+    if not faulty:
         return None
-    name, text = spot.row.fields[0], spot.row.fields[1]
+    name, text, room = faulty.fields
     names = names_in(question)
     site = site_at(question, names.index(name)) if name in names else Known(name, [])
     rows = table_of(question.text("capacity")).rows
@@ -143,10 +140,10 @@ def unknown_server(question: Question, said: Said) -> Explained | None:
         remedy = "bring the site's new record in (hsp sites), or take the row out: each server has its row"
     elif not free:
         remedy = "take the row out: each server has its row"
-    words = Words(f"site {name} has no server {text}", remedy, why, kind=f"UnknownServer {name}")
-    mended = [spot.with_field(1, free[0])] if free else []
-    line = renumbered(question, "capacity", said)
-    return Explained(found(spot.path, spot.place(1), words, line), [*mended, spot.without()])
+    words = Words(f"site {name} has no server {text}", remedy, why, group=f"UnknownServer {name}")
+    mended = [question.with_row("capacity", faulty.row, [name, free[0], room])] if free else []
+    finding = found(faulty.path, faulty.place(1), words, faulty.words())
+    return Explained(finding, [*mended, question.without_rows("capacity", [faulty.row])])
 
 
 def no_capacity(question: Question, said: Said) -> Explained:
@@ -173,29 +170,22 @@ def no_capacity(question: Question, said: Said) -> Explained:
     )
     if near(site, like, 0.8) and not own:
         why = f"the rows may be those of {near(site, like, 0.8)}"
-    words = Words(
-        f"server {server} of {site} has no capacity",
-        f"add the row {site},{server},N with what it takes in place of N; 0 if it may get nothing",
-        why,
-        "the row belongs below this line",
-        f"NoCapacity {site}",
-    )
+    message = f"server {server} of {site} has no capacity"
+    remedy = f"add the row {site},{server},N with what it takes in place of N; 0 if it may get nothing"
+    words = Words(message, remedy, why, "the row belongs below this line", f"NoCapacity {site}")
     return Explained(found(draft.original.path, place, words, said.line), [mended])
 
 
 def _without_rows(text: Text, said: Said) -> Finding:
     """The one cause where each server lacks its row: capacities that are only a header."""
-    words = Words(
-        "the capacities have no rows",
-        f"add a row {HEADERS['capacity']} for each server, with what it takes; 0 if it may get nothing",
-        "each server of the settings has one",
-    )
+    remedy = f"add a row {HEADERS['capacity']} for each server, with what it takes; 0 if it may get nothing"
+    words = Words("the capacities have no rows", remedy, "each server of the settings has one")
     return found(text.path, text.whole(1), words, said.line)
 
 
 def _follows(question: Question, site: str, server: str) -> bool:
     """Whether a server lacks its row only because a copy no longer has it."""
-    for kind, fields in question.left_out:
-        if kind == "capacity" and (server in fields[1:2] or fields[:1] == (site,) or len(fields) != 3):
+    for role, fields in question.left_out:
+        if role == "capacity" and (server in fields[1:2] or fields[:1] == (site,) or len(fields) != 3):
             return True
     return False

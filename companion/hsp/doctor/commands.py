@@ -10,9 +10,9 @@ from hsp.base.grammar import COMMANDS, VALUES
 
 def shown(command: str) -> str:
     """The form of a command, as a manual page shows it."""
-    form = COMMANDS[command]
-    words = [f"--{name} {VALUES[name]}" for name in form.needed]
-    return " ".join([form.program, command, *words, *([form.last.upper()] if form.last else [])])
+    takes = COMMANDS[command]
+    words = [f"--{name} {VALUES[name]}" for name in takes.needed]
+    return " ".join([takes.program, command, *words, *([takes.last.upper()] if takes.last else [])])
 
 
 class Word(NamedTuple):
@@ -41,8 +41,8 @@ def line_of(words: list[str]) -> Line:
     program = ""
     if own and own[0].rpartition("/")[2] in ("hsplan", "hsplan-stream"):
         program = own.pop(0).rpartition("/")[2]
-    form = COMMANDS.get(own[0]) if own else None
-    program = program or (form.program if form else "hsplan")
+    takes = COMMANDS.get(own[0]) if own else None
+    program = program or (takes.program if takes else "hsplan")
     text, placed = program, []
     for word in own:
         placed.append(Word(word, len(text) + 1))

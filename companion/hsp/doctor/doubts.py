@@ -29,7 +29,7 @@ from hsp.plans.service import ACCEPT, NAMES, TITLE_KEYS, VALUES, Service, dotted
 FAR_ABOVE, FAR_BELOW = 10, 1000
 # A capacity from here on stands for no limit, as in a what-if.
 NO_LIMIT = GREATEST_CAPACITY
-# The kind of the doubt about a plan that isn't one of its inputs.
+# The group of the doubt about a plan that isn't one of its inputs.
 OLD_PLAN = "old plan"
 ADDRESS = re.compile(
     r"\s*(?:https?://(?:(?:dx\.)?doi\.org|(?:www\.)?hdl\.handle\.net)/(?:api/handles/)?|https?://[^/]+/"
@@ -51,7 +51,7 @@ class Read:
     findings: list[Finding] = field(default_factory=list)
 
     def doubt(self, text: Text, place: Place, words: Words) -> None:
-        named = replace(words, name=words.name or words.kind)
+        named = replace(words, name=words.name or words.group)
         self.findings.append(found(text.path, place, named, "", WARNING))
 
     def of_row(self, table: Table, row: Row, at: int, words: Words) -> None:
@@ -69,7 +69,7 @@ def bare(handle: str) -> str:
 
 
 def handle_words(handle: str) -> tuple[str, str]:
-    """What is odd about a handle: the message, and its kind."""
+    """What is odd about a handle: the message, and its group."""
     if ADDRESS.match(handle):
         what = "a URL" if "://" in handle else f"written with {handle.strip().split(':')[0]}:"
         return f"{quoted(handle)} is {what}, not a bare handle", "address"
@@ -91,14 +91,14 @@ def handles(read: Read) -> None:
         return
     for row in read.demand.rows:
         handle = row.fields[1]
-        message, kind = handle_words(handle)
+        message, group = handle_words(handle)
         if message:
-            meant = bare(handle).strip("\"'<>") if kind == "quotes" else bare(handle)
+            meant = bare(handle).strip("\"'<>") if group == "quotes" else bare(handle)
             shown = f"write {meant}" + (
-                f", {len(handle)} letters become {len(meant)}" if kind in ("blank", "unseen") else ""
+                f", {len(handle)} letters become {len(meant)}" if group in ("blank", "unseen") else ""
             )
             remedy = shown if meant and meant != handle else "write the bare handle: prefix, '/', suffix"
-            read.of_row(read.demand, row, 1, Words(message, remedy, OTHER_OCTETS, "", f"handle {kind}"))
+            read.of_row(read.demand, row, 1, Words(message, remedy, OTHER_OCTETS, "", f"handle {group}"))
 
 
 def twins(read: Read) -> None:
@@ -153,13 +153,9 @@ def priceless(read: Read) -> None:
         remedy = f"write {meant} here, or {region} in {costs}" if meant else f"add rows {region},SITE,COST to {costs}"
         if meant and meant not in asking:
             remedy = f"write {region} in {costs}, from line {paying[meant].first} on, or {meant} here"
-        words = Words(
-            f"region {quoted(region)} has no cost for any site",
-            remedy,
-            f"no site may serve its {some(number, 'row')}, so the plan is a shortage",
-            f"{costs} has {meant}" if meant else "",
-            f"no cost {region}",
-        )
+        message = f"region {quoted(region)} has no cost for any site"
+        why = f"no site may serve its {some(number, 'row')}, so the plan is a shortage"
+        words = Words(message, remedy, why, f"{costs} has {meant}" if meant else "", f"no cost {region}")
         read.of_row(read.demand, row, 0, words)
 
 
@@ -194,13 +190,10 @@ def pairs(read: Read) -> None:
         if not lacking or len(lacking) * 2 > len(read.service.sites):
             continue
         rows = listed([f"{region},{site},COST" for site in lacking], 3)
-        words = Words(
-            f"region {quoted(region)} has no cost for {listed(lacking, 6)}",
-            f"add {rows}; or leave it so, if that is meant",
-            f"{region} may never use {listed(lacking, 6)}",
-            kind="missing cost",
-            name=f"missing cost {region}",
-        )
+        message = f"region {quoted(region)} has no cost for {listed(lacking, 6)}"
+        remedy = f"add {rows}; or leave it so, if that is meant"
+        why = f"{region} may never use {listed(lacking, 6)}"
+        words = Words(message, remedy, why, group="missing cost", name=f"missing cost {region}")
         read.of_row(read.costs, paying[region], 0, words)
 
 
@@ -234,14 +227,9 @@ def zeros(read: Read) -> None:
     """Counts and capacities of 0."""
     for row in read.demand.rows:
         if row.fields[2] == "0":
-            words = Words(
-                f"{row.fields[0]} asks 0 times for {read.service.like(quoted(row.fields[1]))}",
-                "take the row out, or write its count",
-                "the row asks for nothing",
-                "",
-                "count 0",
-                f"count 0 {row.fields[0]}",
-            )
+            message = f"{row.fields[0]} asks 0 times for {read.service.like(quoted(row.fields[1]))}"
+            remedy = "take the row out, or write its count"
+            words = Words(message, remedy, "the row asks for nothing", "", "count 0", f"count 0 {row.fields[0]}")
             read.of_row(read.demand, row, 2, words)
     for row in read.capacity.rows:
         if row.fields[2] == "0" and any(read.service.capacities.values()):
@@ -259,19 +247,15 @@ def zeros(read: Read) -> None:
 def rows(read: Read) -> None:
     """A demand without rows, or costs without rows where the demand and the settings have some."""
     if not read.demand.rows:
-        words = Words(
-            "the demand has no rows",
-            f"add a row {HEADERS['demand']} for each region and handle",
-            "the plan is empty and costs 0",
-            kind="empty demand",
-        )
+        remedy = f"add a row {HEADERS['demand']} for each region and handle"
+        words = Words("the demand has no rows", remedy, "the plan is empty and costs 0", group="empty demand")
         read.doubt(read.demand.text, read.demand.text.whole(1), words)
     elif not read.costs.rows and read.service.sites:
         words = Words(
             "the costs have no rows",
             f"add a row {HEADERS['costs']} for each region and each site that it may use",
             "no site may serve any region, so the plan is a shortage",
-            kind="empty costs",
+            group="empty costs",
         )
         read.doubt(read.costs.text, read.costs.text.whole(1), words)
 
@@ -285,13 +269,13 @@ def units(read: Read) -> None:
         return
     if read.service.capacities and not room:
         why = "every query lacks a place, so the plan is a shortage"
-        words = Words("all capacities are 0", "write what each server takes", why, kind="no capacity")
+        words = Words("all capacities are 0", "write what each server takes", why, group="no capacity")
     elif room and asked > FAR_ABOVE * room:
         why = f"{asked:,} queries, and room for {room:,}: counts of a day, and capacities of a second?"
-        words = Words("the demand is far above all capacity", remedy, why, kind="demand far above capacity")
+        words = Words("the demand is far above all capacity", remedy, why, group="demand far above capacity")
     elif bound and sum(bound) > FAR_BELOW * asked:
         why = f"room for {sum(bound):,}, and {asked:,} queries: no limit will ever bind"
-        words = Words("all capacity is far above the demand", remedy, why, kind="capacity far above demand")
+        words = Words("all capacity is far above the demand", remedy, why, group="capacity far above demand")
     else:
         return
     read.doubt(read.capacity.text, place, words)
@@ -302,12 +286,9 @@ def free(read: Read) -> None:
     sites = Counter(region for region, _ in read.service.costs)
     if any(read.service.costs.values()) or max(sites.values(), default=0) < 2:
         return
-    words = Words(
-        "all costs are 0",
-        "write costs in a smaller unit: milliseconds in place of seconds, say",
-        "each plan costs 0, so a query may go to the farthest site; were the costs rounded?",
-        kind="costs of 0",
-    )
+    remedy = "write costs in a smaller unit: milliseconds in place of seconds, say"
+    why = "each plan costs 0, so a query may go to the farthest site; were the costs rounded?"
+    words = Words("all costs are 0", remedy, why, group="costs of 0")
     read.of_row(read.costs, read.costs.rows[0], 2, words)
 
 
@@ -326,14 +307,10 @@ def unused(read: Read) -> None:
     for at, site in enumerate(service.sites):
         own = [row for row in read.capacity.rows if row.fields[0] == site.name]
         if at not in reached and own:
-            words = Words(
-                f"no row may use site {quoted(site.name)}",
-                f"add costs REGION,{site.name},COST; or leave it so, if it is out of service",
-                "no region of the demand has a cost for it",
-                "",
-                "unused site",
-                f"unused site {site.name}",
-            )
+            message = f"no row may use site {quoted(site.name)}"
+            remedy = f"add costs REGION,{site.name},COST; or leave it so, if it is out of service"
+            name = f"unused site {site.name}"
+            words = Words(message, remedy, "no region of the demand has a cost for it", "", "unused site", name)
             read.of_row(read.capacity, own[0], 0, words)
             continue
         for place, server in enumerate(site.servers):
@@ -354,16 +331,8 @@ def unused(read: Read) -> None:
 def sites(read: Read) -> None:
     """Settings without a site, and a record that two sites share."""
     if not read.service.sites:
-        read.doubt(
-            read.settings,
-            Place(),
-            Words(
-                "the settings have no site",
-                "add a block [[site]] for each: hsp sites makes it",
-                "without a site no query is served",
-                kind="no site",
-            ),
-        )
+        remedy, why = "add a block [[site]] for each: hsp sites makes it", "without a site no query is served"
+        read.doubt(read.settings, Place(), Words("the settings have no site", remedy, why, group="no site"))
     seen: dict[str, str] = {}
     for number, site in enumerate(read.service.settings.get("site", [])):
         key = str(site.get("record", f"index {site.get('index')}")).lower()
@@ -374,7 +343,7 @@ def sites(read: Read) -> None:
                 f"site {quoted(site['name'])} has the record of {quoted(seen[key])}",
                 "copy its own record: hsp sites makes the block",
                 "both are the same servers, so their room counts twice",
-                kind="shared record",
+                group="shared record",
                 name=f"shared record {site['name']}",
             )
             read.doubt(read.settings, place, words)
@@ -403,7 +372,7 @@ def old_plan(read: Read, programs: Programs) -> None:
     if newer:
         message = f"the plan is older than {listed(newer)}"
         why = f"{listed(newer)} {'is' if len(newer) == 1 else 'are'} newer, and hsplan check says no to the plan"
-    words = Words(message, f"hsp plan {shell_word(read.service.folder)}", why, kind=OLD_PLAN, name=OLD_PLAN)
+    words = Words(message, f"hsp plan {shell_word(read.service.folder)}", why, group=OLD_PLAN, name=OLD_PLAN)
     read.findings.append(found(path, Place(), words, "", WARNING))
 
 

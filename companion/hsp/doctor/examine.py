@@ -50,15 +50,15 @@ def examined(
     folder: str, programs: Programs, given: dict[str, str | None], title: str | None = None, cost: str | None = None
 ) -> Examined:
     """What is wrong with a folder, or what is doubtful where nothing is wrong."""
-    paths = {kind: given.get(kind) or path_in(folder, name) for kind, name in NAMES.items()}
+    paths = {role: given.get(role) or path_in(folder, name) for role, name in NAMES.items()}
     beside = path_in(folder, VALUES)
     values = given.get("values") or (beside if os.path.isfile(beside) else None)
     if values:
         paths["values"] = values
-    if not any(os.path.exists(paths[kind]) for kind in NAMES):
+    if not any(os.path.exists(paths[role]) for role in NAMES):
         return Examined([_no_service(folder)], 5)
-    question = Question(programs, "plan", {kind: draft_of(programs, path) for kind, path in paths.items()})
-    copies = {kind: draft.copy for kind, draft in question.files.items() if draft.copy}
+    question = Question(programs, "plan", {role: draft_of(programs, path) for role, path in paths.items()})
+    copies = {role: draft.copy for role, draft in question.files.items() if draft.copy}
     try:
         mark = mark_of(folder, given)
         inputs = inputs_in(folder, {**given, **copies}, mark.unit)
@@ -95,11 +95,9 @@ def _refused(question: Question, folder: str, fault: Exception) -> Examined:
 
 def _unexplained(path: str, said: Said) -> Finding:
     """What is said where time or memory ran out before the first fault was explained."""
-    words = Words(
-        f"hsplan says {said.line or 'nothing'}",
-        "look at the files there; FAULTS, which is installed with hsplan, has the word",
-        f"they are too large or too odd to be explained within {SECONDS:.0f} seconds",
-    )
+    message = f"hsplan says {said.line or 'nothing'}"
+    remedy = "look at the files there; FAULTS, which is installed with hsplan, has the word"
+    words = Words(message, remedy, f"they are too large or too odd to be explained within {SECONDS:.0f} seconds")
     return found(path, Place(), words, said.line)
 
 
@@ -110,11 +108,8 @@ def _no_service(folder: str) -> Finding:
     message = f"none of {listed(NAMES.values())} is here"
     if there:
         near = path_in(folder, there[0])
-        words = Words(
-            message,
-            f"hsp doctor {shell_word(near)}",
-            f"{listed(there)} in it {'has' if len(there) == 1 else 'have'} settings",
-        )
+        remedy = f"hsp doctor {shell_word(near)}"
+        words = Words(message, remedy, f"{listed(there)} in it {'has' if len(there) == 1 else 'have'} settings")
     else:
         words = Words(message, "give the folder that has them; hsp new makes such a folder", "another folder?")
     return found(folder, Place(), words, "read failed")
@@ -133,11 +128,8 @@ def titles_faults(folder: str) -> list[Finding]:
     try:
         said = tomllib.loads(text.octets.decode("utf-8"))
     except UnicodeDecodeError:
-        words = Words(
-            f"{TITLES} isn't UTF-8",
-            f"iconv -f windows-1252 -t utf-8 {shell_word(path)} > utf8.toml",
-            "a letter of Latin-1",
-        )
+        remedy = f"iconv -f windows-1252 -t utf-8 {shell_word(path)} > utf8.toml"
+        words = Words(f"{TITLES} isn't UTF-8", remedy, "a letter of Latin-1")
         return [found(path, Place(), words)]
     except tomllib.TOMLDecodeError as fault:
         advised = re.search(r"line (\d+)", str(fault))

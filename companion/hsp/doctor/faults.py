@@ -7,7 +7,7 @@ import subprocess
 from collections.abc import Callable
 from dataclasses import replace
 
-from hsp.base.grammar import COMMANDS, FILES
+from hsp.base.grammar import COMMANDS, FILES, HEADERS
 from hsp.base.programs import Programs, program, run
 from hsp.base.text import is_utf8
 from hsp.doctor import (
@@ -22,12 +22,19 @@ from hsp.doctor import (
 from hsp.doctor.commands import Line, line_of, split
 from hsp.doctor.file_faults import file_finding
 from hsp.doctor.findings import Finding, Place, Words, found
-from hsp.doctor.question import ORDER, Diagnosis, Question, Said, Show, draft_of, said_of, unheard
-from hsp.doctor.table_faults import Explained, row_fault
+from hsp.doctor.question import ORDER, Diagnosis, Draft, Mend, Question, Said, Show, draft_of, said_of, unheard
+from hsp.doctor.rows import columns_of
+from hsp.doctor.table_faults import Explained, faulty_rows, mend_of, numbered_row, said_of_row, with_reasons
 from hsp.doctor.word_doubts import word_doubts
 
 # How often hsplan is asked about copies that were mended, and how many octets these may have together.
 TURNS, OCTETS = 120, 100_000_000
+# How many faults a row may have, one behind the other.
+MOST_OF_ROW = 8
+# So many findings of rows wait for those of lines above them.
+AT_ONCE = 200
+# What hsplan-stream lists faulty rows of.
+LISTED = (*HEADERS, "log")
 USAGE_STATUS = 2
 
 Way = Callable[[Question, Said], "Explained | None"]
@@ -56,16 +63,17 @@ OF_BUILD: dict[str, Way] = {
 
 
 def _of_table(question: Question, said: Said) -> Explained | None:
-    kind = said.where
-    if kind not in question.files:
+    """What is refused of a table or a log that has no faulty row of its own."""
+    table = said.where
+    if table not in question.files:
         return None
     if said.word == "Header":
-        return header_faults.header_fault(question, kind, said)
+        return header_faults.header_fault(question, table, said)
     if said.word in ("TooManyRows", "TooManyRegions") and "row" not in said.numbers:
-        return header_faults.too_many(question, kind, said)
-    if kind == "log":
+        return header_faults.too_many(question, table, said)
+    if table == "log":
         return _of_log(question, said)
-    return row_fault(question, kind, said) if "row" in said.numbers else None
+    return None
 
 
 def _of_log(question: Question, said: Said) -> Explained | None:
@@ -77,8 +85,16 @@ def _of_log(question: Question, said: Said) -> Explained | None:
         return answer_faults.count_too_large(question, said)
     if "row" not in said.numbers:
         return None
-    found_one = answer_faults.log_row(question, said) or row_fault(question, "log", said)
-    return found_one or answer_faults.far_row(question, said)
+    faulty = numbered_row(question, "log", said)
+    if not faulty:
+        return answer_faults.far_row(question, said)
+    (faulty,) = with_reasons(question, [faulty])
+    about = said_of_row(faulty, columns_of(question.text("log"))[0], ())
+    if not about:
+        return None
+    mended = question.with_mends("log", [mend_of(faulty, about)])
+    finding = found(faulty.path, about[1], about[0], faulty.words())
+    return Explained(finding, [mended, question.without_rows("log", [faulty.row])])
 
 
 def explained(question: Question, said: Said, line: Line | None) -> Explained:
@@ -115,25 +131,28 @@ def explained(question: Question, said: Said, line: Line | None) -> Explained:
 
 def _numbered(question: Question, said: Said, one: Explained) -> Explained:
     """The same with hsplan's words as they are for the files as they were, where a copy lacks a block."""
-    for kind in ("site", "host"):
-        if one.finding and "settings" in question.files and kind in said.numbers:
-            number = settings_faults.number_then(question, kind, said.numbers[kind])
-            line = re.sub(rf"\b{kind} \d+", f"{kind} {number}", one.finding.said, count=1)
+    for block in ("site", "host"):
+        if one.finding and "settings" in question.files and block in said.numbers:
+            number = settings_faults.number_then(question, block, said.numbers[block])
+            line = re.sub(rf"\b{block} \d+", f"{block} {number}", one.finding.said, count=1)
             one = one._replace(finding=replace(one.finding, said=line))
     return one
 
 
-def _files_first(question: Question, line: str) -> tuple[Question, list[Finding]]:
-    """Faults of files that can't be read, and the question with others in their place."""
-    findings = []
-    for kind in ORDER:
-        if kind in question.files:
-            text = question.files[kind].original
-            finding = file_finding(text.path, kind, line, len(text.octets))
-            if finding:
-                findings.append(finding)
-                question = question.with_stand_in(kind)
-    return question, findings
+def _with_readable(question: Question, line: str, result: Diagnosis) -> Question:
+    """Adds a finding for each file that can't be read. Returns the question with others in their place."""
+    for role in [role for role in ORDER if role in question.files]:
+        text = question.files[role].original
+        if finding := file_finding(text.path, role, line, len(text.octets)):
+            result.add(finding)
+            question = question.with_stand_in(role)
+    if not question.absent:
+        remedy, why = (
+            "look at the files one by one: cat FILE > /dev/null",
+            "a file that changes, or a disk that fails",
+        )
+        result.add(found("", Place(), Words("a file can't be read", remedy, why), line))
+    return without_answers(question) if question.absent & {"plan", "log", "file", "values"} else question
 
 
 def _is_another(explained: Explained, then: Explained) -> bool:
@@ -181,27 +200,20 @@ def diagnosed(question: Question, line: Line | None = None, show: Show = unheard
     """Asks, explains, mends a copy, and asks again until hsplan has no fault. Shows each finding at once."""
     said = question.ask()
     result = Diagnosis([], said.status, show=show)
-    if not said.line:
-        return result
     if said.word == "read failed":
-        question, findings = _files_first(question, said.line)
-        for finding in findings:
-            result.add(finding)
-        if not result.findings:
-            words = Words(
-                "a file can't be read",
-                "look at the files one by one: cat FILE > /dev/null",
-                "a file that changes, or a disk that fails",
-            )
-            result.add(found("", Place(), words, said.line))
-            return result
-        if any(kind in question.absent for kind in ("plan", "log", "file", "values")):
-            question = without_answers(question)
-        said = question.ask()
+        question = _with_readable(question, said.line, result)
+        said = question.ask() if question.absent else Said(0, "")
     octets = sum(len(draft.original.octets) for draft in question.files.values())
+    listed: dict[str, Draft] = {}
     for _ in range(max(3, min(TURNS, OCTETS // max(1, octets)))):
         if not said.line or _is_consequence(question, said):
             return result
+        table = said.where
+        if table in LISTED and said.word != "Header" and question.files.get(table) is not listed.get(table):
+            question = _without_faulty(question, table, result)
+            listed[table] = question.files[table]
+            said = question.ask()
+            continue
         one = explained(question, said, line)
         if one.finding and not _is_known(result.findings, one.finding):
             result.add(one.finding)
@@ -213,11 +225,35 @@ def diagnosed(question: Question, line: Line | None = None, show: Show = unheard
     return result
 
 
+def _without_faulty(question: Question, table: str, result: Diagnosis) -> Question:
+    """Adds a finding for each faulty row of a table or a log. Returns the question with a copy that has none of them.
+
+    In a copy a faulty field is mended, since a row may have several. All rows are mended at once.
+    """
+    waiting: list[Finding] = []
+    whole: set[int] = set()  # rows whose next fault is one of a wrong mend
+    for _ in range(MOST_OF_ROW):
+        names, mends = columns_of(question.text(table)), dict[int, Mend]()
+        for faulty in faulty_rows(question, table):
+            first = faulty.row.first
+            about = None if first in whole else said_of_row(faulty, names[min(1, faulty.field or 0)], mends)
+            mends[first] = mend_of(faulty, about)
+            waiting += [found(faulty.path, about[1], about[0], faulty.words())] if about else []
+            whole |= {first} if faulty.said.word == "Fields" and mends[first].last == faulty.row.last else set()
+            if len(waiting) >= AT_ONCE:
+                result.add_all(waiting)
+        if not mends:
+            break
+        question = question.with_mends(table, mends.values())
+    result.add_all(waiting)
+    return question
+
+
 def without_answers(question: Question) -> Question:
     """Only the planning of a question: of a command whose plan or log can't be read, the inputs still can."""
     if question.command not in ("check", "dispatch", "report", "answer", "plan"):
         return question
-    files = {kind: draft for kind, draft in question.files.items() if kind not in ("plan", "log", "file")}
+    files = {role: draft for role, draft in question.files.items() if role not in ("plan", "log", "file")}
     if "values" in question.absent:
         files.pop("values", None)
     return replace(question, program="hsplan", command="plan", files=files, options=(), words=())
@@ -226,14 +262,14 @@ def without_answers(question: Question) -> Question:
 def question_of(programs: Programs, line: Line) -> Question:
     """The question that the words of a line ask."""
     options, others = split(line)
-    form = COMMANDS[line.command]
+    command = COMMANDS[line.command]
     values: dict[str, str] = {}
     for option in options:
         if option.name in FILES and option.value is not None:
             values.setdefault(option.name, option.value)
     files = {name: draft_of(programs, value) for name, value in values.items()}
     rest = tuple(f"--{option.name}={option.value}" for option in options if option.name not in FILES)
-    if form.last == "file" and others:
+    if command.last == "file" and others:
         files["file"] = draft_of(programs, others[0].text)
     return Question(programs, line.command, files, rest, tuple(word.text for word in others), line.program)
 
@@ -277,10 +313,10 @@ def _status(line: Line, question: Question) -> int:
 
 def _of_files(question: Question) -> list[Finding]:
     """Beside words that are no command: files that aren't there, and the faults of inputs where all are given."""
-    findings = [file_finding(draft.original.path, kind, "") for kind, draft in question.files.items()]
+    findings = [file_finding(draft.original.path, role, "") for role, draft in question.files.items()]
     found_ones = [replace(finding, said="read failed") for finding in findings if finding]
     kinds = {"settings", "demand", "costs", "capacity"}
     if found_ones or not kinds <= set(question.files):
         return found_ones
-    files = {kind: draft for kind, draft in question.files.items() if kind in kinds | {"values"}}
+    files = {role: draft for role, draft in question.files.items() if role in kinds | {"values"}}
     return diagnosed(Question(question.programs, "plan", files)).findings

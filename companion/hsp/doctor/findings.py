@@ -28,8 +28,8 @@ class Finding:
     mark: str = ""
     said: str = ""
     severity: str = ERROR
-    # Findings of one kind are shown once at a terminal, and counted.
-    kind: str = ""
+    # Findings of one group are shown once at a terminal, and counted.
+    group: str = ""
     # What hsp.toml calls a warning that it accepts; empty where it can't be accepted.
     name: str = ""
 
@@ -50,14 +50,18 @@ class Place:
 
 @dataclass(frozen=True)
 class Words:
-    """What is said of a place: the message, the remedy, the reason, and a word beside the caret."""
+    """What is said of a place: the message, the remedy, the reason, and a word beside the caret.
+
+    `mended` is what stands in a copy in place of a row's first line, where the row isn't left out.
+    """
 
     message: str
     remedy: str
     why: str = ""
     mark: str = ""
-    kind: str = ""
+    group: str = ""
     name: str = ""
+    mended: str | None = None
 
 
 def found(path: str, place: Place, words: Words, said: str = "", severity: str = ERROR) -> Finding:
@@ -74,7 +78,7 @@ def found(path: str, place: Place, words: Words, said: str = "", severity: str =
         mark=words.mark,
         said=said,
         severity=severity,
-        kind=words.kind or words.message,
+        group=words.group or words.message,
         name=words.name,
     )
 

@@ -26,10 +26,10 @@ class Cause(NamedTuple):
     above: int = 0
 
 
-def headers_of(question: Question, kind: str) -> list[str]:
+def headers_of(question: Question, role: str) -> list[str]:
     """The headers that a file may have."""
-    if kind != "log":
-        return [HEADERS[kind]]
+    if role != "log":
+        return [HEADERS[role]]
     if question.command == "dispatch" and any(option.startswith("--fronts") for option in question.options):
         return list(LOG_HEADERS["fronts"])
     return list(LOG_HEADERS.get(question.command, LOG_HEADERS["dispatch"][:1]))
@@ -39,11 +39,8 @@ def _of_octets(text: Text) -> Cause | None:
     """A file that is packed, or in another encoding."""
     octets = text.octets
     if octets[:2] in (b"\xff\xfe", b"\xfe\xff"):
-        return Cause(
-            "a file in UTF-16, as programs of Windows write",
-            f"iconv -f utf-16 -t utf-8 {shell_word(text.path)} > utf8.csv",
-            octets.decode("utf-16", "replace"),
-        )
+        remedy = f"iconv -f utf-16 -t utf-8 {shell_word(text.path)} > utf8.csv"
+        return Cause("a file in UTF-16, as programs of Windows write", remedy, octets.decode("utf-16", "replace"))
     if octets[:2] == b"\x1f\x8b":
         try:
             plain = decoded(gzip.decompress(octets))
@@ -67,11 +64,8 @@ def _of_whole(text: Text, wanted: list[str]) -> Cause | None:
     bare = re.sub(r"\s*,\s*", ",", first.strip())
     if bare in wanted and first != bare:
         plain = "\n".join(re.sub(r" *, *", ",", line.strip()) for line in text.lines)
-        return Cause(
-            "blanks beside the commas",
-            f"sed 's/ *, */,/g; s/^ *//; s/ *$//' {shell_word(text.path)} > plain.csv",
-            plain,
-        )
+        why = "blanks beside the commas"
+        return Cause(why, f"sed 's/ *, */,/g; s/^ *//; s/ *$//' {shell_word(text.path)} > plain.csv", plain)
     return None
 
 
@@ -90,9 +84,9 @@ def _of_names(text: Text, wanted: list[str]) -> Cause | None:
     for other in wanted:
         if sorted(names) == sorted(other.split(",")):
             return Cause("the columns are in another order", f"put the columns in the order {other}, in each row")
-    for kind, header in HEADERS.items():
+    for role, header in HEADERS.items():
         if names == header.split(","):
-            return Cause(f"this is a table of {kind}", f"give the right file: its first line is {want}")
+            return Cause(f"this is a table of {role}", f"give the right file: its first line is {want}")
     if "site" in want and re.match(r"\s*\[\[?site|.*record\s*=", first):
         return Cause("these are settings", f"give the right file: its first line is {want}")
     if re.match(r"\s*(\[\[|name\s*=)", first):
@@ -160,39 +154,39 @@ def cause_of(text: Text, wanted: list[str]) -> Cause:
     return Cause("other columns, or another file", f"write {want} as the first line, and such rows below it", None)
 
 
-def _of_pipes(question: Question, kind: str) -> Cause | None:
+def _of_pipes(question: Question, role: str) -> Cause | None:
     """A pipe that stands for two files, and was read to its end for the first."""
-    draft = question.files[kind]
-    others = [other for other in ORDER if other in question.files and other != kind]
+    draft = question.files[role]
+    others = [other for other in ORDER if other in question.files and other != role]
     same = next((other for other in others if question.files[other].original.path == draft.original.path), "")
     if not same or not draft.copy or draft.original.octets:
         return None
-    return Cause(f"a pipe is read once, and --{same} has it too", f"give a file behind --{same} or --{kind}")
+    return Cause(f"a pipe is read once, and --{same} has it too", f"give a file behind --{same} or --{role}")
 
 
-def header_fault(question: Question, kind: str, said: Said) -> Explained:
+def header_fault(question: Question, role: str, said: Said) -> Explained:
     """A first line that is no header."""
-    draft = question.files[kind]
-    text, wanted = draft.text, headers_of(question, kind)
-    cause = _of_pipes(question, kind) or cause_of(text, wanted)
-    what = "a log for this command" if kind == "log" else kind
+    draft = question.files[role]
+    text, wanted = draft.text, headers_of(question, role)
+    cause = _of_pipes(question, role) or cause_of(text, wanted)
+    what = "a log for this command" if role == "log" else role
     first = text.line(1)
     place = Place(1, 1, max(1, len(first)), first) if first.replace("\t", "").isprintable() else Place(1, 1, 1, "")
     want = listed(wanted, 3).replace(" and ", " or ")
     words = Words(f"the first line isn't the header of {what}", cause.remedy, cause.why, f"wanted: {want}")
-    mended = [] if cause.text is None else [question.with_file(kind, draft.with_text(cause.text, cause.above))]
-    return Explained(found(draft.original.path, place, words, said.line), [*mended, question.with_stand_in(kind)])
+    mended = [] if cause.text is None else [question.with_file(role, draft.with_text(cause.text, cause.above))]
+    return Explained(found(draft.original.path, place, words, said.line), [*mended, question.with_stand_in(role)])
 
 
-def too_many(question: Question, kind: str, said: Said) -> Explained:
+def too_many(question: Question, role: str, said: Said) -> Explained:
     """A table with more rows or regions than hsplan takes."""
-    draft = question.files[kind]
+    draft = question.files[role]
     table = table_of(draft.text)
     if said.word == "TooManyRows":
         message = f"{len(table.rows):,} rows; the table has more than hsplan takes"
         why = "a row for each handle of a large service, or two tables joined"
         remedy = "hsplan-stream kinds joins a log of any length to a table of demand"
-        if kind != "demand":
+        if role != "demand":
             remedy = "keep one row for each pair; take rows of sites or regions out that aren't used"
         place = draft.original.whole(draft.number(table.rows[-1].first)) if table.rows else Place()
     else:
@@ -205,14 +199,11 @@ def too_many(question: Question, kind: str, said: Said) -> Explained:
         remedy = "join regions whose costs are equal under one name, in demand and costs"
         place = draft.original.whole(draft.number(lines[MOST_REGIONS] if len(lines) > MOST_REGIONS else 2))
     words = Words(message, remedy, why)
-    return Explained(found(draft.original.path, place, words, said.line), [question.with_stand_in(kind)])
+    return Explained(found(draft.original.path, place, words, said.line), [question.with_stand_in(role)])
 
 
 def log_too_long(question: Question, said: Said) -> Finding:
     """A log that has more rows than dispatch takes."""
-    words = Words(
-        "the log has more rows than dispatch takes",
-        "hsplan-stream answer takes a log of any length; or cut the log in parts",
-        f"each run of dispatch takes {MOST_LOG_ROWS:,} rows",
-    )
+    message, why = "the log has more rows than dispatch takes", f"each run of dispatch takes {MOST_LOG_ROWS:,} rows"
+    words = Words(message, "hsplan-stream answer takes a log of any length; or cut the log in parts", why)
     return found(question.files["log"].original.path, Place(), words, said.line)

@@ -39,20 +39,20 @@ def mark_of_words(question: Question) -> Mark:
         return Mark()
 
 
-def _is_own(question: Question, kind: str) -> bool:
+def _is_own(question: Question, role: str) -> bool:
     """Whether a file of the words is that of the demand's folder, so that it isn't in units."""
-    own = path_in(folder_of(question) or "", NAMES[kind])
-    return os.path.realpath(question.files[kind].original.path) == os.path.realpath(own)
+    own = path_in(folder_of(question) or "", NAMES[role])
+    return os.path.realpath(question.files[role].original.path) == os.path.realpath(own)
 
 
 def answering(question: Question, mark: Mark) -> str:
     """The command that answers the log of the words."""
-    paths = {kind: draft.original.path for kind, draft in question.files.items()}
+    paths = {role: draft.original.path for role, draft in question.files.items()}
     inputs = Inputs(paths["settings"], paths["demand"], paths["costs"], paths["capacity"], paths.get("values"))
     beside = kept_beside(paths["plan"], inputs)
-    for kind in ("settings", "capacity") if mark.unit > 1 else ():
-        path = getattr(beside, kind)
-        inputs = replace(inputs, **{kind: path}) if os.path.isfile(path) and _is_own(question, kind) else inputs
+    for role in ("settings", "capacity") if mark.unit > 1 else ():
+        path = getattr(beside, role)
+        inputs = replace(inputs, **{role: path}) if os.path.isfile(path) and _is_own(question, role) else inputs
     return answer_command(inputs, paths["plan"], mark.unit, paths["log"])
 
 
@@ -69,16 +69,14 @@ def of_mark(question: Question, mark: Mark) -> list[Finding]:
     if command == "dispatch" and not mark.is_plain:
         message = "a row of the demand isn't of one handle, so most of the log is 'unknown'"
         found_ones.append(("demand", Words(message, answering(question, mark), ANSWERED)))
-    return [found(files[kind].original.path, Place(), words, "", WARNING) for kind, words in found_ones]
+    return [found(files[role].original.path, Place(), words, "", WARNING) for role, words in found_ones]
 
 
 def _undivided(question: Question, mark: Mark) -> Words:
     folder = shell_word(folder_of(question) or ".")
-    return Words(
-        f"the demand counts in units of {mark.unit:,}, and these capacities count in queries",
-        f"give the ones in units, which hsp plan {folder} keeps beside its plan",
-        f"each server would take {mark.unit:,} times what it can",
-    )
+    message = f"the demand counts in units of {mark.unit:,}, and these capacities count in queries"
+    remedy = f"give the ones in units, which hsp plan {folder} keeps beside its plan"
+    return Words(message, remedy, f"each server would take {mark.unit:,} times what it can")
 
 
 @dataclass(frozen=True)

@@ -16,7 +16,7 @@ from hsp.plans.service import Service
 
 # From this share on, what rounding adds is worth a smaller unit.
 MUCH = 0.05
-# The kind of that doubt.
+# The group of that doubt.
 MUCH_ADDED = "unit"
 # Rows whose kinds all differ by chance less often than once in e^7, which is once in 1,100, are joined ones.
 UNLIKELY = 7.0
@@ -34,7 +34,7 @@ def rounding(service: Service) -> Iterator[Finding]:
     path = path_in(service.folder, TITLES)
     why = f"each of {some(len(service.rows), 'row')} is rounded up; the log had {service.mark.queries:,} queries"
     message = f"units of {service.unit:,} add {part(service.added)} to the demand"
-    words = Words(message, remedy, why, kind=MUCH_ADDED, name="rounded units")
+    words = Words(message, remedy, why, group=MUCH_ADDED, name="rounded units")
     yield found(path, value_of(read_text(path), TABLE, 0, "unit"), words, "", WARNING)
 
 
@@ -60,7 +60,7 @@ def unmarked(service: Service, demand: Text) -> Iterator[Finding]:
     why = f"each of its {some(len(service.rows), 'row')} has servers of its own, which so many handles seldom have"
     message = "the demand looks joined by kinds, and hsp.toml doesn't say so"
     yield found(
-        demand.path, Place(), Words(message, JOINED, why, kind="unmarked", name="unmarked kinds"), "", WARNING
+        demand.path, Place(), Words(message, JOINED, why, group="unmarked", name="unmarked kinds"), "", WARNING
     )
 
 
@@ -72,12 +72,9 @@ def of_another(service: Service) -> Iterator[Finding]:
     if 0 <= service.asked - known <= len(service.rows) * (service.unit - 1):
         return
     path = path_in(service.folder, TITLES)
-    words = Words(
-        "the table [demand] of hsp.toml is of another demand",
-        "count the logs again, or write [demand] for this demand by hand",
-        f"it has {known:,} queries, and the demand comes to {service.asked:,}",
-        name="mark of another demand",
-    )
+    remedy = "count the logs again, or write [demand] for this demand by hand"
+    why = f"it has {known:,} queries, and the demand comes to {service.asked:,}"
+    words = Words("the table [demand] of hsp.toml is of another demand", remedy, why, name="mark of another demand")
     yield found(path, value_of(read_text(path), TABLE, 0, "queries"), words, "", WARNING)
 
 

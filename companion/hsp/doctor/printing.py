@@ -52,7 +52,7 @@ def _lines_of(finding: Finding, others: list[Finding]) -> Iterator[str]:
 
 
 def _others(finding: Finding, others: list[Finding]) -> Iterator[str]:
-    """How many more there are of a kind, and in which lines; or what each is, where they have no line of their own."""
+    """How many more there are of a group, and in which lines; or what each is, where they have no line of their own."""
     numbers = list(dict.fromkeys(str(other.line) for other in others if other.line not in (0, finding.line)))
     if others and not numbers:
         for other in others[:8]:
@@ -65,15 +65,15 @@ def _others(finding: Finding, others: list[Finding]) -> Iterator[str]:
 
 
 def grouped(findings: Iterable[Finding]) -> list[list[Finding]]:
-    """The findings of one kind in one file together, in the order of the first of each."""
+    """The findings of one group in one file together, in the order of the first of each."""
     groups: dict[tuple[str, str, str], list[Finding]] = {}
     for finding in findings:
-        groups.setdefault((finding.severity, finding.file, finding.kind), []).append(finding)
+        groups.setdefault((finding.severity, finding.file, finding.group), []).append(finding)
     return list(groups.values())
 
 
 def lines(findings: Iterable[Finding]) -> Iterator[str]:
-    """Each kind of finding once, with a blank line after it."""
+    """Each group of findings once, with a blank line after it."""
     for first, *others in grouped(findings):
         yield from _lines_of(first, others)
         yield ""

@@ -2,22 +2,25 @@
 
 from __future__ import annotations
 
+import csv
 import functools
 import os
 import re
 import stat
 import subprocess
-from collections.abc import Callable
+from collections.abc import Callable, Iterable
 from dataclasses import dataclass, field, replace
+from typing import NamedTuple
 
 from hsp.base.grammar import HEADERS
 from hsp.base.programs import Programs, program
 from hsp.base.text import is_utf8
 from hsp.doctor.findings import Finding, Text, encoded, read_text
+from hsp.doctor.rows import Row, joined, table_of
 
 # The files in the order in which hsplan reads them.
 ORDER = ("settings", "values", "demand", "costs", "capacity", "plan", "log", "file")
-STANDS_IN = {"settings": ""} | {kind: f"{header}\n" for kind, header in HEADERS.items()}
+STANDS_IN = {"settings": ""} | {role: f"{header}\n" for role, header in HEADERS.items()}
 
 
 @dataclass(frozen=True)
@@ -84,6 +87,12 @@ class Diagnosis:
         self.findings.append(finding)
         self.show(finding)
 
+    def add_all(self, waiting: list[Finding]) -> None:
+        """Adds findings of one file by their lines, so that none waits any more."""
+        for finding in sorted(waiting, key=lambda finding: finding.line):
+            self.add(finding)
+        waiting.clear()
+
 
 def said_of(status: int, line: str) -> Said:
     """The parts of a line as `demand: BadHandle row 36 NoSlash`."""
@@ -97,6 +106,17 @@ def said_of(status: int, line: str) -> Said:
     return Said(
         status, line, match[1] or "", match[2], detail[1] if detail else "", table[1] if table else "", numbers
     )
+
+
+class Mend(NamedTuple):
+    """A row, the last line of its mend, and the text that stands there; nothing where the row is left out.
+
+    Where that is two rows, the second one is left out, so that later lines keep their numbers.
+    """
+
+    row: Row
+    last: int
+    text: str | None = None
 
 
 @dataclass(frozen=True)
@@ -117,38 +137,51 @@ class Question:
     def arguments(self) -> list[str]:
         """The words of the command."""
         found = [self.command]
-        for kind in ORDER:
-            if kind in self.files and kind != "file":
-                found.append(f"--{kind}={self.path(kind)}")
+        for role in ORDER:
+            if role in self.files and role != "file":
+                found.append(f"--{role}={self.path(role)}")
         found += self.options
         last = [self.path("file")] if "file" in self.files else list(self.words)
         return found + (["--", *last] if last else [])
 
-    def path(self, kind: str) -> str:
+    def path(self, role: str) -> str:
         """The file itself, or its copy where that was mended."""
-        draft = self.files[kind]
+        draft = self.files[role]
         if draft.lines is None:
             return draft.copy or draft.original.path
         return self.programs.put(draft.text.octets)
 
-    def text(self, kind: str) -> Text:
-        return self.files[kind].text
+    def text(self, role: str) -> Text:
+        return self.files[role].text
 
-    def with_file(self, kind: str, draft: Draft) -> Question:
-        return replace(self, files={**self.files, kind: draft})
+    def with_file(self, role: str, draft: Draft) -> Question:
+        return replace(self, files={**self.files, role: draft})
 
-    def with_line(self, kind: str, line: int, text: str, last: int = 0) -> Question:
-        return self.with_file(kind, self.files[kind].with_line(line, text, last))
+    def with_line(self, role: str, line: int, text: str, last: int = 0) -> Question:
+        return self.with_file(role, self.files[role].with_line(line, text, last))
 
-    def with_stand_in(self, kind: str) -> Question:
+    def with_stand_in(self, role: str) -> Question:
         """The same with a file that has no fault, and nothing in it."""
-        draft = Draft(self.files[kind].original, tuple(STANDS_IN.get(kind, "").split("\n")))
-        return replace(self.with_file(kind, draft), absent=self.absent | {kind})
+        draft = Draft(self.files[role].original, tuple(STANDS_IN.get(role, "").split("\n")))
+        return replace(self.with_file(role, draft), absent=self.absent | {role})
 
-    def without_row(self, kind: str, line: int, last: int, fields: list[str]) -> Question:
-        """The same without a row. Later lines keep their numbers, since hsplan passes over an empty line."""
-        question = self.with_line(kind, line, "", last)
-        return replace(question, left_out=(*self.left_out, (kind, tuple(fields))))
+    def with_row(self, table: str, row: Row, fields: list[str]) -> Question:
+        """The same with other fields in a row."""
+        return self.with_line(table, row.first, joined(fields), row.last)
+
+    def with_mends(self, table: str, mends: Iterable[Mend]) -> Question:
+        """The same with rows mended or left out. Later lines keep their numbers, since an empty line is no row."""
+        lines, left_out = list(self.text(table).lines), self.left_out
+        for row, last, text in mends:
+            own, _, other = (text or "").partition("\n")
+            lines[row.first - 1 : last] = [own] + [""] * (last - row.first)
+            left_out += ((table, tuple(row.fields)),) if text is None else ()
+            left_out += ((table, tuple(other.split(","))),) if other else ()
+        draft = replace(self.files[table], lines=tuple(lines))
+        return replace(self.with_file(table, draft), left_out=left_out)
+
+    def without_rows(self, table: str, rows: Iterable[Row]) -> Question:
+        return self.with_mends(table, [Mend(row, row.last) for row in rows])
 
     def size(self) -> int:
         """How many lines with a text the files have."""
@@ -158,7 +191,7 @@ class Question:
 
     def ask(self) -> Said:
         """What hsplan says. Its answer is the status only, since answers to a log may be long."""
-        short = self.command in ("check", "plan")
+        short = self.command in ("check", "plan", "faults")
         done = subprocess.run(
             [program(self.program), *self.arguments()],
             stdin=subprocess.DEVNULL,
@@ -169,9 +202,17 @@ class Question:
         verdict = done.stdout.decode("utf-8", "replace").strip() if self.command == "check" else ""
         if done.returncode == 3 and verdict.startswith("no "):
             return Said(3, verdict, "check", verdict.split()[-1])
+        if self.command == "faults" and done.returncode == 1:
+            line = next(csv.reader(done.stdout.decode("utf-8", "replace").splitlines()[1:2]), [line])[-1]
         if done.returncode in (0, 3) and not line.startswith(f"{self.program}: "):
             return Said(0, "")
         return said_of(done.returncode, line.removeprefix(f"{self.program}: "))
+
+
+def sites_used(question: Question) -> list[str]:
+    """The names of sites in the costs and the capacities."""
+    tables = [table_of(question.text(role)) for role in ("costs", "capacity") if role in question.files]
+    return list(dict.fromkeys(site for table in tables for site in table.column("site")))
 
 
 def draft_of(programs: Programs, path: str) -> Draft:

@@ -65,11 +65,8 @@ def octets_words(octets: bytes, path: str, programs: Programs) -> Words | None:
     """What octets are that aren't a record."""
     stripped = octets.strip()
     if not stripped:
-        return Words(
-            "",
-            "hsp sites prints the fields of a site from JSON, hexadecimal digits or base64",
-            f"the {'file' if path else 'record'} is empty",
-        )
+        remedy = "hsp sites prints the fields of a site from JSON, hexadecimal digits or base64"
+        return Words("", remedy, f"the {'file' if path else 'record'} is empty")
     if stripped[:1] in (b"{", b"["):
         head = b"TOML" if stripped[:2] == b"[[" else b"JSON"
         if head == b"TOML":
@@ -86,11 +83,8 @@ def octets_words(octets: bytes, path: str, programs: Programs) -> Words | None:
         return Words("", "give the octets of the record, as siteinfo.bin has them", "a text in place of octets")
     values = run("hsplan", "site", "--index=1", programs.put(octets, ".values"))
     if not values.status or "Value" in values.line:
-        return Words(
-            "",
-            f"hsplan site --index N {shell_word(path)}, with the index of the site's value",
-            "a value list in place of a record",
-        )
+        remedy = f"hsplan site --index N {shell_word(path)}, with the index of the site's value"
+        return Words("", remedy, "a value list in place of a record")
     return None
 
 
@@ -101,14 +95,8 @@ def record_words(octets: bytes, said: Said, path: str, programs: Programs) -> tu
     if advised:
         return advised, b""
     if said.detail == "TooManyServers" or said.word == "TooManyServers":
-        return (
-            Words(
-                "",
-                "give the octets of the record, as siteinfo.bin has them",
-                "octets that aren't a record, or a very large service",
-            ),
-            b"",
-        )
+        remedy = "give the octets of the record, as siteinfo.bin has them"
+        return (Words("", remedy, "octets that aren't a record, or a very large service"), b"")
     counted = with_number(programs, octets, at)
     if counted:
         old, new, changed = counted
@@ -144,7 +132,7 @@ def bad_record(question: Question, said: Said) -> Explained:
     if start >= 0 and "at" in said.numbers:
         column = min(start + 2 * said.numbers["at"], max(start, start + len(record) - 2))
         place = Place(place.line, column + 1, 2, place.text)
-    words = Words(f"the record of '{name}' can't be read", advised.remedy, advised.why, kind=f"BadRecord {number}")
+    words = Words(f"the record of '{name}' can't be read", advised.remedy, advised.why, group=f"BadRecord {number}")
     ways = mends(
         with_value(question, "site", number, "record", f'"{octets_then.hex()}"') if octets_then else None,
         without_block(question, "site", number),
@@ -156,12 +144,9 @@ def bad_record(question: Question, said: Said) -> Explained:
 def _bad_value(question: Question, said: Said, number: int, name: str) -> Explained:
     """A value of a list that isn't a site's record."""
     path = question.files["settings"].original.path
-    words = Words(
-        f"the value of '{name}' isn't a record that can be read",
-        "give the index of the site's value: hsplan site --index N FILE prints a good one",
-        f"the value list has other octets there ({said.detail or said.word})",
-        kind=f"BadRecord {number}",
-    )
+    remedy = "give the index of the site's value: hsplan site --index N FILE prints a good one"
+    why = f"the value list has other octets there ({said.detail or said.word})"
+    words = Words(f"the value of '{name}' isn't a record that can be read", remedy, why, group=f"BadRecord {number}")
     ways = mends(without_block(question, "site", number), question.with_stand_in("settings"))
     return Explained(found(path, place_in(question, "site", number, "index"), words, said.line), ways)
 
@@ -180,26 +165,20 @@ def no_value(question: Question, said: Said) -> Explained:
             if os.path.exists(beside)
             else "put the value list in sites.values beside the settings"
         )
-        words = Words(
-            f"site '{name}' has an index, and there is no value list",
-            f"give --values FILE; {there}",
-            "an index counts in a value list",
-        )
+        message = f"site '{name}' has an index, and there is no value list"
+        words = Words(message, f"give --values FILE; {there}", "an index counts in a value list")
     elif said.word == "NotSiteValue":
         other = f"; HS_SITE stands at {good}" if good else ""
-        words = Words(
-            f"the value with index {index} isn't an HS_SITE",
-            f"write the index of the site's value{other}",
-            "another value of the handle, as a key or an address",
-            kind=f"NotSiteValue {number}",
-        )
+        remedy = f"write the index of the site's value{other}"
+        why = "another value of the handle, as a key or an address"
+        words = Words(f"the value with index {index} isn't an HS_SITE", remedy, why, group=f"NotSiteValue {number}")
     else:
         other = f"write index = {good}" if good else "write an index that the list has"
         words = Words(
             f"no value has the index {index}",
             f"{other}; or give the right list",
             "another value list, or a slip",
-            kind=f"NoValue {number}",
+            group=f"NoValue {number}",
         )
     ways = mends(without_block(question, "site", number), question.with_stand_in("settings"))
     return Explained(found(text.path, place_in(question, "site", number, "index"), words, said.line), ways)
@@ -250,12 +229,12 @@ def site_record(question: Question, said: Said) -> Explained:
     return Explained(found(text.path, place, advised, said.line), ways)
 
 
-def bad_file(question: Question, said: Said, kind: str) -> Explained:
+def bad_file(question: Question, said: Said, role: str) -> Explained:
     """A file that is no record, or no value list."""
-    draft = question.files[kind]
+    draft = question.files[role]
     octets = draft.original.octets
-    if kind == "values" or any(option.startswith("--index") for option in question.options):
-        return _bad_list(question, said, kind)
+    if role == "values" or any(option.startswith("--index") for option in question.options):
+        return _bad_list(question, said, role)
     advised, _ = record_words(octets, said, draft.original.path, question.programs)
     place = Place()
     words = Words(
@@ -264,8 +243,8 @@ def bad_file(question: Question, said: Said, kind: str) -> Explained:
     return Explained(found(draft.original.path, place, words, said.line), [])
 
 
-def _bad_list(question: Question, said: Said, kind: str) -> Explained:
-    draft = question.files[kind]
+def _bad_list(question: Question, said: Said, role: str) -> Explained:
+    draft = question.files[role]
     path, octets = draft.original.path, draft.original.octets
     remedy, why = (
         "give the value list, octet for octet",
@@ -276,7 +255,7 @@ def _bad_list(question: Question, said: Said, kind: str) -> Explained:
             "write its digits as record in the settings; or give the value list",
             "this is one site's record",
         )
-        if kind == "file":
+        if role == "file":
             remedy = f"hsplan site {shell_word(path)}, without --index"
     elif said.word == "IndexTwice":
         why = f"two values have the index {said.numbers.get('index', 0)}"

@@ -85,3 +85,9 @@ def joined(fields: Iterable[str]) -> str:
     out = io.StringIO()
     csv.writer(out, lineterminator="").writerow(list(fields))
     return out.getvalue()
+
+
+def columns_of(text: Text) -> list[dict[int, str]]:
+    """The first two fields of the rows by their first lines, column by column."""
+    rows = table_of(text).rows
+    return [{row.first: row.fields[at] for row in rows if at < len(row.fields)} for at in (0, 1)]

@@ -9,39 +9,39 @@ from collections.abc import Iterator
 from dataclasses import replace
 from typing import Any
 
-from hsp.base.grammar import GREATEST_ID, GREATEST_LIMIT, MOST_HOSTS, MOST_SITES
+from hsp.base.grammar import GREATEST_ID, GREATEST_LIMIT, MOST_HOSTS, MOST_SITES, NAME_RULE
 from hsp.base.paths import shell_word
 from hsp.base.spelling import near
 from hsp.doctor.findings import Place, Words, found, quoted
-from hsp.doctor.question import Question, Said
+from hsp.doctor.question import Question, Said, sites_used
 from hsp.doctor.rows import table_of
-from hsp.doctor.table_faults import NAME_RULE, Explained, slug
+from hsp.doctor.table_faults import Explained, slug
 from hsp.doctor.toml_places import KEYS, blocks, data_of, head_of, listed_in, value_of
 
 
-def place_in(question: Question, kind: str, number: int, key: str) -> Place:
+def place_in(question: Question, block: str, number: int, key: str) -> Place:
     """Where the value of a key stands in the settings as they were, for a block that counts in the mended copy."""
     draft = question.files["settings"]
-    place = value_of(draft.text, kind, number, key)
+    place = value_of(draft.text, block, number, key)
     line = draft.number(place.line)
     if draft.original.line(line) != place.text:
         return draft.original.whole(line)
     return Place(line, place.column, place.width, place.text)
 
 
-def number_then(question: Question, kind: str, number: int) -> int:
+def number_then(question: Question, block: str, number: int) -> int:
     """The number that a block of the mended copy has in the settings as they were."""
     draft = question.files["settings"]
-    own = blocks(draft.text, kind)
-    firsts = [block.first for block in blocks(draft.original, kind)]
+    own = blocks(draft.text, block)
+    firsts = [own_block.first for own_block in blocks(draft.original, block)]
     line = draft.number(own[number].first) if number < len(own) else 0
     return firsts.index(line) if line in firsts else number
 
 
-def with_value(question: Question, kind: str, number: int, key: str, value: str) -> Question:
+def with_value(question: Question, block: str, number: int, key: str, value: str) -> Question:
     """The settings with another value of a key."""
     text = question.text("settings")
-    place = value_of(text, kind, number, key)
+    place = value_of(text, block, number, key)
     line = place.text[: place.column - 1] + value + place.text[place.end - 1 :]
     fence = place.text[place.column - 1 :][:3]
     if fence in ('"' * 3, "'" * 3) and fence not in place.text[place.column + 2 :]:
@@ -53,34 +53,27 @@ def with_value(question: Question, kind: str, number: int, key: str, value: str)
     return question.with_line("settings", place.line, line)
 
 
-def without_block(question: Question, kind: str, number: int) -> Question | None:
+def without_block(question: Question, block: str, number: int) -> Question | None:
     """The settings without a block, and the tables without the rows of its site."""
-    own = blocks(question.text("settings"), kind)
+    own = blocks(question.text("settings"), block)
     if number >= len(own):
         return None
-    block = own[number]
-    name = listed_in(question.text("settings"), kind)[number].get("name")
-    question = question.with_line("settings", block.first, "", block.last)
-    if kind == "site" and (not isinstance(name, str) or slug(name) != name):
+    first, last = own[number]
+    name = listed_in(question.text("settings"), block)[number].get("name")
+    question = question.with_line("settings", first, "", last)
+    if block == "site" and (not isinstance(name, str) or slug(name) != name):
         question = replace(question, lacks_site=True)
-    for table, column in (("costs", "site"), ("capacity", "site")):
-        if kind == "site" and table in question.files:
-            question = without_rows(question, table, column, str(name))
+    for table in ("costs", "capacity") if block == "site" else ():
+        if table in question.files:
+            question = without_site(question, table, str(name))
     return question
 
 
-def without_rows(question: Question, kind: str, column: str, name: str) -> Question:
-    """A table without the rows that have a name in a column."""
-    table = table_of(question.text(kind))
-    at = table.header.index(column) if column in table.header else 0
-    lines = list(table.text.lines)
-    left_out = question.left_out
-    for row in table.rows:
-        if at < len(row.fields) and row.fields[at] == name:
-            lines[row.first - 1 : row.last] = [""] * (row.last - row.first + 1)
-            left_out += ((kind, tuple(row.fields)),)
-    mended = question.with_file(kind, question.files[kind].with_text("\n".join(lines)))
-    return replace(mended, left_out=left_out)
+def without_site(question: Question, table: str, name: str) -> Question:
+    """A table without the rows of a site."""
+    read = table_of(question.text(table))
+    at = read.header.index("site") if "site" in read.header else 0
+    return question.without_rows(table, [row for row in read.rows if row.fields[at : at + 1] == [name]])
 
 
 def mends(*questions: Question | None) -> Iterator[Question]:
@@ -92,29 +85,29 @@ def unknown_key(question: Question, said: Said) -> Explained:
     text = question.text("settings")
     data = data_of(text) or {}
     parts: list[tuple[str, int, dict[str, Any]]] = [("", 0, data)]
-    parts += [(kind, at, table) for kind in KEYS for at, table in enumerate(listed_in(text, kind))]
-    for kind, at, table in parts:
-        allowed = KEYS.get(kind, list(KEYS))
+    parts += [(block, at, table) for block in KEYS for at, table in enumerate(listed_in(text, block))]
+    for block, at, table in parts:
+        allowed = KEYS.get(block, list(KEYS))
         key = next((key for key in table if key not in allowed), "")
         if key or "" in table:
-            return _unknown(question, said, (kind, at), key)
+            return _unknown(question, said, (block, at), key)
     words = Words("a key means nothing where it stands", "keep only name, record, index, address and limit")
     place = question.files["settings"].original.whole(1)
     return Explained(found(text.path, place, words, said.line), [question.with_stand_in("settings")])
 
 
 def _unknown(question: Question, said: Said, where: tuple[str, int], key: str) -> Explained:
-    kind, number = where
+    block, number = where
     text = question.text("settings")
-    allowed = KEYS.get(kind, list(KEYS))
+    allowed = KEYS.get(block, list(KEYS))
     pattern = rf"^[\s\[{{]*[\"']?({re.escape(key)})[\"']?\s*[\]=.]"
-    own = blocks(text, kind) if kind else []
+    own = blocks(text, block) if block else []
     place = text.match(pattern, *own[number]) if number < len(own) else None
     place = place or text.match(pattern) or text.match(rf"({re.escape(key)})") or text.whole(1)
     meant = near(key, allowed, 0.7)
-    where_words = f"a {kind} has only {', '.join(allowed)}" if kind else "settings have only [[site]] and [[host]]"
+    where_words = f"a {block} has only {', '.join(allowed)}" if block else "settings have only [[site]] and [[host]]"
     remedy = f"write {meant}" if meant else "take it out"
-    if not kind and key in ("name", "record", "index", "address", "limit"):
+    if not block and key in ("name", "record", "index", "address", "limit"):
         of = "host" if key in KEYS["host"] else "site"
         where_words, remedy = f"{key} belongs into a block", f"put [[{of}]] above it"
     elif not meant and key.lower() in ("title", "unit", "units", "cost", "time"):
@@ -122,7 +115,7 @@ def _unknown(question: Question, said: Said, where: tuple[str, int], key: str) -
     mark = f"did you mean {meant}?" if meant else ""
     words = Words(f"the key {quoted(key)} means nothing here", remedy, where_words, mark, f"UnknownKey {key}")
     line = place.text[: place.column - 1] + meant + place.text[place.end - 1 :]
-    head = f"[[{'host' if key in KEYS['host'] else 'site'}]]\n{place.text}" if not kind and not meant else ""
+    head = f"[[{'host' if key in KEYS['host'] else 'site'}]]\n{place.text}" if not block and not meant else ""
     ways = [question.with_line("settings", place.line, line)] if meant else []
     if head and "above" in remedy:
         draft = question.files["settings"]
@@ -151,11 +144,10 @@ def record_words(record: str, folder: str) -> Words:
         return Words("", "take the blanks or colons out", "blanks or colons between the digits")
     if re.search(r"\.\w{1,6}$", record) or os.path.exists(os.path.join(folder, record)):
         why = "the name of a file in place of its octets"
-        return Words(
-            "",
-            f"hsp sites {shell_word(record[:40])} prints the block; or xxd -p {shell_word(record[:40])} | tr -d '\\n'",
-            why,
+        remedy = (
+            f"hsp sites {shell_word(record[:40])} prints the block; or xxd -p {shell_word(record[:40])} | tr -d '\\n'"
         )
+        return Words("", remedy, why)
     if record.lstrip().startswith(("{", "[")):
         return Words("", "save it in a file; hsp sites prints the block", "JSON in place of hexadecimal digits")
     wrong = re.search(r"[^0-9A-Fa-f]", record)
@@ -183,11 +175,8 @@ def _source_words(name: str, site: dict[str, Any], folder: str) -> Words:
     if record is not None:
         return Words(f"the record of '{name}' isn't a text", "put quotes about the digits", "a record is a text")
     why = f"an index is a whole number up to {GREATEST_ID:,}, without quotes"
-    return Words(
-        f"the index of '{name}' isn't a whole number from 0 on",
-        "write the index of the site's value, as index = 3",
-        why,
-    )
+    message = f"the index of '{name}' isn't a whole number from 0 on"
+    return Words(message, "write the index of the site's value, as index = 3", why)
 
 
 def bad_site(question: Question, said: Said) -> Explained:
@@ -214,40 +203,28 @@ def bad_site(question: Question, said: Said) -> Explained:
     return Explained(found(text.path, place, words, said.line), ways)
 
 
-def _one_table(question: Question, said: Said, kind: str) -> Explained:
+def _one_table(question: Question, said: Said, block: str) -> Explained:
     """A single table, or another value, where a list of blocks stands."""
     text = question.text("settings")
-    place = text.match(rf"^\s*(\[\s*{kind}\s*\])") or head_of(text, kind, 0)
-    words = Words(
-        f"{place.text.strip()[:20]} is one table; {kind}s are a list",
-        f"write [[{kind}]] for each",
-        "two brackets on each side",
-    )
+    place = text.match(rf"^\s*(\[\s*{block}\s*\])") or head_of(text, block, 0)
+    message = f"{place.text.strip()[:20]} is one table; {block}s are a list"
+    words = Words(message, f"write [[{block}]] for each", "two brackets on each side")
     return Explained(
         found(text.path, place, words, said.line),
-        [question.with_line("settings", place.line, f"[[{kind}]]"), question.with_stand_in("settings")],
+        [question.with_line("settings", place.line, f"[[{block}]]"), question.with_stand_in("settings")],
     )
 
 
 def _bad_site_name(question: Question, said: Said, number: int, name: object) -> Explained:
     text = question.text("settings")
     taken = {site.get("name") for site in listed_in(text, "site")}
-    used = [
-        site
-        for kind in ("costs", "capacity")
-        if kind in question.files
-        for site in table_of(question.text(kind)).column("site")
-    ]
-    free = [other for other in dict.fromkeys(used) if other not in taken and slug(other) == other and other]
+    free = [other for other in sites_used(question) if other not in taken and slug(other) == other and other]
     plain = slug(name) if isinstance(name, str) else ""
     meant = near(plain, free) if plain else (free[0] if len(free) == 1 else "")
     as_used = f'write name = "{meant}", as the tables have it' if meant else ""
     if name is None:
-        words = Words(
-            f"site {number + 1} has no name",
-            as_used or 'write a line name = ".." in its block',
-            "each site has a name",
-        )
+        message = f"site {number + 1} has no name"
+        words = Words(message, as_used or 'write a line name = ".." in its block', "each site has a name")
     elif not isinstance(name, str):
         words = Words("the name of a site isn't a text", f'write name = "{name}"', "a name stands in quotes")
     else:
@@ -271,13 +248,7 @@ def site_twice(question: Question, said: Said) -> Explained:
     sites = listed_in(text, "site")
     name = str(sites[number].get("name")) if number < len(sites) else ""
     first = next((at for at, other in enumerate(sites[:number]) if other.get("name") == name), 0)
-    used = [
-        other
-        for kind in ("costs", "capacity")
-        if kind in question.files
-        for other in table_of(question.text(kind)).column("site")
-    ]
-    free = [other for other in dict.fromkeys(used) if other not in {site.get("name") for site in sites} and other]
+    free = [other for other in sites_used(question) if other not in {site.get("name") for site in sites} and other]
     remedy = (
         f'write name = "{free[0]}", which the tables have and the settings lack'
         if free
@@ -297,21 +268,15 @@ def _address_words(address: str) -> tuple[Words, str]:
     """What is wrong with the address of a host, and what it likely is."""
     try:
         octets = ipaddress.ip_address(address.strip()).packed.rjust(16, bytes(1)).hex()
-        return (
-            Words("", f'write address = "{octets}"', "an address is written as 16 octets in hexadecimal digits"),
-            octets,
-        )
+        remedy = f'write address = "{octets}"'
+        return (Words("", remedy, "an address is written as 16 octets in hexadecimal digits"), octets)
     except ValueError:
         pass
     bare = re.sub(r"^0[xX]|[^0-9A-Fa-f]", "", address)
     if len(bare) in (8, 32) and len(address) - len(bare) < 20:
         octets = bare.rjust(32, "0")
-        return (
-            Words(
-                "", f'write address = "{octets}"', "16 octets are 32 digits; an IPv4 address has 24 zeros in front"
-            ),
-            octets,
-        )
+        remedy = f'write address = "{octets}"'
+        return (Words("", remedy, "16 octets are 32 digits; an IPv4 address has 24 zeros in front"), octets)
     why = f"{len(address)} signs in place of 32 hexadecimal digits"
     return Words("", "copy the address of a server as hsplan site prints it", why), ""
 
@@ -334,11 +299,8 @@ def _host_words(host: dict[str, Any]) -> tuple[str, Words, str]:
     is_plain = digits and len(digits) < 12 and not str(limit).startswith("-")
     remedy = f"write limit = {digits}" if is_plain else f"write a whole number from 0 to {GREATEST_LIMIT}"
     message = f"the limit {quoted(str(limit))} isn't a whole number within its bounds"
-    return (
-        "limit",
-        Words(message, remedy, f"a limit has only digits, without quotes, up to 10^{len(str(GREATEST_LIMIT)) - 1}"),
-        "1000000",
-    )
+    why = f"a limit has only digits, without quotes, up to 10^{len(str(GREATEST_LIMIT)) - 1}"
+    return ("limit", Words(message, remedy, why), "1000000")
 
 
 def bad_host(question: Question, said: Said) -> Explained:
@@ -374,15 +336,15 @@ def host_twice(question: Question, said: Said) -> Explained:
 
 def too_many_blocks(question: Question, said: Said) -> Explained:
     """More sites or hosts than hsplan takes."""
-    kind = "site" if said.word == "TooManySites" else "host"
+    block = "site" if said.word == "TooManySites" else "host"
     text = question.text("settings")
-    own = blocks(text, kind)
-    most = MOST_SITES if kind == "site" else MOST_HOSTS
+    own = blocks(text, block)
+    most = MOST_SITES if block == "site" else MOST_HOSTS
     remedy = (
         "plan in parts, each with the regions that use its sites"
-        if kind == "site"
+        if block == "site"
         else "keep hosts with several servers only"
     )
-    words = Words(f"{len(own):,} {kind}s; hsplan takes {most:,}", remedy, "every block counts")
-    place = head_of(text, kind, min(most, len(own) - 1) if own else 0)
+    words = Words(f"{len(own):,} {block}s; hsplan takes {most:,}", remedy, "every block counts")
+    place = head_of(text, block, min(most, len(own) - 1) if own else 0)
     return Explained(found(text.path, place, words, said.line), [question.with_stand_in("settings")])

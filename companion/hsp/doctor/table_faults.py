@@ -1,25 +1,41 @@
-"""Faults of the tables: headers, and rows."""
+"""Faulty rows of tables and logs, as `hsplan-stream faults` lists them: where, why, and what to do."""
 
 from __future__ import annotations
 
+import csv
+import itertools
 import re
+import subprocess
 import unicodedata
-from collections.abc import Iterator
-from dataclasses import replace
+from collections.abc import Collection, Iterator
+from dataclasses import dataclass, replace
 from typing import NamedTuple
 from urllib.parse import unquote
 
-from hsp.base.grammar import HEADERS, LONGEST_HANDLE, LONGEST_NAME, NAME_SIGNS
+from hsp.base.grammar import (
+    HEADERS,
+    LOG_HEAD,
+    LOG_HEADERS,
+    LONGEST_HANDLE,
+    LONGEST_NAME,
+    MOST_DEMAND_ROWS,
+    MOST_REGIONS,
+    NAME_RULE,
+    NAME_SIGNS,
+)
 from hsp.base.numbers import listed, some
 from hsp.base.paths import shell_word
-from hsp.base.programs import run
+from hsp.base.programs import program
 from hsp.base.spelling import near
-from hsp.doctor.findings import Finding, Place, Words, found, quoted
+from hsp.doctor.findings import Finding, Place, Words, decoded, encoded, quoted
 from hsp.doctor.numbers_advice import QUOTES, advice
-from hsp.doctor.question import Question, Said
+from hsp.doctor.question import Draft, Mend, Question, Said, said_of
 from hsp.doctor.rows import Row, joined, spans_of, table_of
 
-NAME_RULE = f"a name has only ASCII letters, digits, '-', '_' and '.', and at most {LONGEST_NAME} of them"
+NUMBERS = ("count", "cost", "capacity", "server_id", "front")
+# So many faulty rows of a file are looked at.
+MOST_FAULTY = 10_000
+OPEN_QUOTE = "open quote"
 
 
 class Explained(NamedTuple):
@@ -31,98 +47,147 @@ class Explained(NamedTuple):
     is_whole_row: bool = False
 
 
-class Spot(NamedTuple):
-    """A row that hsplan refuses: in the mended copy, and in the file as it was."""
+@dataclass(frozen=True)
+class Faulty:
+    """A row that hsplan refuses, in the copy that was asked about, with hsplan's words.
 
-    question: Question
-    kind: str
+    `field` is the number of the field at fault, where it is one field's; `column` is where that one, or the row,
+    begins in the row's first line.
+    """
+
+    draft: Draft
+    table: str
     row: Row
-    original: Row
-    header: list[str]
+    said: Said
+    field: int | None = None
+    column: int | None = None
+
+    @property
+    def fields(self) -> list[str]:
+        return self.row.fields
+
+    @property
+    def header(self) -> list[str]:
+        return HEADERS[self.table].split(",") if self.table in HEADERS else table_of(self.draft.text).header
 
     @property
     def path(self) -> str:
-        return self.question.files[self.kind].original.path
+        return self.draft.original.path
+
+    @property
+    def line(self) -> str:
+        """The first line of the row."""
+        return self.draft.text.line(self.row.first)
 
     def place(self, at: int, to: int = 0) -> Place:
-        """Where a field stands in the file as it was."""
-        table = table_of(self.question.files[self.kind].original)
-        if len(self.original.fields) != len(self.row.fields):
-            return table.text.whole(self.original.first)
-        return table.place(self.original, at, to)
+        """Where a field stands in the file as it was, or all fields from one to another."""
+        original, number = self.draft.original, self.draft.number(self.row.first)
+        if self.column is not None and at == (self.field or 0) and original.line(number) == self.line:
+            spans = spans_of(self.line[self.column :])
+            return original.part(number, self.column, spans[min(max(0, to - at), len(spans) - 1)][1])
+        row = table_of(original).at_line(number)
+        return table_of(original).place(row, at, to) if row and len(row.fields) == len(self.fields) else self.whole()
 
-    def line(self) -> Place:
-        return self.question.files[self.kind].original.whole(self.original.first)
+    def whole(self) -> Place:
+        """The row's first line."""
+        return self.draft.original.whole(self.draft.number(self.row.first))
 
-    def with_fields(self, fields: list[str]) -> Question:
-        return self.question.with_line(self.kind, self.row.first, joined(fields), self.row.last)
+    def with_field(self, text: str) -> str:
+        """The row with another text in its faulty field."""
+        return joined([text if number == self.field else field for number, field in enumerate(self.fields)])
 
-    def with_field(self, at: int, text: str) -> Question:
-        return self.with_fields([text if number == at else old for number, old in enumerate(self.row.fields)])
-
-    def without(self) -> Question:
-        return self.question.without_row(self.kind, self.row.first, self.row.last, self.row.fields)
-
-
-def spot_of(question: Question, kind: str, number: int) -> Spot | None:
-    """The row with a number, that counts from 0."""
-    draft = question.files[kind]
-    rows = table_of(draft.text).rows
-    if number >= len(rows):
-        return None
-    row = rows[number]
-    line = draft.number(row.first)
-    original = table_of(draft.original)
-    header = HEADERS[kind].split(",") if kind in HEADERS else table_of(draft.text).header
-    return Spot(question, kind, row, original.at_line(line) or Row(line, line, row.fields), header)
+    def words(self) -> str:
+        """hsplan's words, with the number that the row has in the file as it was."""
+        if self.draft.lines is None:
+            return self.said.line
+        number = table_of(self.draft.original).number(self.draft.number(self.row.first))
+        return re.sub(r"row \d+", f"row {number}", self.said.line, count=1)
 
 
-def renumbered(question: Question, kind: str, said: Said) -> str:
-    """hsplan's words, with the number that the row has in the file as it was."""
-    spot = spot_of(question, kind, said.numbers["row"]) if "row" in said.numbers else None
-    if not spot:
-        return said.line
-    draft = question.files[kind]
-    number = table_of(draft.original).number(spot.original.first)
-    return re.sub(r"row \d+", f"row {number}", said.line, count=1)
-
-
-def bad_number(spot: Spot, said: str) -> Explained:
-    fields = spot.row.fields
-    numeric = [
-        at for at, column in enumerate(spot.header) if column in ("count", "cost", "capacity", "server_id", "front")
-    ]
-    at = numeric[-1]
-    for place in numeric[:-1]:
-        if spot.with_field(place, "1").ask().line != said:
-            at = place
-    name = spot.header[at] if at < len(spot.header) else "number"
-    advised = advice(fields[at], name)
-    words = Words(
-        f"{name} {quoted(fields[at], 30)} isn't a whole number within its limit",
-        advised.remedy,
-        advised.why,
-        kind=f"BadNumber {name} {advised.why}",
-    )
-    others = [field for number, field in enumerate(fields) if number not in numeric]
-    if not re.search(r"[0-9]", fields[at]) and any(re.fullmatch(r"[0-9]+", field) for field in others):
-        words = Words(
-            words.message,
-            f"put the columns in the order {','.join(spot.header)}",
-            "digits stand in another column, so the columns may be in another order",
-            kind=words.kind,
+def faulty_rows(question: Question, table: str) -> Iterator[Faulty]:
+    """The rows of a table or a log that hsplan refuses, as they are found."""
+    command = [program("hsplan-stream"), "faults", f"--{table}={question.path(table)}"]
+    with subprocess.Popen(command, stdin=subprocess.DEVNULL, stdout=subprocess.PIPE, text=True) as run:
+        assert run.stdout
+        every = itertools.islice(csv.reader(run.stdout), 1, MOST_FAULTY + 1)
+        rows = (
+            faulty for row in every if "row" in (faulty := _faulty(question.files[table], table, row)).said.numbers
         )
+        yield from rows if table in HEADERS else with_reasons(question, list(rows))
+        run.kill()
+
+
+def with_reasons(question: Question, every: list[Faulty]) -> list[Faulty]:
+    """The rows of a log, each bad handle with the reason that hsplan has: of a log it says none."""
+    bad = {faulty.fields[faulty.field or 0] for faulty in every if faulty.said.word == "BadHandle"}
+    asked = [handle for handle in bad if not re.search("[\n\r\0]", handle)]
+    log = LOG_HEAD + b"".join(b"any,%b\n" % encoded(joined([handle, ""])[:-1]) for handle in asked)
+    answers = question.programs.answers_without_sites(log, len(asked)) if asked else []
+    why = {handle: answer.split()[-1] for handle, answer in zip(asked, answers)}
+    return [
+        replace(faulty, said=replace(faulty.said, detail=why.get(faulty.fields[faulty.field or 0], "NoSlash")))
+        if faulty.said.word == "BadHandle"
+        else faulty
+        for faulty in every
+    ]
+
+
+def _faulty(draft: Draft, table: str, listed_row: list[str]) -> Faulty:
+    _, line, field, octet, words = listed_row
+    octets, number = draft.text.octets, int(field) if field else None
+    begin = max(octets.rfind(b"\n", 0, int(octet)), octets.rfind(b"\r", 0, int(octet))) + 1
+    column = len(decoded(octets[begin : int(octet)]))
+    row = row_of(draft, int(line), number or 0, column)
+    return Faulty(draft, table, row, said_of(1, words), number, column if row.first == int(line) else None)
+
+
+def row_of(draft: Draft, line: int, field: int, column: int) -> Row:
+    """The row whose field begins at a column of a line: mostly the one that begins in this line."""
+    spans = spans_of(draft.text.line(line))
+    if field < len(spans) and spans[field][0] == column:
+        return row_at(draft, line)
+    rows = table_of(draft.text).rows
+    around = [row for row in rows if row.first <= line <= row.last]
+    return around[0] if around else row_at(draft, line)
+
+
+def row_at(draft: Draft, first: int) -> Row:
+    """The row that begins in a line."""
+    lines = draft.text.lines
+    reader = csv.reader(f"{line}\n" for line in itertools.islice(lines, first - 1, len(lines) - (not lines[-1])))
+    fields: list[str] = next(reader, [])
+    return Row(first, first - 1 + reader.line_num, fields)
+
+
+def numbered_row(question: Question, table: str, said: Said) -> Faulty | None:
+    """The row of a number that hsplan says, of tables that are read together or of a log that one command refuses."""
+    rows, number = table_of(question.text(table)).rows, said.numbers["row"]
+    return Faulty(question.files[table], table, rows[number], said) if number < len(rows) else None
+
+
+def bad_number(faulty: Faulty) -> Words:
+    fields, header = faulty.fields, faulty.header
+    at = faulty.field or 0
+    name = header[at]
+    advised = advice(fields[at], name)
+    message, group = (
+        f"{name} {quoted(fields[at], 30)} isn't a whole number within its limit",
+        f"BadNumber {name} {advised.why}",
+    )
+    mended = None if name == "server_id" else faulty.with_field(advised.mended)
+    words = Words(message, advised.remedy, advised.why, group=group, mended=mended)
+    others = [field for column, field in zip(header, fields) if column not in NUMBERS]
+    if not re.search(r"[0-9]", fields[at]) and any(re.fullmatch(r"[0-9]+", field) for field in others):
+        why = "digits stand in another column, so the columns may be in another order"
+        words = Words(message, f"put the columns in the order {','.join(header)}", why, group=group, mended=mended)
     if advised.why.startswith("a blank") and all(other.startswith(" ") for other in fields[1:]):
-        path = spot.question.files[spot.kind].original.path
-        remedy = f"{advised.remedy}; in the whole table: sed 's/, */,/g' {shell_word(path)} > plain.csv"
+        remedy = f"{advised.remedy}; in the whole table: sed 's/, */,/g' {shell_word(faulty.path)} > plain.csv"
         words = replace(words, remedy=remedy)
     if name == "server_id" and not fields[at].strip().isdigit():
         remedy = "write the identifier of the server, as hsplan site prints it"
         remedy += "" if fields[at].strip() else "; or take the row out, if it is a sum"
         words = replace(words, remedy=remedy)
-    mended = [spot.with_field(at, value) for value in dict.fromkeys((advised.mended, "1"))]
-    mended = ([] if name == "server_id" else mended) + [spot.without()]
-    return Explained(found(spot.path, spot.place(at), words, said), mended)
+    return words
 
 
 def slug(name: str) -> str:
@@ -131,20 +196,15 @@ def slug(name: str) -> str:
     return re.sub(f"[^{NAME_SIGNS}]+", "-", plain).strip("-")[:LONGEST_NAME]
 
 
-def bad_name(spot: Spot, said: str) -> Explained:
-    fields = spot.row.fields
-    named = [at for at, column in enumerate(spot.header) if column in ("region", "site") and at < len(fields)]
-    at = next(
-        (place for place in named if not fields[place] or slug(fields[place]) != fields[place]),
-        named[0] if named else 0,
-    )
-    name, field = spot.header[at], fields[at]
+def bad_name(faulty: Faulty, names: dict[int, str]) -> Words:
+    """A name of a region or a site; `names` are those of its column by their lines, mended up to this row."""
+    fields = faulty.fields
+    name, field = faulty.header[faulty.field or 0], fields[faulty.field or 0]
     if not "".join(fields).strip():
-        words = Words(
-            "a row of commas only", "take the line out", "an empty row of a spreadsheet", kind="BadName empty"
+        return Words(
+            "a row of commas only", "take the line out", "an empty row of a spreadsheet", group="BadName empty"
         )
-        return Explained(found(spot.path, spot.line(), words, said), [spot.without()])
-    known = [site for site in table_of(spot.question.text(spot.kind)).column(name) if site and slug(site) == site]
+    known = [other for other in names.values() if other and slug(other) == other]
     meant = near(field, set(known), 0.8) or slug(field) or ("eu" if name == "region" else "paris")
     why, remedy = NAME_RULE, f"write {meant}"
     if not field:
@@ -156,235 +216,249 @@ def bad_name(spot: Spot, said: str) -> Explained:
     elif len(field) > LONGEST_NAME:
         why = f"{len(field)} letters; a name has at most {LONGEST_NAME}"
     elif "/" in field:
-        why, remedy = "this looks like a handle", f"put the columns in the order {','.join(spot.header)}"
-    kind = f"BadName {name} /" if "/" in field else f"BadName {name} {field}"
-    words = Words(f"{name} {quoted(field)} isn't a name", remedy, why, kind=kind)
-    mended = [spot.with_field(at, meant), spot.with_field(at, slug(field) or meant), spot.without()]
-    return Explained(found(spot.path, spot.place(at), words, said), mended)
+        why, remedy = "this looks like a handle", f"put the columns in the order {','.join(faulty.header)}"
+    group = f"BadName {name} /" if "/" in field else f"BadName {name} {field}"
+    names[faulty.row.first] = meant
+    return Words(f"{name} {quoted(field)} isn't a name", remedy, why, group=group, mended=faulty.with_field(meant))
 
 
 def handle_words(handle: str, detail: str, path: str) -> Words:
     """What is said of a field that is no handle, for hsplan's reason."""
-    shown, kind = quoted(handle), f"BadHandle {detail}"
+    shown, group = quoted(handle), f"BadHandle {detail}"
     if detail == "NotUtf8":
         octets = handle.encode("utf-8", "surrogateescape")
         meant = octets.decode("cp1252", "replace")
         remedy = f"iconv -f windows-1252 -t utf-8 {shell_word(path)} > utf8.csv"
         return Words(
-            f"the handle isn't UTF-8; likely '{meant}'", remedy, "a file in Latin-1 or Windows-1252", kind=kind
+            f"the handle isn't UTF-8; likely '{meant}'", remedy, "a file in Latin-1 or Windows-1252", group=group
         )
     if detail == "TooLong":
         size = len(handle.encode("utf-8", "surrogateescape"))
         why = f"{size:,} octets; a handle has at most {LONGEST_HANDLE:,}"
         return Words(
-            f"{quoted(handle, 30)} is too long", "put the handle here: an open quote may join lines", why, kind=kind
+            f"{quoted(handle, 30)} is too long", "put the handle here: an open quote may join lines", why, group=group
         )
     if detail == "EmptySegment":
         meant = re.sub(r"\.{2,}", ".", handle).strip("./ ")
         remedy = f"write {meant}" if "/" in meant else "write prefix, '/', suffix, as 20.500.1234/report-2024"
         why = "the prefix before '/' is empty, or has an empty part"
-        return Words(f"{shown} isn't a handle", remedy, why, kind=kind)
+        return Words(f"{shown} isn't a handle", remedy, why, group=group)
     if "/" in unquote(handle):
-        return Words(f"{shown} isn't a handle", f"write {unquote(handle)}", "its '/' is percent-encoded", kind=kind)
+        return Words(f"{shown} isn't a handle", f"write {unquote(handle)}", "its '/' is percent-encoded", group=group)
     if "\\" in handle:
         meant = handle.replace("\\", "/", 1)
-        return Words(f"{shown} isn't a handle", f"write {meant}", "a backslash in place of '/'", kind=kind)
+        return Words(f"{shown} isn't a handle", f"write {meant}", "a backslash in place of '/'", group=group)
     if not handle.strip():
-        return Words("the handle is empty", "write a handle, or take the row out", "an empty field", kind=kind)
+        return Words("the handle is empty", "write a handle, or take the row out", "an empty field", group=group)
     why = "a handle is a prefix, '/' and a suffix; here is no '/'"
     remedy = f"write the suffix too, as {handle.strip()}/report-2024"
     # A prefix begins with a number, as 20.500.1234 and 21.T11998 do.
     if not re.fullmatch(r"\s*[0-9]+(\.[0-9A-Za-z]+)*\s*", handle):
         remedy = f"write the prefix too, as 20.500.1234/{handle.strip()[:40]}; or are the columns in another order?"
-    return Words(f"{shown} isn't a handle", remedy, why, kind=kind)
+    return Words(f"{shown} isn't a handle", remedy, why, group=group)
 
 
-def reason_of(spot: Spot, at: int) -> str:
-    """Why a field is no handle, as hsplan says it of a field by itself."""
-    draft = spot.question.files[spot.kind]
-    field = spot.row.fields[at]
-    if "\x00" in field or not draft:
-        return "NoSlash" if "/" not in field else "EmptySegment"
-    printed = run("hsplan", "locate", "--option=handle", "--servers=1", "--", field)
-    return printed.line.split()[-1] if printed.status else ""
-
-
-def bad_handle(spot: Spot, said: str, detail: str) -> Explained:
-    at = spot.header.index("handle") if "handle" in spot.header else 1
-    at = min(at, len(spot.row.fields) - 1)
-    handle = spot.row.fields[at]
-    words = handle_words(handle, detail or reason_of(spot, at), spot.question.files[spot.kind].original.path)
-    if not handle and spot.row.fields[0].lower() in ("total", "sum", "all", ""):
+def bad_handle(faulty: Faulty) -> Words:
+    fields, at = faulty.fields, faulty.field or 0
+    handle = fields[at]
+    words = handle_words(handle, faulty.said.detail, faulty.path)
+    if not handle and fields[0].lower() in ("total", "sum", "all", ""):
         words = replace(words, why="a row of sums, as spreadsheets have them", remedy="take the line out")
-    slashed = [place for place, field in enumerate(spot.row.fields) if "/" in field and place != at]
+    slashed = [field for number, field in enumerate(fields) if "/" in field and number != at]
     if "/" not in handle and slashed:
-        order = ",".join(spot.header)
-        why = f"{quoted(spot.row.fields[slashed[0]], 30)} looks like the handle"
-        words = Words(words.message, f"put the columns in the order {order}", why, kind=words.kind)
-    mended = [spot.with_field(at, f"20.500.1234/mended-{spot.row.first}"), spot.without()]
-    return Explained(found(spot.path, spot.place(at), words, said), mended)
+        remedy = f"put the columns in the order {','.join(faulty.header)}"
+        words = Words(words.message, remedy, f"{quoted(slashed[0], 30)} looks like the handle", group=words.group)
+    return replace(words, mended=faulty.with_field(f"20.500.1234/mended-{faulty.row.first}"))
 
 
-def _number_with_commas(spot: Spot) -> tuple[Words, str] | None:
+def _number_with_commas(faulty: Faulty) -> Words | None:
     """A number with a comma in it, at the end of a row that has fields too many."""
-    fields, want = spot.row.fields, len(spot.header)
-    more = fields[want - 1 :]
-    kept = fields[: want - 1]
-    if spot.header[-1] not in ("count", "cost", "capacity") or not all(
-        re.fullmatch(r" ?[0-9]+", part) for part in more
-    ):
+    want = len(faulty.header)
+    kept, more = faulty.fields[: want - 1], faulty.fields[want - 1 :]
+    if faulty.header[-1] not in NUMBERS[:3] or not all(re.fullmatch(r" ?[0-9]+", part) for part in more):
         return None
     bare = [part.strip() for part in more]
     if all(len(part) == 3 for part in bare[1:]) and len(bare[0]) <= 3:
         number = "".join(bare)
-        why = "a separator of thousands in the number"
-        return Words("", f"write {number}", why), joined([*kept, number])
+        return _written("a separator of thousands in the number", joined([*kept, number]), f"write {number}")
     if len(more) == 2:
-        number = str(round(float(f"{bare[0]}.{bare[1]}")))
-        why = "a decimal comma; every number is whole"
-        return Words("", f"write {number}, or take a smaller unit in the whole table", why), joined([*kept, number])
+        number = str(round(float(".".join(bare))))
+        remedy = f"write {number}, or take a smaller unit in the whole table"
+        return _written("a decimal comma; every number is whole", joined([*kept, number]), remedy)
     return None
 
 
-def _too_many(spot: Spot) -> tuple[Words, str]:
-    fields, want = spot.row.fields, len(spot.header)
-    numbers = _number_with_commas(spot)
-    if numbers:
+def _written(why: str, text: str, remedy: str = "") -> Words:
+    """What is said of a row that should be another text."""
+    return Words("", remedy or f"write {text[:60]}", why, mended=text)
+
+
+def _too_many(faulty: Faulty) -> Words:
+    fields, header = faulty.fields, faulty.header
+    want = len(header)
+    if numbers := _number_with_commas(faulty):
         return numbers
     if not "".join(fields[want:]).strip():
         text = joined(fields[:want])
-        return Words("", f"write {text}", "a comma at the end"), text
+        return _written("a comma at the end", text, f"write {text}")
     without = [field for field in fields if field.strip()]
     if len(without) == want:
-        text = joined(without)
-        return Words("", f"write {text}", "a comma twice"), text
+        return _written("a comma twice", joined(without), f"write {joined(without)}")
     number = re.match(r"([0-9]+)[A-Za-z][\w.-]*$", fields[want - 1])
-    if number and spot.kind in HEADERS and len(fields) == 2 * want - 1:
-        second = [fields[want - 1][number.end(1) :], *fields[want:]]
-        text = joined([*fields[: want - 1], number[1]])
-        remedy = f"begin a new line before {joined(second)}"
-        return Words("", remedy, "two rows in one line: a line end is lost"), f"{text}\n{joined(second)}"
-    if "handle" in spot.header:
-        at = spot.header.index("handle")
-        behind = len(spot.header) - at - 1
-        end = len(fields) - behind
+    if number and faulty.table in HEADERS and len(fields) == 2 * want - 1:
+        second = joined([fields[want - 1][number.end(1) :], *fields[want:]])
+        first = joined([*fields[: want - 1], number[1]])
+        why, remedy = "two rows in one line: a line end is lost", f"begin a new line before {second}"
+        return _written(why, f"{first}\n{second}", remedy)
+    if "handle" in header:
+        at = header.index("handle")
+        end = len(fields) - (want - at - 1)
         text = ",".join([*fields[:at], joined([",".join(fields[at:end]), ""])[:-1], *fields[end:]])
         if "/" in "".join(fields[at:end]):
-            return Words("", f"put quotes about the handle: {text}", "a comma within the handle"), text
-    text = joined(fields[:want])
-    return Words("", f"take out what is too much: a row is {','.join(spot.header)}", "a column too many"), text
+            return _written("a comma within the handle", text, f"put quotes about the handle: {text}")
+    remedy = f"take out what is too much: a row is {','.join(header)}"
+    return _written("a column too many", joined(fields[:want]), remedy)
 
 
-def _too_few(spot: Spot) -> tuple[Words, str]:
-    fields, order = spot.row.fields, ",".join(spot.header)
-    whole = spot.question.text(spot.kind).line(spot.row.first)
+def _too_few(faulty: Faulty) -> Words:
+    fields, order, want, whole = faulty.fields, ",".join(faulty.header), len(faulty.header), faulty.line
     if whole.lstrip().startswith(("#", "//")):
-        return Words("", "take the line out", "a comment; tables have none"), ""
+        return Words("", "take the line out", "a comment; tables have none")
     for sign, name in ((";", "semicolons"), ("\t", "tabs"), ("|", "bars")):
-        if whole.count(sign) >= len(spot.header) - 1:
-            text = whole.replace(sign, ",")
-            return Words("", f"write {text[:60]}", f"{name} in place of commas"), text
+        if whole.count(sign) >= want - 1:
+            return _written(f"{name} in place of commas", whole.replace(sign, ","))
     text = re.sub("[;|\t]", ",", whole)
-    if text != whole and len(spans_of(text)) == len(spot.header):
-        return Words("", f"write {text[:60]}", "another separator than a comma"), text
+    if text != whole and len(spans_of(text)) == want:
+        return _written("another separator than a comma", text)
     if whole.count('"') % 2:
         text = whole.replace('"', "")
-        return Words("", f"close the quote, or write {text[:60]}", "a quote that isn't closed"), text
-    if len(whole.split()) == len(spot.header):
-        text = ",".join(word.strip(",;") for word in whole.split())
-        return Words("", f"write {text[:60]}", "blanks in place of commas"), text
+        return _written("a quote that isn't closed", text, f"close the quote, or write {text[:60]}")
+    if len(whole.split()) == want:
+        return _written("blanks in place of commas", ",".join(word.strip(",;") for word in whole.split()))
     if re.match(r"(<{7}|={7}|>{7})", whole):
-        return Words("", "keep the lines of one side, and take the marks out", "a mark of a merge"), ""
+        return Words("", "keep the lines of one side, and take the marks out", "a mark of a merge")
     if len(fields) == 1:
-        remedy = f"take the line out, or write all of {order}"
-        return Words("", remedy, "not a row: a note, or a line that was cut"), ""
-    lacking = listed(spot.header[len(fields) :])
-    return Words("", f"write all of {order}", f"a field is missing, or the line was cut; likely {lacking}"), ""
+        return Words("", f"take the line out, or write all of {order}", "not a row: a note, or a line that was cut")
+    why = f"a field is missing, or the line was cut; likely {listed(faulty.header[len(fields) :])}"
+    return Words("", f"write all of {order}", why)
 
 
-def bad_fields(spot: Spot, said: str) -> Explained:
-    fields, order = spot.row.fields, ",".join(spot.header)
-    many = len(fields) > len(spot.header)
-    advised, text = _too_many(spot) if many else _too_few(spot)
-    message = f"{some(len(fields), 'field')} in place of {len(spot.header)} ({order})"
-    words = Words(message, advised.remedy, advised.why, kind=f"Fields {advised.why}")
-    place = spot.line()
-    line = spot.question.files[spot.kind].original.line(spot.original.first)
+def bad_fields(faulty: Faulty) -> Words:
+    fields, want = faulty.fields, len(faulty.header)
+    advised = _too_many(faulty) if len(fields) > want else _too_few(faulty)
+    message = f"{some(len(fields), 'field')} in place of {want} ({','.join(faulty.header)})"
+    return replace(advised, message=message, group=f"Fields {advised.why}")
+
+
+def _place_of_fields(faulty: Faulty) -> Place:
+    """What a row has too much, from its last column on; otherwise the line."""
+    line, want, number = faulty.line, len(faulty.header), faulty.draft.number(faulty.row.first)
     spans = spans_of(line)
-    if many and len(spans) == len(fields) and spans[len(spot.header) - 1][0] < len(line):
-        start = spans[len(spot.header) - 1][0]
-        place = spot.question.files[spot.kind].original.part(spot.original.first, start, len(line) - start)
-    first, _, second = text.partition("\n")
-    mended = [spot.question.with_line(spot.kind, spot.row.first, first, spot.row.last)] if text else []
-    if second:  # the copy has only the first of the two rows, so that later lines keep their numbers
-        mended = [
-            replace(question, left_out=(*question.left_out, (spot.kind, tuple(second.split(",")))))
-            for question in mended
-        ]
-    return Explained(found(spot.path, place, words, said), [*mended, spot.without()], True)
+    is_as_it_was = faulty.draft.original.line(number) == line
+    if is_as_it_was and len(spans) == len(faulty.fields) > want and spans[want - 1][0] < len(line):
+        start = spans[want - 1][0]
+        return faulty.draft.original.part(number, start, len(line) - start)
+    return faulty.whole()
 
 
-def row_twice(spot: Spot, said: str) -> Explained:
-    rows = table_of(spot.question.text(spot.kind)).rows
-    fields = spot.row.fields
-    first = next((row for row in rows if row.fields[:2] == fields[:2] and row.first < spot.row.first), None)
+def row_twice(faulty: Faulty, others: Collection[int]) -> Words:
+    """A row whose key an earlier one has; `others` are the lines of faulty ones."""
+    fields, rows = faulty.fields, table_of(faulty.draft.text).rows
+    first = next(row for row in rows if row.fields[:2] == fields[:2] and row.first not in others)
     key = " and ".join(quoted(field, 40) for field in fields[:2])
-    line = spot.question.files[spot.kind].number(first.first) if first else 0
-    mark = f"first in line {line}: {','.join(first.fields)[:60]}" if first else ""
+    line = faulty.draft.number(first.first)
+    mark = f"first in line {line}: {','.join(first.fields)[:60]}"
     why, remedy = "two tables joined, or a copied line", "keep one of the two lines"
-    if first and spot.kind == "demand":
+    if faulty.table == "demand":
         why = "a log that isn't added up, or two tables joined"
-        total = sum(
-            int(own[2]) for own in (first.fields, fields) if len(own) > 2 and re.fullmatch(r"[0-9]{1,18}", own[2])
-        )
+        total = int(first.fields[2]) + int(fields[2])
         remedy = f"write one row for both, with the sum {total}"
         if first.fields == fields:
             remedy = f"take one of them out; or write one row with the sum {total}, if both were counted"
-    elif first and first.fields != fields:
+    elif first.fields != fields:
         remedy = f"keep the right one: line {line} says {first.fields[-1]}, this line {fields[-1]}"
-    words = Words(f"{key} stand twice", remedy, why, mark, f"RowTwice {why}")
-    return Explained(found(spot.path, spot.place(0, 1), words, said), [spot.without()])
+    return Words(f"{key} stand twice", remedy, why, mark, f"RowTwice {why}")
 
 
-def open_quote(spot: Spot, said: str) -> Explained | None:
+def open_quote(faulty: Faulty) -> tuple[Words, Place] | None:
     """A quote that isn't closed in its line, so that the lines below it belong to its row."""
-    first, draft = spot.row.first, spot.question.files[spot.kind]
-    line = draft.text.line(first)
-    if spot.row.last == first or line.count('"') % 2 == 0:
+    row, line, number = faulty.row, faulty.line, faulty.draft.number
+    if row.last == row.first or line.count('"') % 2 == 0:
         return None
-    start = spans_of(line)[-1][0]
-    at = line.index('"', start)
-    words = Words(
-        "a quote isn't closed in its line",
-        "take the quote out, or close it behind its field",
-        f"it makes one row of the lines {draft.number(first)} to {draft.number(spot.row.last)}",
-        kind="open quote",
-    )
-    place = draft.original.part(draft.number(first), at, 1)
-    mended = spot.question.with_line(spot.kind, first, line[:at] + line[at + 1 :])
-    return Explained(found(spot.path, place, words, said), [mended, spot.without()])
+    at = line.index('"', spans_of(line)[-1][0])
+    why = f"it makes one row of the lines {number(row.first)} to {number(row.last)}"
+    remedy, mended = "take the quote out, or close it behind its field", line[:at] + line[at + 1 :]
+    words = Words("a quote isn't closed in its line", remedy, why, group=OPEN_QUOTE, mended=mended)
+    return words, faulty.draft.original.part(number(row.first), at, 1)
 
 
-def row_fault(question: Question, kind: str, said: Said) -> Explained | None:
-    """The fault of a row of a table or a log."""
-    spot = spot_of(question, kind, said.numbers["row"])
-    if not spot:
-        return None
-    line = renumbered(question, kind, said)
-    if spot.row.fields == spot.header:
-        words = Words("the header stands among the rows", "take the line out", "two tables joined")
-        return Explained(found(spot.path, spot.line(), words, line), [spot.without()])
-    quote = open_quote(spot, line)
-    if quote:
+def said_of_row(faulty: Faulty, names: dict[int, str], others: Collection[int]) -> tuple[Words, Place] | None:
+    """What is said of a faulty row, and where. `names` are those of its column, `others` lines of faulty rows."""
+    word = faulty.said.word
+    if faulty.fields == faulty.header:
+        return Words("the header stands among the rows", "take the line out", "two tables joined"), faulty.whole()
+    if quote := open_quote(faulty):
         return quote
-    if said.word == "BadNumber":
-        explained = bad_number(spot, said.line)
-        return Explained(explained.finding and _saying(explained.finding, line), explained.mended)
-    if said.word == "BadHandle":
-        return bad_handle(spot, line, said.detail)
-    ways = {"BadName": bad_name, "Fields": bad_fields, "RowTwice": row_twice}
-    return ways[said.word](spot, line) if said.word in ways else None
+    if word == "Fields":
+        return bad_fields(faulty), _place_of_fields(faulty)
+    if word == "RowTwice":
+        return row_twice(faulty, others), faulty.place(0, 1)
+    if word == "BadName":
+        words = bad_name(faulty, names)
+        return words, faulty.place(faulty.field or 0) if words.mended else faulty.whole()
+    return (ROWS[word](faulty), faulty.place(faulty.field or 0)) if word in ROWS else None
 
 
-def _saying(finding: Finding, line: str) -> Finding:
-    return replace(finding, said=line)
+def _body_words(body: str) -> tuple[str, str]:
+    """Why the body of a request can't be read, and what to do."""
+    if re.search(r"\s", body.strip()) and re.fullmatch(r"[0-9A-Fa-f\s:]+", body):
+        return "blanks between the digits", "take them out"
+    if re.fullmatch(r"[0-9A-Fa-f]+", body):
+        why = "an odd number of digits" if len(body) % 2 else "these octets aren't the body of a resolution request"
+        return why, "write only the body, without the envelope and the header of the message"
+    if re.fullmatch(r"[A-Za-z0-9+/]{16,}=*", body):
+        return "base64 in place of hexadecimal digits", "write the octets as hexadecimal digits: base64 -d | xxd -p"
+    return "signs that aren't hexadecimal digits", "write the octets of the body as hexadecimal digits"
+
+
+def bad_body(faulty: Faulty) -> Words:
+    body = faulty.fields[-1]
+    why, remedy = _body_words(body)
+    return Words(f"{quoted(body, 30)} isn't the body of a request", remedy, why, group=f"BadBody {why}")
+
+
+def bad_front(faulty: Faulty) -> Words:
+    why = "columns in another order, or a name"
+    remedy = f"write the number of the front, from 0 on: {LOG_HEADERS['fronts'][0]}"
+    return Words(f"front {quoted(faulty.fields[0], 20)} isn't a number", remedy, why, group=f"BadFront {why}")
+
+
+def too_many_regions(faulty: Faulty) -> Words:
+    why, remedy = (
+        "a region for each network or country",
+        f"join networks under at most {MOST_REGIONS} names of regions",
+    )
+    message = f"{quoted(faulty.fields[0])} is the {MOST_REGIONS + 1}th region"
+    return Words(message, remedy, why, group=f"TooManyRegions {why}")
+
+
+def too_many_kinds(_: Faulty) -> Words:
+    why = "costs to all sites, or server counts without common factors"
+    remedy = "give each region costs for only the three or four sites that it uses"
+    return Words(f"here begins the {MOST_DEMAND_ROWS + 1:,}rd kind", remedy, why, group=f"TooManyKinds {why}")
+
+
+def mend_of(faulty: Faulty, about: tuple[Words, Place] | None) -> Mend:
+    """What stands in a copy in place of a faulty row. Where a quote is taken out, the lines below it are rows again."""
+    row, is_open = faulty.row, about is not None and about[0].group == OPEN_QUOTE
+    return Mend(row, row.first if is_open else row.last, about[0].mended if about else None)
+
+
+ROWS = {
+    "BadNumber": bad_number,
+    "BadHandle": bad_handle,
+    "BadBody": bad_body,
+    "BadFront": bad_front,
+    "TooManyRegions": too_many_regions,
+    "TooManyKinds": too_many_kinds,
+}

@@ -55,17 +55,12 @@ def _head_slip(text: Text, number: int) -> Slip | None:
     line = text.line(number)
     match = re.match(r"\s*[\[({]+\s*(\w+)\s*[\])}]*\s*$", line)
     if match:
-        kind = near(match[1], KEYS, 0.7) or "site"
-        if line.strip() == f"[{kind}]":
-            return Slip(
-                "one bracket makes one table; sites and hosts are lists",
-                f"write [[{kind}]] for each",
-                f"[[{kind}]]",
-                text.whole(number),
-            )
-        return Slip(
-            "a head of a block has two brackets on each side", f"write [[{kind}]]", f"[[{kind}]]", text.whole(number)
-        )
+        block = near(match[1], KEYS, 0.7) or "site"
+        if line.strip() == f"[{block}]":
+            why = "one bracket makes one table; sites and hosts are lists"
+            return Slip(why, f"write [[{block}]] for each", f"[[{block}]]", text.whole(number))
+        why = "a head of a block has two brackets on each side"
+        return Slip(why, f"write [[{block}]]", f"[[{block}]]", text.whole(number))
     return None
 
 
@@ -111,12 +106,8 @@ def _value_slip(text: Text, number: int) -> Slip | None:
     if not value.startswith(('"', "'")):
         return Slip("a text without quotes", f"write {shorter(mended)}", mended, place)
     if re.search(r"[\"'][,;]$", value):
-        return Slip(
-            "a comma at the end",
-            "take it out",
-            line.rstrip().rstrip(",;"),
-            text.part(number, len(line.rstrip()) - 1, 1),
-        )
+        why = "a comma at the end"
+        return Slip(why, "take it out", line.rstrip().rstrip(",;"), text.part(number, len(line.rstrip()) - 1, 1))
     if "\\" in value:
         mended = line.replace("\\", "/")
         return Slip("a backslash begins an escape in a text", "take it out", mended, place)
@@ -206,10 +197,8 @@ def _other_form(question: Question, said: Said) -> Explained | None:
         words = Words("the settings have line ends of an old Mac", remedy, "lone carriage returns")
         text = "\n".join(draft.text.lines)
     elif _is_json(octets):
-        words = Words(
-            "the settings are JSON, not TOML",
-            f"hsp sites {shell_word(path)} makes the blocks, if it is a proxy's answer",
-        )
+        message = "the settings are JSON, not TOML"
+        words = Words(message, f"hsp sites {shell_word(path)} makes the blocks, if it is a proxy's answer")
         finding = found(path, Place(1, 1, 1, draft.text.line(1)), words, said.line)
         return Explained(finding, [replace(question.with_stand_in("settings"), lacks_site=True)])
     else:
@@ -242,7 +231,7 @@ def not_toml(question: Question, said: Said) -> Explained:
     else:
         number = _best(text, list(dict.fromkeys(line for line, _ in _candidates(text))))
         slip = slip_of(text, number, reason)
-        words = Words(f"the settings aren't TOML: {slip.why}", slip.remedy, "", kind=f"NotToml {slip.why}")
+        words = Words(f"the settings aren't TOML: {slip.why}", slip.remedy, "", group=f"NotToml {slip.why}")
     if draft.original.line(draft.number(number)) != text.line(number):
         blank = [question.with_line("settings", number, "")] if text.line(number).strip() else []
         return Explained(None, [*blank, question.with_stand_in("settings")])

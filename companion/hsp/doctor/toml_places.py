@@ -26,37 +26,37 @@ def data_of(text: Text) -> dict[str, Any] | None:
         return None
 
 
-def listed_in(text: Text, kind: str) -> list[dict[str, Any]]:
+def listed_in(text: Text, block: str) -> list[dict[str, Any]]:
     """The sites or hosts of settings, as far as they are tables."""
-    values = (data_of(text) or {}).get(kind, [])
+    values = (data_of(text) or {}).get(block, [])
     values = values if isinstance(values, list) else [values]
     return [value if isinstance(value, dict) else {} for value in values]
 
 
-def blocks(text: Text, kind: str) -> list[Block]:
-    """The blocks of one kind in their order."""
+def blocks(text: Text, block: str) -> list[Block]:
+    """The blocks of one name in their order."""
     heads = [(number, line) for number, line in enumerate(text.lines, 1) if re.match(r"\s*\[", line)]
     ends = [number - 1 for number, _ in heads[1:]] + [len(text.lines)]
-    own = re.compile(rf"\s*\[\[?\s*[\"']?{kind}[\"']?\s*\]\]?")
+    own = re.compile(rf"\s*\[\[?\s*[\"']?{block}[\"']?\s*\]\]?")
     return [Block(number, end) for (number, line), end in zip(heads, ends) if own.match(line)]
 
 
-def head_of(text: Text, kind: str, number: int) -> Place:
-    """The head of a block, or the first place where blocks of its kind are spoken of."""
-    own = blocks(text, kind)
+def head_of(text: Text, block: str, number: int) -> Place:
+    """The head of a block, or the first place where blocks of its name are spoken of."""
+    own = blocks(text, block)
     if number < len(own):
         return text.whole(own[number].first)
-    return text.match(rf"\b{kind}\b") or text.whole(1)
+    return text.match(rf"\b{block}\b") or text.whole(1)
 
 
-def value_of(text: Text, kind: str, number: int, key: str) -> Place:
+def value_of(text: Text, block: str, number: int, key: str) -> Place:
     """The value of a key in a block, or the head of the block."""
-    own = blocks(text, kind)
+    own = blocks(text, block)
     pattern = rf"^\s*[\"']?{key}[\"']?\s*=\s*([^#\s][^#]*?|\"[^\"]*\"?|'[^']*'?)\s*(?:#.*)?$"
     if number < len(own):
         return text.match(pattern, own[number].first, own[number].last) or text.whole(own[number].first)
     places = inline(text, key)
-    return places[min(number, len(places) - 1)] if places else head_of(text, kind, number)
+    return places[min(number, len(places) - 1)] if places else head_of(text, block, number)
 
 
 def inline(text: Text, key: str) -> list[Place]:

@@ -27,16 +27,18 @@ LOOKED_AT = 1 << 20
 def of_handle(line: Line) -> Iterator[Finding]:
     """A handle among the words that isn't bare."""
     for word in split(line)[1] if COMMANDS[line.command].last == "handle" else []:
-        message, kind = handle_words(word.text)
+        message, group = handle_words(word.text)
         if message:
             place = Place(1, word.column + 1, len(word.text), line.text)
             why = "other octets are hashed, so another server may be named"
-            yield found("", place, Words(message, f"write {bare(word.text)}", why, "", f"handle {kind}"), "", WARNING)
+            yield found(
+                "", place, Words(message, f"write {bare(word.text)}", why, "", f"handle {group}"), "", WARNING
+            )
 
 
 def service_in(question: Question, mark: Mark) -> Service | None:
     """The service of the four files of a plan, with their numbers as they are. Pipes can't be read once more."""
-    files = {kind: draft.original.path for kind, draft in question.files.items() if not draft.copy}
+    files = {role: draft.original.path for role, draft in question.files.items() if not draft.copy}
     if not set(NAMES) <= set(files):
         return None
     folder = os.path.dirname(files["settings"]) or "."

@@ -40,24 +40,19 @@ def at_word(line: Line, word: Word | None, words: Words) -> Finding:
 def command_fault(line: Line) -> Finding | None:
     """A command that isn't there, or is another program's."""
     if not line.words:
-        which = [name for name, form in COMMANDS.items() if form.program == line.program]
+        which = [name for name, takes in COMMANDS.items() if takes.program == line.program]
         return at_word(line, None, Words("no command", f"write one of {', '.join(which)} behind {line.program}", ""))
     command, first = line.command, line.words[0]
     if command in HELP and line.program == "hsplan":
         remedy = "hsplan-stream --version prints it" if command in VERSION else "man hsplan is its help"
         return at_word(line, first, Words(f"hsplan has no {command}", remedy, "it takes commands only"))
-    own = [name for name, form in COMMANDS.items() if form.program == line.program]
+    own = [name for name, takes in COMMANDS.items() if takes.program == line.program]
     if command in own:
         return None
     if command in COMMANDS:
         other = COMMANDS[command].program
-        return at_word(
-            line,
-            first,
-            Words(
-                f"{line.program} has no command {command}", f"write {other} {command}", f"it is a command of {other}"
-            ),
-        )
+        message = f"{line.program} has no command {command}"
+        return at_word(line, first, Words(message, f"write {other} {command}", f"it is a command of {other}"))
     if command.startswith("-"):
         _, others = split(replace(line, words=[first, *line.words]))
         later = next((word.text for word in others if word.text in own), "")
@@ -84,139 +79,99 @@ def _of_companion(line: Line) -> Words:
     second, third = ([word.text for word in line.words] + ["", ""])[1:3]
     if second in OF_FOLDERS:
         folder = third if third and not third.startswith("-") else "DIR"
-        return Words(
-            "hsp's own words need no --",
-            f"hsp doctor {folder if folder == 'DIR' else shell_word(folder)}",
-            f"hsp {second} asks the doctor about its folder first",
-        )
+        remedy = f"hsp doctor {folder if folder == 'DIR' else shell_word(folder)}"
+        return Words("hsp's own words need no --", remedy, f"hsp {second} asks the doctor about its folder first")
     return Words(
         "hsp's own words aren't for the doctor", "hsp --help lists its commands", "behind -- stand words of hsplan"
     )
 
 
-def meant_by(name: str, form: Command, taken: set[str]) -> str:
+def meant_by(name: str, takes: Command, taken: set[str]) -> str:
     """The option that a misspelt one likely is: a near one, or the only one that begins so."""
-    free = [option for option in form.options if option not in taken] or form.options
+    free = [option for option in takes.options if option not in taken] or takes.options
     start = [option for option in free if name and option.startswith(name)]
     return near(name, free, 0.6) or (start[0] if len(start) == 1 else "")
 
 
-def _unknown_option(line: Line, form: Command, option: Option, taken: set[str]) -> Finding:
+def _unknown_option(line: Line, takes: Command, option: Option, taken: set[str]) -> Finding:
     command = line.command
-    meant = meant_by(option.name, form, taken)
+    meant = meant_by(option.name, takes, taken)
     elsewhere = [name for name, other in COMMANDS.items() if option.name in other.options]
     if option.name in ("h", "help"):
         words = Words(
-            f"{command} has no {option.word.text}", f"man {form.program} is its help", "it takes files only"
+            f"{command} has no {option.word.text}", f"man {takes.program} is its help", "it takes files only"
         )
     elif meant:
         words = Words(f"no option {option.word.text}", f"write --{meant}", "", f"did you mean --{meant}?")
     elif elsewhere:
-        words = Words(
-            f"{command} has no option --{option.name}",
-            "take it out with its value",
-            f"it is an option of {', '.join(elsewhere)}",
-        )
+        message = f"{command} has no option --{option.name}"
+        words = Words(message, "take it out with its value", f"it is an option of {', '.join(elsewhere)}")
     else:
         words = Words(
-            f"no option {option.word.text}", f"take it out; {command} has --{', --'.join(form.options)}", ""
+            f"no option {option.word.text}", f"take it out; {command} has --{', --'.join(takes.options)}", ""
         )
     return at_word(line, option.word, words)
 
 
-def _option_faults(line: Line, form: Command, options: list[Option]) -> Iterator[Finding]:
-    seen: dict[str, Option] = {}
-    right = {option.name for option in options if option.name in form.options}
+def _option_faults(line: Line, takes: Command, options: list[Option]) -> Iterator[Finding]:
+    seen: set[str] = set()
+    right = {option.name for option in options if option.name in takes.options}
     for option in options:
-        is_short = not option.word.text.startswith("--")
-        if option.name not in form.options:
-            yield _unknown_option(line, form, option, right)
-        elif is_short:
-            words = Words(f"{option.word.text} has one hyphen", f"write --{option.name}", "options have two hyphens")
-            yield at_word(line, option.word, words)
-        elif option.name in seen:
-            words = Words(f"--{option.name} stands twice", "take one of them out with its value", "", "the second")
-            yield at_word(line, option.word, words)
-        elif option.value_word and option.value_word.text == "=":
-            words = Words(
-                "a blank stands beside '='", f"write --{option.name} {option.value}", "", "an option and its value"
-            )
-            yield at_word(line, option.value_word, words)
-        elif option.value is None:
-            what = "a file" if option.name in FILES else "a value"
-            words = Words(
-                f"--{option.name} has no value",
-                f"write {what} behind --{option.name}",
-                "the next word is an option, or there is none",
-            )
-            yield at_word(line, option.word, words)
-        elif (
-            option.value_word
-            and option.value_word is not option.word
-            and option.value.startswith("-")
-            and len(option.value) > 1
-        ):
-            remedy = f"write --{option.name}={option.value}"
-            yield at_word(
-                line,
-                option.value_word,
-                Words(f"{option.value} is read as an option", remedy, "it begins with a hyphen"),
-            )
-        elif option.name == "kind" and option.value not in KINDS:
-            meant = near(option.value, KINDS, 0.6)
-            remedy = f"write {meant}" if meant else f"write one of {', '.join(KINDS)}"
-            yield at_word(
-                line,
-                option.value_word,
-                Words(f"no kind {quoted(option.value)}", remedy, f"the kinds are {', '.join(KINDS)}"),
-            )
-        seen.setdefault(option.name, option)
+        if option.name not in takes.options:
+            yield _unknown_option(line, takes, option, right)
+        elif about := _of_option(option, option.name in seen):
+            yield at_word(line, *about)
+        seen.add(option.name)
 
 
-def _missing(line: Line, form: Command, options: list[Option]) -> Iterator[Finding]:
+def _of_option(option: Option, is_second: bool) -> tuple[Word | None, Words] | None:
+    """What is wrong with an option that the command has, or with its value."""
+    name, value, own = option.name, option.value, option.value_word
+    if not option.word.text.startswith("--"):
+        return option.word, Words(f"{option.word.text} has one hyphen", f"write --{name}", "options have two hyphens")
+    if is_second:
+        return option.word, Words(f"--{name} stands twice", "take one of them out with its value", "", "the second")
+    if own and own.text == "=":
+        return own, Words("a blank stands beside '='", f"write --{name} {value}", "", "an option and its value")
+    if value is None:
+        remedy = f"write {'a file' if name in FILES else 'a value'} behind --{name}"
+        why = "the next word is an option, or there is none"
+        return option.word, Words(f"--{name} has no value", remedy, why)
+    if own and own is not option.word and value.startswith("-") and len(value) > 1:
+        return own, Words(f"{value} is read as an option", f"write --{name}={value}", "it begins with a hyphen")
+    if name == "kind" and value not in KINDS:
+        meant, kinds = near(value, KINDS, 0.6), ", ".join(KINDS)
+        remedy = f"write {meant}" if meant else f"write one of {kinds}"
+        return own, Words(f"no kind {quoted(value)}", remedy, f"the kinds are {kinds}")
+    return None
+
+
+def _missing(line: Line, takes: Command, options: list[Option]) -> Iterator[Finding]:
     """Options that a command needs and the line lacks, but for those that are misspelt in it."""
     names = {option.name for option in options}
-    misspelt = [meant_by(option.name, form, names) for option in options if option.name not in form.options]
-    lacking = [option for option in form.needed if option not in names and option not in misspelt]
+    misspelt = [meant_by(option.name, takes, names) for option in options if option.name not in takes.options]
+    lacking = [option for option in takes.needed if option not in names and option not in misspelt]
     if lacking:
         listed = " and ".join(f"--{name}" for name in lacking)
         values = " ".join(f"--{name} {'FILE' if name in FILES else 'load'}" for name in lacking)
-        yield at_word(
-            line,
-            None,
-            Words(
-                f"{line.command} needs {listed} too",
-                f"write {values} behind it",
-                f"the form is {shown(line.command)}",
-            ),
-        )
+        message = f"{line.command} needs {listed} too"
+        yield at_word(line, None, Words(message, f"write {values} behind it", f"the form is {shown(line.command)}"))
+    if line.command == "faults" and len(names & set(takes.options)) != 1:
+        choices = " or ".join(f"--{option} FILE" for option in takes.options)
+        yield at_word(line, None, Words("faults reads one file", f"write one of {choices}", "a table, or a log"))
     if line.command == "locate":
         yield from _locate(line, names | set(misspelt))
     if line.command == "answer" and ("fronts" in names) != ("front" in names):
         absent = "front" if "fronts" in names else "fronts"
-        yield at_word(
-            line,
-            None,
-            Words(
-                f"--{absent} is missing",
-                f"write --{absent} N too, or neither of the two",
-                "--fronts N --front K belong together",
-            ),
-        )
+        remedy = f"write --{absent} N too, or neither of the two"
+        yield at_word(line, None, Words(f"--{absent} is missing", remedy, "--fronts N --front K belong together"))
 
 
 def _locate(line: Line, names: set[str]) -> Iterator[Finding]:
     forms = f"locate --settings FILE HANDLE, or locate --option {VALUES['option']} --servers N HANDLE"
     if "settings" in names and names & {"option", "servers"}:
-        yield at_word(
-            line,
-            None,
-            Words(
-                "--settings and --option exclude each other",
-                "keep either --settings, or --option and --servers",
-                f"the forms are {forms}",
-            ),
-        )
+        message, why = "--settings and --option exclude each other", f"the forms are {forms}"
+        yield at_word(line, None, Words(message, "keep either --settings, or --option and --servers", why))
     elif "settings" not in names:
         lacking = [name for name in ("option", "servers") if name not in names]
         if lacking:
@@ -232,29 +187,24 @@ def _locate(line: Line, names: set[str]) -> Iterator[Finding]:
             )
 
 
-def _other_words(line: Line, form: Command, options: list[Option], others: list[Word]) -> Iterator[Finding]:
+def _other_words(line: Line, takes: Command, options: list[Option], others: list[Word]) -> Iterator[Finding]:
     """Words that belong to no option: the last word of some commands, and no other."""
-    wanted = 1 if form.last else 0
+    wanted = 1 if takes.last else 0
     if len(others) < wanted:
-        example = "20.500.1234/report-2024" if form.last == "handle" else "FILE"
+        example = "20.500.1234/report-2024" if takes.last == "handle" else "FILE"
+        message = f"the {takes.last} is missing"
         yield at_word(
-            line,
-            None,
-            Words(
-                f"the {form.last} is missing",
-                f"write {example} as the last word",
-                f"the form is {shown(line.command)}",
-            ),
+            line, None, Words(message, f"write {example} as the last word", f"the form is {shown(line.command)}")
         )
     given = {option.name for option in options}
     for other in others[wanted:]:
-        meant = near(other.text.split(".")[0], form.options, 0.6)
+        meant = near(other.text.split(".")[0], takes.options, 0.6)
         why, remedy = "each file stands behind its option", "take it out, or put its option in front"
-        if form.last == "handle" and "/" in other.text:
+        if takes.last == "handle" and "/" in other.text:
             why = "locate takes one handle"
             remedy = "ask for one at a time; hsplan-stream places takes a log of them"
         elif wanted:
-            why = f"a {'handle' if form.last == 'handle' else 'name'} with a blank stands in quotes"
+            why = f"a {'handle' if takes.last == 'handle' else 'name'} with a blank stands in quotes"
             remedy = "put quotes about the whole, or take it out"
         elif meant in given:
             why, remedy = f"--{meant} takes one file, and has it", "take it out, or make one file of both"
@@ -268,18 +218,15 @@ def usage(line: Line) -> list[Finding]:
     wrong = command_fault(line)
     if wrong:
         return [wrong]
-    form = COMMANDS[line.command]
+    takes = COMMANDS[line.command]
     options, others = split(line)
-    faults = list(_option_faults(line, form, options))
-    faults += _other_words(line, form, options, others)
-    if not {"h", "help"} & {option.name for option in options if option.name not in form.options}:
-        faults += _missing(line, form, options)
+    faults = list(_option_faults(line, takes, options))
+    faults += _other_words(line, takes, options, others)
+    if not {"h", "help"} & {option.name for option in options if option.name not in takes.options}:
+        faults += _missing(line, takes, options)
     if not faults:
-        words = Words(
-            "these words are no command",
-            f"compare with {shown(line.command)}",
-            "an option is missing, misspelt, or twice",
-        )
+        message = "these words are no command"
+        words = Words(message, f"compare with {shown(line.command)}", "an option is missing, misspelt, or twice")
         faults = [at_word(line, None, words)]
     return faults
 
@@ -322,11 +269,9 @@ def value_fault(line: Line, word: str) -> Finding:
     finding = at_word(
         line, option.value_word if option else None, Words(f"--{name} doesn't take {quoted(value)}", remedy, why)
     )
+    message = finding.message
     return found(
-        "",
-        Place(1, finding.column, finding.end - finding.column, line.text),
-        Words(finding.message, remedy, why),
-        word,
+        "", Place(1, finding.column, finding.end - finding.column, line.text), Words(message, remedy, why), word
     )
 
 

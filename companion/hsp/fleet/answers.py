@@ -85,7 +85,7 @@ def line_of_row(path: str, row: int) -> int:
 
 def words_of(request: dict[str, Any]) -> list[str]:
     """The command that answers, with the files of the run."""
-    files = [word for kind in FILES if kind in request["files"] for word in (f"--{kind}", request["files"][kind])]
+    files = [word for role in FILES if role in request["files"] for word in (f"--{role}", request["files"][role])]
     fronts = ["--fronts", str(request["fronts"])]
     if request["any_handle"]:
         unit = ["--unit", str(request["unit"])] if request["unit"] else []

@@ -49,4 +49,4 @@ def programs() -> dict[str, bytes]:
 def files_of(inputs: Inputs, plan: str = "") -> dict[str, bytes]:
     """The files of a service by their kinds, those that there are."""
     paths = {file: getattr(inputs, file) for file in FILES if file != "plan"} | {"plan": plan}
-    return {kind: whole(path) for kind, path in paths.items() if path}
+    return {role: whole(path) for role, path in paths.items() if path}

@@ -102,7 +102,7 @@ def sites(paths: tuple[str, ...], into: str | None, names: tuple[str, ...], capa
     written.
     """
     if into:
-        refuse_clashes(paths, [path_in(into, NAMES[kind]) for kind in ("settings", "capacity")])
+        refuse_clashes(paths, [path_in(into, NAMES[role]) for role in ("settings", "capacity")])
     programs = Programs()
     files = Files(programs)
     found = gathered(paths, names, files)
@@ -181,9 +181,9 @@ def skipped_lines(reading: Reading) -> list[str]:
 def service_of(folder: str | None, given: dict[str, Any]) -> Inputs | None:
     """The sites and the costs by which handles of one kind are joined, where both are there."""
 
-    def path_of(kind: str, name: str) -> str | None:
+    def path_of(role: str, name: str) -> str | None:
         beside = path_in(folder, name) if folder else ""
-        return given[kind] or (beside if os.path.isfile(beside) else None)
+        return given[role] or (beside if os.path.isfile(beside) else None)
 
     settings, costs = path_of("settings", NAMES["settings"]), path_of("costs", NAMES["costs"])
     if settings is None or costs is None:
@@ -329,9 +329,9 @@ def with_forms(command: Command) -> Command:
 
 def refuse_own(logs: Sequence[str], regions: str, into: str | None, outputs: Sequence[str], given: Any) -> None:
     """Refuses outputs that are inputs, or one another, or in the place of another file of DIR."""
-    others = [name for kind, name in NAMES.items() if kind != "demand"] + [VALUES, TITLES]
+    others = [name for role, name in NAMES.items() if role != "demand"] + [VALUES, TITLES]
     beside = [path_in(into, name) for name in others] if into else []
-    own = [given[kind] for kind in ("settings", "values", "costs") if given[kind]]
+    own = [given[role] for role in ("settings", "values", "costs") if given[role]]
     refuse_clashes([*logs, regions, *beside, *own], outputs)
 
 

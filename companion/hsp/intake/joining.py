@@ -14,7 +14,7 @@ from hsp.base.bounds import whole
 from hsp.base.grammar import HEADERS
 from hsp.base.numbers import listed, some
 from hsp.base.paths import path_in
-from hsp.base.programs import Inputs, Programs, Refused, table_of
+from hsp.base.programs import Inputs, Programs, Refused, table_text
 from hsp.base.unfit import Unfit
 from hsp.intake.records import OPTIONS
 from hsp.intake.sitefiles import Found, tidy
@@ -89,7 +89,7 @@ def _servers_in(path: str, octets: bytes) -> set[tuple[str, str]]:
 
 def joined(folder: str, sites: list[Found], capacity: int, programs: Programs) -> Joined:
     """Adds sites to the texts of a folder's settings and capacities. hsplan reads back what comes out."""
-    settings, capacities = (path_in(folder, NAMES[kind]) for kind in ("settings", "capacity"))
+    settings, capacities = (path_in(folder, NAMES[role]) for role in ("settings", "capacity"))
     texts = {path: _octets(path) for path in (settings, capacities)}
     before = _settings_in(settings, texts[settings])
     there = dict(before)
@@ -106,7 +106,9 @@ def joined(folder: str, sites: list[Found], capacity: int, programs: Programs) -
             result.added.append(site)
     taken = _servers_in(capacities, texts[capacities])
     rows = [row for site in result.added for row in capacity_rows(site, capacity)]
-    fresh = table_of(CAPACITY_HEAD, (fields for fields in rows if (fields[0], str(fields[1])) not in taken)).encode()
+    fresh = table_text(
+        CAPACITY_HEAD, (fields for fields in rows if (fields[0], str(fields[1])) not in taken)
+    ).encode()
     texts[capacities] += fresh.partition(b"\n")[2] if texts[capacities] else fresh
     gap = b"\n" if texts[settings] else b""
     texts[settings] += gap + "\n".join(block(site) for site in result.added).encode() if result.added else b""

@@ -15,15 +15,14 @@ from collections.abc import Callable, Iterable
 from typing import Any
 
 from hsp.base.bounds import whole
-from hsp.base.grammar import HEADERS, LONGEST_NAME
+from hsp.base.grammar import HEADERS, NAME_RULE
 from hsp.base.numbers import some
-from hsp.base.programs import Missing, Programs, Refused, table_of
+from hsp.base.programs import Missing, Programs, Refused, table_text
 from hsp.base.unfit import Unfit, shown
 
 # The region of an address, or the reason why it has none.
 Seek = Callable[[bytes], "bytes | str"]
 
-NAME_RULE = f"a region's name has ASCII letters, digits, -, _ and . only, at most {LONGEST_NAME} of them"
 # So many regions are asked for at once: a demand has few.
 AT_ONCE = 32
 NO_ADDRESS, NO_REGION = "the client isn't an IP address", "no region for the client's address"
@@ -219,7 +218,7 @@ def named(places: dict[str, str], programs: Programs) -> None:
     for at in range(0, len(names), AT_ONCE):
         rows = ([own, "10/1", 1] for own in names[at : at + AT_ONCE])
         try:
-            programs.plan(programs.without_sites(os.fsencode(table_of(HEADERS["demand"], rows))))
+            programs.plan(programs.without_sites(os.fsencode(table_text(HEADERS["demand"], rows))))
         except Refused as fault:
             said = re.fullmatch(r"demand: (.*) row ([0-9]+)", fault.line)
             if not said:

@@ -163,9 +163,9 @@ class Files:
     def _of_value(self, notes: Notes, part: Part) -> Iterator[Found]:
         """The site of a value. A value of another type is left out."""
         said = part.fields()
-        kind = said["type"].value if "type" in said else None
-        if kind not in KINDS:
-            notes.leave(part.path, f"a value of the type {shown(kind)}")
+        value_type = said["type"].value if "type" in said else None
+        if value_type not in KINDS:
+            notes.leave(part.path, f"a value of the type {shown(value_type)}")
             return
         if "data" not in said:
             raise part.unfit("no data")

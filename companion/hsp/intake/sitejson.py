@@ -108,12 +108,12 @@ def _number_of(text: Any) -> bytes:
 
 def key_of_web_key(key: dict[str, Any]) -> bytes:
     """The public key record of a JSON Web Key. `ValueError` says why there is none."""
-    kind = key.get("kty")
-    names = {"RSA": ("e", "n"), "DSA": ("q", "p", "g", "y")}.get(kind if isinstance(kind, str) else "")
+    key_type = key.get("kty")
+    names = {"RSA": ("e", "n"), "DSA": ("q", "p", "g", "y")}.get(key_type if isinstance(key_type, str) else "")
     if not names:
-        raise ValueError(f"a key of the kind {shown(kind)} has no known record")
+        raise ValueError(f"a key of the kind {shown(key_type)} has no known record")
     numbers = b"".join(counted(_number_of(key.get(name))) for name in names)
-    return counted(f"{kind}_PUB_KEY".encode()) + whole(0, 2) + numbers
+    return counted(f"{key_type}_PUB_KEY".encode()) + whole(0, 2) + numbers
 
 
 def key_of(part: Part) -> bytes:

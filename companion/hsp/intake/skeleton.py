@@ -7,7 +7,7 @@ from collections.abc import Sequence
 from importlib.resources import files
 
 from hsp.base.grammar import HEADERS
-from hsp.base.programs import table_of
+from hsp.base.programs import table_text
 from hsp.intake.records import Interface, ServerRecord, SiteRecord
 from hsp.plans.marks import TITLES
 from hsp.plans.service import NAMES
@@ -38,7 +38,7 @@ def _text(name: str) -> str:
 
 def empty() -> dict[str, str]:
     """The files of a service that has yet to be filled in."""
-    tables = {NAMES[kind]: f"{header}\n" for kind, header in HEADERS.items()}
+    tables = {NAMES[role]: f"{header}\n" for role, header in HEADERS.items()}
     return {NAMES["settings"]: _text(NAMES["settings"]), **tables, TITLES: _text(TITLES), README: _text(README)}
 
 
@@ -63,7 +63,7 @@ def example() -> dict[str, str]:
     titles = 'title = "An example"\ncost = "ms"\ntime = "the busiest hour"\n'
     return {
         NAMES["settings"]: _text(NAMES["settings"]) + "\n" + "\n".join(blocks),
-        **{NAMES[kind]: table_of(HEADERS[kind], rows) for kind, rows in tables.items()},
+        **{NAMES[role]: table_text(HEADERS[role], rows) for role, rows in tables.items()},
         TITLES: titles,
         README: EXAMPLE + _text(README).partition("\n\n")[2],
     }

@@ -12,14 +12,13 @@ from collections import Counter
 from collections.abc import Callable, Iterable, Iterator
 
 from hsp.base.bounds import MOST_HELD, Query, pieces, weight
-from hsp.base.grammar import GREATEST_COUNT, GREATEST_UNIT, HEADERS, MOST_DEMAND_ROWS, MOST_REGIONS
+from hsp.base.grammar import GREATEST_COUNT, GREATEST_UNIT, HEADERS, MOST_DEMAND_ROWS, MOST_REGIONS, NAME_RULE
 from hsp.base.numbers import listed, some
 from hsp.base.programs import Inputs, Programs, Refused
 from hsp.base.unfit import Unfit
 from hsp.intake.outlook import too_many
 from hsp.intake.prefixes import Prefixes
 from hsp.intake.queries import field_of
-from hsp.intake.regions import NAME_RULE
 from hsp.plans.service import table
 
 HEADER = f"{HEADERS['demand']}\n".encode()

@@ -32,12 +32,12 @@ def in_units(service: Service, programs: Programs, plan: str) -> tuple[Inputs, d
     divided, beside = programs.in_units(service.inputs), kept_beside(plan, service.inputs)
     contents: dict[str, bytes] = {}
     chosen = replace(service.inputs, unit=1)
-    for kind in ("settings", "capacity"):
-        path = getattr(divided, kind)
-        if path != getattr(service.inputs, kind):
+    for role in ("settings", "capacity"):
+        path = getattr(divided, role)
+        if path != getattr(service.inputs, role):
             with open(path, "rb") as file:
-                contents[getattr(beside, kind)] = file.read()
-            chosen = replace(chosen, **{kind: getattr(beside, kind)})
+                contents[getattr(beside, role)] = file.read()
+            chosen = replace(chosen, **{role: getattr(beside, role)})
     return chosen, contents
 
 

@@ -23,7 +23,7 @@ text{fill:#1a1f26;font:13px system-ui,"DejaVu Sans",sans-serif}
 
 def drawn(service: Service, cases: list[Case], step: float) -> str:
     """The cost by the size of a server as a curve, and other cases as bars."""
-    of_sizes = [case for case in cases if case.kind == SIZE]
+    of_sizes = [case for case in cases if case.variant == SIZE]
     return curve(service, of_sizes) if of_sizes else bars(cases, step)
 
 
@@ -115,8 +115,8 @@ def bars(cases: list[Case], step: float) -> str:
         DEMAND: "All regions together: what it costs",
     }
     parts, y, most = [], 30, greatest(cases)
-    for kind, head in heads.items():
-        own = [case for case in cases if case.kind == kind]
+    for variant, head in heads.items():
+        own = [case for case in cases if case.variant == variant]
         if not own:
             continue
         parts.append(f'<text class="head" x="12" y="{y}">{head}</text>')

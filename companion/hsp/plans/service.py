@@ -177,7 +177,7 @@ def _absent(folder: str, paths: list[str]) -> list[str]:
 
 def inputs_in(folder: str, given: dict[str, str | None], unit: int) -> Inputs:
     """The files of a folder by their conventional names, or those that were given instead."""
-    files = {kind: given.get(kind) or path_in(folder, name) for kind, name in NAMES.items()}
+    files = {role: given.get(role) or path_in(folder, name) for role, name in NAMES.items()}
     absent = [path for path in files.values() if not os.path.exists(path) or os.path.isdir(path)]
     if absent:
         raise Missing(*_absent(folder, absent))

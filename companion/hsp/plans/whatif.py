@@ -25,7 +25,7 @@ FULL_BLOCK = "\u2588"
 class Case:
     """A change, and what the plan costs after it; or how many queries then cannot be served."""
 
-    kind: str
+    variant: str
     what: str
     room: int
     cost: int | None
@@ -39,19 +39,19 @@ class Changes:
     def __init__(self, service: Service, programs: Programs, done: Callable[[], None] = lambda: None) -> None:
         self.service, self.programs, self.done = service, programs, done
 
-    def planned(self, kind: str, what: str, room: int = 0, **changed: str) -> Case:
+    def planned(self, variant: str, what: str, room: int = 0, **changed: str) -> Case:
         certificate, _ = self.programs.plan(self.service.inputs.but(**changed))
         self.done()
         if not certificate.is_plan:
-            return Case(kind, what, room, None, None, certificate.demand - certificate.capacity)
+            return Case(variant, what, room, None, None, certificate.demand - certificate.capacity)
         now = self.service.certificate
         change = certificate.cost - now.cost if now.is_plan else None
-        return Case(kind, what, room, certificate.cost, change, 0)
+        return Case(variant, what, room, certificate.cost, change, 0)
 
-    def with_room(self, kind: str, server: Server, room: int) -> Case:
+    def with_room(self, variant: str, server: Server, room: int) -> Case:
         """A server that can take so many queries."""
         capacities = {**self.service.capacities, (server.site, server.id): room}
-        return self.planned(kind, server.label, room, capacity=capacity_file(self.programs, capacities))
+        return self.planned(variant, server.label, room, capacity=capacity_file(self.programs, capacities))
 
     def without(self, site: str) -> Case:
         """No region may use the site."""
@@ -145,13 +145,13 @@ def lines(service: Service, cases: list[Case], step: float) -> Iterator[str]:
     else:
         yield f"now   {colored('short', 'red')} by {queries_of(now.demand - now.capacity)}"
     heads = {MORE: f"{step:g}% more room at", LOST: "without the site", DEMAND: "all regions together"}
-    most = greatest(case for case in cases if case.kind in heads)
-    for kind, head in heads.items():
-        own = [case for case in cases if case.kind == kind]
+    most = greatest(case for case in cases if case.variant in heads)
+    for variant, head in heads.items():
+        own = [case for case in cases if case.variant == variant]
         if own:
             yield bold(head)
         yield from (_line(case, most) for case in own)
-    yield from size_lines(service, [case for case in cases if case.kind == SIZE])
+    yield from size_lines(service, [case for case in cases if case.variant == SIZE])
 
 
 def size_lines(service: Service, cases: list[Case]) -> Iterator[str]:
@@ -174,5 +174,5 @@ def csv_of(cases: list[Case]) -> str:
     writer.writerow(["case", "what", "room", "cost", "change", "lack"])
     for case in cases:
         cost, change = ("" if value is None else value for value in (case.cost, case.change))
-        writer.writerow([case.kind, case.what, case.room or "", cost, change, case.lack or ""])
+        writer.writerow([case.variant, case.what, case.room or "", cost, change, case.lack or ""])
     return out.getvalue()
