@@ -53,12 +53,7 @@ fn check_handle(octets: &[u8], row: u32) -> Result<(), LogFault>
 }
 
 // Reads the row of an entry.
-fn check_entry(
-    alloc: Global,
-    form: Form,
-    row: u32,
-    record: &ByteRecord,
-) -> Result<(), LogFault>
+fn check_entry(alloc: Global, form: Form, row: u32, record: &ByteRecord) -> Result<(), LogFault>
     ensures good { OnOk result (IsSpelled (Entries form) (fields_of «record».now)) }
     ensures fault { IfErr result
         (λ e. (e ≡ OutOfMemory) ⊎ IsRowRefused (Entries form) row (fields_of «record».now) e) }

@@ -1,7 +1,6 @@
 -- Every faulty row of a table or a log.
-use Rattle.std.specs.Prelude.{◌≡◌, ◌≢◌, ◌+◌, ◌-◌, ◌^◌, ◌⊎◌, true, false, ℕ, List, [], ◌∷◌, map, min, nat_le, Option}
+use Rattle.std.specs.Prelude.{◌≡◌, ◌≢◌, ◌+◌, ◌-◌, ◌^◌, ◌⊎◌, ◌<◌, ◌≤◌, true, false, ℕ, List, [], ◌∷◌, map, min, Option}
 use Rattle.std.specs.Prelude.{Some, None}
-use Rattle.std.specs.Prelude.{if◌then◌else◌}
 use Rattle.hsp_csv.specs.Found.{listed, place_at}
 use Rattle.hsp_csv.specs.Header.{same_fields}
 use Rattle.hsp_csv.specs.Places.{Placed, first_line}
@@ -79,7 +78,7 @@ IsRead form row one (Last found) = ⊥
 -- what a row is that a run of hsplan reads; a row beyond the limit is the last one that is looked at
 abbrev pub IsDispatched : LogForm → ℕ → Placed → Checked StreamFault → Type 0
 IsDispatched form row one checked =
-    if nat_le MOST_LOG_ROWS row then checked ≡ Last (found_beyond one) else IsRead form row one checked
+    ((MOST_LOG_ROWS ≤ row) × (checked ≡ Last (found_beyond one))) ⊎ ((row < MOST_LOG_ROWS) × IsRead form row one checked)
 
 -- the number of the field at fault of a row with a region, a handle and a count, and of one with a handle
 abbrev pub counted_field : RowFault → Option ℕ

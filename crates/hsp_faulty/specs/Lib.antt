@@ -1,3 +1,4 @@
 pub mod Faulty
 pub mod Checkers
 pub mod Lines
+pub mod Runs

@@ -8,7 +8,10 @@ ghost use Rattle.hsp_csv.specs.Places.{Placed};
 ghost use Rattle.hsp_csv.specs.Walks.{shown};
 ghost use Rattle.hsp_csv.specs.declared.found.Checked.TheVariants.{Faulty, Last};
 ghost use Rattle.hsp_csv.specs.declared.found.Found.{Found as FoundFault};
+ghost use Rattle.hsp_dispatch.specs.RowChecks.{field_at_fault};
+ghost use Rattle.hsp_faults.specs.declared.fault.Fault.TheVariants.{Log};
 ghost use Rattle.hsp_stream.specs.declared.fault.StreamFault.{StreamFault};
+ghost use Rattle.hsp_stream.specs.declared.fault.StreamFault.TheVariants.{Input};
 ghost use Rattle.hsp_faulty.specs.Checkers.{IsReady, Lists, LooksAt, checked_named};
 ghost use Rattle.hsp_faulty.specs.Faulty.{IsDispatched, IsHeadedBy, IsUnheaded, ListsBelow, counted, counted_field};
 ghost use Rattle.hsp_faulty.specs.Faulty.{fault_of_table, found_at, found_beyond, handle_field, handled};
@@ -168,6 +171,21 @@ fn too_long(placed: &PlacedRecord) -> Checked<StreamFault>
     })
 }
 
+// A row of a log that a run of `hsplan` refuses.
+fn refused(
+    form: LogForm,
+    row: u32,
+    placed: &PlacedRecord,
+    fault: LogFault,
+) -> Checked<StreamFault>
+    ensures { result ≡ Faulty (found_at (shown placed.now) row (field_at_fault form fault)
+        (Input (Log fault))) }
+{
+    let field = field_at_fault(form, fault);
+    let fault = StreamFault::Input(Fault::Log(fault));
+    faulty(placed, u64::from(row), field, fault)
+}
+
 // Looks at a row of a log that a run of `hsplan` reads.
 fn check_dispatched(
     alloc: Global,
@@ -182,16 +200,10 @@ fn check_dispatched(
     }
     match check_row(alloc, form, row, placed.fields()) {
         Ok(()) => Ok(Checked::Good),
-        Err(LogFault::OutOfMemory) => Err(AllocError),
-        Err(fault) => {
-            let field = field_at_fault(form, fault);
-            Ok(faulty(
-                placed,
-                u64::from(row),
-                field,
-                StreamFault::Input(Fault::Log(fault)),
-            ))
-        }
+        Err(fault) => match fault {
+            LogFault::OutOfMemory => Err(AllocError),
+            other => Ok(refused(form, row, placed, other)),
+        },
     }
 }
 
@@ -259,6 +271,7 @@ impl Checker {
     }
 
     /// Looks at the next row.
+    #[tactic(auto, using(crate::proofs::Looking::table_looks, crate::proofs::Looking::dispatched_looks, crate::proofs::Looking::counted_looks, crate::proofs::Looking::handled_looks))]
     pub(crate) fn check(
         &mut self,
         alloc: Global,
@@ -276,7 +289,8 @@ impl Checker {
             Checker::Dispatched(form, row) => {
                 let number = *row;
                 *row = number.saturating_add(1);
-                check_dispatched(alloc, *form, number, placed)
+                let checked = check_dispatched(alloc, *form, number, placed)?;
+                Ok(checked)
             }
             Checker::Counted(row) => {
                 let number = *row;

@@ -1,7 +1,17 @@
 // The run `faults`.
 
+ghost use Rattle.std.specs.Prelude.{◌≡◌, IfOk, OnErr, OnOk, option_map, true};
+ghost use Rattle.std.specs.Io.KnownBytes.{Appends};
+ghost use Rattle.hsp_csv.specs.Places.{placed_of};
+ghost use Rattle.hsp_csv.specs.Walks.{placed_left};
+ghost use Rattle.hsp_faulty.specs.Checkers.{IsReady};
+ghost use Rattle.hsp_faulty.specs.Faulty.{found_header};
+ghost use Rattle.hsp_faulty.specs.Lines.{line_of};
+ghost use Rattle.hsp_faulty.specs.Runs.{BelowIsBegun, BelowIsListed, IsBegun, IsListBegun, IsListed, LinesAreBegun};
+ghost use Rattle.hsp_faulty.specs.Runs.{LinesAreListed, RowsAreBegun, RowsAreListed, stop_of};
+ghost use Rattle.hsp_faulty.specs.declared.run.FaultsStop.TheVariants.{OutOfMemory, WriteFailed};
 
-use crate::checker::{Asked, Checker, header_fault};
+use crate::checker::{Asked, Checker, Headed, header_fault, headed_by};
 use crate::lines::{HEADER_LINE, push_found};
 use hsp_csv::{
     Checked, Found, Place, PlacedReader, PlacedRecord, RecordsFault, read_placed, take_placed,
@@ -23,18 +33,24 @@ pub enum FaultsStop {
 }
 
 impl From<AllocError> for FaultsStop {
+    ghost from_gives = { λ _ stop. stop ≡ OutOfMemory };
+
     fn from(_error: AllocError) -> FaultsStop {
         FaultsStop::OutOfMemory
     }
 }
 
 impl From<WriteFailed> for FaultsStop {
+    ghost from_gives = { λ _ stop. stop ≡ WriteFailed };
+
     fn from(_failed: WriteFailed) -> FaultsStop {
         FaultsStop::WriteFailed
     }
 }
 
 impl From<RecordsFault> for FaultsStop {
+    ghost from_gives = { λ fault stop. stop ≡ stop_of fault };
+
     fn from(fault: RecordsFault) -> FaultsStop {
         match fault {
             RecordsFault::ReadFailed => FaultsStop::ReadFailed,
@@ -43,74 +59,145 @@ impl From<RecordsFault> for FaultsStop {
     }
 }
 
-// A list that is being written: the line at hand, and whether there was one.
-#[derive(Drop)]
-struct Listing {
-    line: Vec<u8>,
-    some: bool,
+// Writes the line of a faulty row.
+fn put_found<W: Write>(
+    line: &mut Vec<u8>,
+    found: &Found<StreamFault>,
+    writer: &mut W,
+) -> Result<(), FaultsStop>
+    ensures put { OnOk result
+        (Appends (W.contents writer.old) (W.contents writer.new) (line_of found.now)) }
+    ensures begun { OnErr result
+        (IsBegun (W.contents writer.old) (W.contents writer.new) (line_of found.now)) }
+{
+    line.clear();
+    push_found(line, found)?;
+    put_all(writer, line)?;
+    Ok(())
 }
 
-impl Listing {
-    // Writes the line of a faulty row.
-    fn put<W: Write>(
-        &mut self,
-        found: &Found<StreamFault>,
-        writer: &mut W,
-    ) -> Result<(), FaultsStop> {
-        self.line.clear();
-        push_found(&mut self.line, found)?;
-        self.some = true;
-        put_all(writer, &self.line)?;
-        Ok(())
-    }
-}
-
-// Writes the line of each faulty row that a reader has left.
+// Writes the line of each faulty row that a reader has left, and returns whether there is one.
 fn list_rows<R: Read + Drop, W: Write>(
     alloc: Global,
     checker: &mut Checker,
     reader: &mut PlacedReader<R>,
     placed: &mut PlacedRecord,
-    listing: &mut Listing,
     writer: &mut W,
-) -> Result<(), FaultsStop> {
+) -> Result<bool, FaultsStop>
+    requires { IsReady checker.old }
+    ensures listed { IfOk result (RowsAreListed checker.old (placed_left R.remaining reader.old)
+        (W.contents writer.old) (W.contents writer.new)) }
+    ensures begun { OnErr result (RowsAreBegun checker.old (placed_left R.remaining reader.old)
+        (W.contents writer.old) (W.contents writer.new)) }
+{
+    let mut line = Vec::new(alloc);
+    let mut some = false;
     'rows: for _row in 0..u64::MAX {
         if !take_placed(reader, placed)? {
-            return Ok(());
+            return Ok(some);
         }
         match checker.check(alloc, placed)? {
             Checked::Good => {}
-            Checked::Faulty(found) => listing.put(&found, writer)?,
-            Checked::Last(found) => return listing.put(&found, writer),
+            Checked::Faulty(found) => {
+                put_found(&mut line, &found, writer)?;
+                some = true;
+            }
+            Checked::Last(found) => {
+                put_found(&mut line, &found, writer)?;
+                return Ok(true);
+            }
         }
     }
     Err(FaultsStop::ReadFailed)
 }
 
+// The same of the rows below a header.
+fn list_below<R: Read + Drop, W: Write>(
+    alloc: Global,
+    headed: Headed,
+    reader: &mut PlacedReader<R>,
+    placed: &mut PlacedRecord,
+    writer: &mut W,
+) -> Result<bool, FaultsStop>
+    ensures listed { IfOk result (BelowIsListed headed (placed_left R.remaining reader.old)
+        (W.contents writer.old) (W.contents writer.new)) }
+    ensures begun { OnErr result (BelowIsBegun headed (placed_left R.remaining reader.old)
+        (W.contents writer.old) (W.contents writer.new)) }
+{
+    let mut checker = Checker::below(alloc, headed);
+    list_rows(alloc, &mut checker, reader, placed, writer)
+}
+
+// Writes the line of a text that lacks its header.
+fn list_header<W: Write>(
+    alloc: Global,
+    asked: Asked,
+    writer: &mut W,
+) -> Result<bool, FaultsStop>
+    ensures some { IfOk result (λ some. some ≡ true) }
+    ensures put { OnOk result
+        (Appends (W.contents writer.old) (W.contents writer.new) (line_of (found_header asked))) }
+    ensures begun { OnErr result (IsBegun (W.contents writer.old) (W.contents writer.new)
+        (line_of (found_header asked))) }
+{
+    let found = Found {
+        row: None,
+        field: None,
+        place: Place::start(),
+        fault: header_fault(asked),
+    };
+    let mut line = Vec::new(alloc);
+    put_found(&mut line, &found, writer)?;
+    Ok(true)
+}
+
+// Writes the line of each faulty row of a text, and returns whether there is one.
+fn list_text<R: Read + Drop, W: Write>(
+    alloc: Global,
+    asked: Asked,
+    reader: &mut PlacedReader<R>,
+    writer: &mut W,
+) -> Result<bool, FaultsStop>
+    ensures listed { IfOk result (LinesAreListed asked (placed_left R.remaining reader.old)
+        (W.contents writer.old) (W.contents writer.new)) }
+    ensures begun { OnErr result (LinesAreBegun asked (placed_left R.remaining reader.old)
+        (W.contents writer.old) (W.contents writer.new)) }
+{
+    let mut placed = PlacedRecord::new(alloc);
+    if !take_placed(reader, &mut placed)? {
+        return list_header(alloc, asked, writer);
+    }
+    match headed_by(asked, placed.fields()) {
+        Some(headed) => list_below(alloc, headed, reader, &mut placed, writer),
+        None => list_header(alloc, asked, writer),
+    }
+}
+
 /// Writes a line for each faulty row of a table or a log that the reader gives, below a first line, and returns whether
-/// there is one.
+/// there is a faulty row.
+///
+/// The first line is `row,line,field,octet,fault`. A line has the number of the row, from 0 below the header, where the
+/// fault is of one row; the number of the line in which it begins, from 1; the number of the field at fault, from 0,
+/// where the fault is of one field; how many octets stand before that field or, where there is none, before the row;
+/// and the fault in words, as `demand: BadHandle row 36 NoSlash`.
+///
+/// A faulty row is left out: the rows behind it are read as if it weren't there, but for their numbers. A row that is
+/// one too many is the last one that is looked at. A text without its header has that one fault.
+///
+/// The text is read in one pass. Of a log nothing is kept, and of a table the keys of its rows without fault. At a stop a
+/// beginning of the list was written.
 pub fn faults_run<R: Read + Drop, W: Write>(
     alloc: Global,
     asked: Asked,
     text: R,
     writer: &mut W,
 ) -> Result<bool, FaultsStop>
+    ensures listed { IfOk result (IsListed asked (option_map placed_of (R.remaining text))
+        (W.contents writer.old) (W.contents writer.new)) }
+    ensures begun { OnErr result (IsListBegun asked (option_map placed_of (R.remaining text))
+        (W.contents writer.old) (W.contents writer.new)) }
 {
     let mut reader = read_placed(alloc, text)?;
-    let mut placed = PlacedRecord::new(alloc);
-    let mut listing = Listing {
-        line: Vec::new(alloc),
-        some: false,
-    };
     put_all(writer, HEADER_LINE)?;
-    let found = take_placed(&mut reader, &mut placed)?;
-    let checker = if found { Checker::below(alloc, asked, placed.fields()) } else { None };
-    match checker {
-        Some(mut checker) => list_rows(alloc, &mut checker, &mut reader, &mut placed, &mut listing, writer)?,
-        None => {
-            let found = Found { row: None, field: None, place: Place::start(), fault: header_fault(asked) };
-            listing.put(&found, writer)?;
-        }
-    }
-    Ok(listing.some)
+    list_text(alloc, asked, &mut reader, writer)
 }

@@ -20,3 +20,4 @@ mod SpelledPortions
 mod AnswersShown
 mod Machines
 mod PlacesPrinted
+mod OneField

@@ -1,6 +1,6 @@
 // The rows of the logs of `kinds` and `places`, read by themselves.
 
-ghost use Rattle.std.specs.Prelude.{◌≡◌};
+ghost use Rattle.std.specs.Prelude.{◌≡◌, ◌≢◌, ◌∷◌, [], IfNone, IfSome, length};
 ghost use Rattle.csv.specs.Records.{fields_of};
 ghost use Rattle.hsp_stream.specs.RowChecks.{count_fault, handle_fault, is_count_header, is_handle_header};
 
@@ -37,14 +37,27 @@ pub fn count_fault(row: u64, record: &ByteRecord) -> Option<RowFault>
     }
 }
 
+// The field of a record, where there is one.
+#[tactic(auto, using(crate::proofs::OneField::one_field_is, crate::proofs::OneField::no_first_field))]
+fn one_field(record: &ByteRecord) -> Option<&[u8]>
+    ensures found { IfSome result (λ t. fields_of «record».now ≡ t.now ∷ []) }
+    ensures none { IfNone result (length (fields_of «record».now) ≢ 1) }
+{
+    let first = record.get(0)?;
+    if record.len() != 1 {
+        return None;
+    }
+    Some(first)
+}
+
 /// The fault by which `places` refuses the row of a handle, if there is one.
+#[tactic(auto, using(crate::proofs::OneField::other_fields))]
 pub fn handle_fault(row: u64, record: &ByteRecord) -> Option<RowFault>
     ensures { result ≡ handle_fault row (fields_of «record».now) }
 {
-    if record.len() != 1 {
+    let Some(handle) = one_field(record) else {
         return Some(RowFault::Fields { row });
-    }
-    let handle = record.get(0)?;
+    };
     match HandleRef::parse(handle) {
         Ok(_) => None,
         Err(fault) => Some(RowFault::BadHandle { row, fault }),

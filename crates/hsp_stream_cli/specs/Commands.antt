@@ -3,6 +3,7 @@ use Rattle.std.specs.Prelude.{◌≡◌, ◌⊎◌, ℕ, List, Option, Result, O
 use Rattle.hsp_cli_orders.specs.StreamOrders.{IsStreamOrdered}
 use Rattle.hsp_cli_orders.specs.declared.fault.CommandFault.{CommandFault}
 use Rattle.hsp_cli_orders.specs.declared.order.InputFiles.{InputFiles}
+use Rattle.hsp_cli_orders.specs.declared.stream_order.FaultsOf.{FaultsOf}
 use Rattle.hsp_cli_orders.specs.declared.stream_order.FrontWords.{FrontWords}
 use Rattle.hsp_cli_orders.specs.declared.stream_order.StreamOrder.{StreamOrder}
 use Rattle.hsp_cli_orders.specs.declared.stream_order.StreamOrder.TheVariants as order
@@ -15,6 +16,7 @@ use Rattle.hsp_stream.specs.declared.kinds_files.KindsInputs.{KindsInputs}
 use Rattle.hsp_stream.specs.declared.portions.PortionWords.{PortionWords}
 use Rattle.hsp_stream_cli.specs.Ending.{Ended}
 use Rattle.hsp_stream_cli.specs.Failing.{command_failure, file_failure}
+use Rattle.hsp_stream_cli.specs.Faults.{EndsList, HoldsText, asked_for}
 use Rattle.hsp_stream_cli.specs.Files.{AreKindsHeld, AreSourcesHeld, KindsFail, SourcesFail}
 use Rattle.hsp_stream_cli.specs.Printing.{PrintsTable, PrintsText}
 use Rattle.hsp_stream_cli.specs.Talking.{EndsAnswers, EndsPlaces, IsPortion, TalksOver}
@@ -53,6 +55,12 @@ AnswersLog disk MayFail files plan log unit front old new ended =
     ⊎ ((it : Opened) × (words : PortionWords) × AreOpened disk files plan log it × IsPortion unit front words
     × TalksOver (disk.fails log) MayFail it.left old new ended (EndsAnswers it.inputs it.certificate words ended))
 
+-- the faulty rows of a file are listed
+abbrev pub ListsFaults : Disk → FaultsOf → List ℕ → Option (List ℕ) → Option (List ℕ) → Ended → Type 0
+ListsFaults disk of file old new ended =
+    LacksFile (disk.fails file) old new ended
+    ⊎ ((text : Option (List ℕ)) × HoldsText disk of file text × EndsList (asked_for of) text old new ended)
+
 -- an order is carried out on an output, whose writes may fail or not
 abbrev pub CarriesOut : Disk → Type 0 → StreamOrder → Option (List ℕ) → Option (List ℕ) → Ended → Type 0
 CarriesOut disk MayFail order.Help old new ended = PrintsText MayFail HELP.now old new ended
@@ -63,6 +71,7 @@ CarriesOut disk MayFail (order.Places settings values log) old new ended =
     StatesPlaces disk MayFail settings values log old new ended
 CarriesOut disk MayFail (order.Answer files plan log unit front) old new ended =
     AnswersLog disk MayFail files plan log unit front old new ended
+CarriesOut disk MayFail (order.Faults of file) old new ended = ListsFaults disk of file old new ended
 
 -- the order is carried out; where there is none, nothing was written, and the failure is reported
 abbrev pub ActsOn : Disk → Type 0 → Result StreamOrder CommandFault → Option (List ℕ) → Option (List ℕ) → Ended → Type 0

@@ -1,5 +1,6 @@
 pub mod Failing
 pub mod Ending
+pub mod Faults
 pub mod Files
 pub mod Printing
 pub mod Talking

@@ -1,5 +1,12 @@
 // Faulty rows on an output.
 
+ghost use Rattle.std.specs.Prelude.{◌≡◌, ◌≢◌, ◌⊎◌, Err};
+ghost use Rattle.std.specs.Io.KnownBytes.{Keeps};
+ghost use Rattle.hsp_stream_cli.specs.Commands.{ListsFaults};
+ghost use Rattle.hsp_stream_cli.specs.Faults.{EndsList, asked_for, ended_with, stopped_by};
+ghost use Rattle.hsp_stream_cli.specs.Printing.{IsHandedOn};
+ghost use Rattle.hsp_stream_cli.specs.declared.failure.StreamFailure.TheVariants.{Write};
+
 use crate::failure::StreamFailure;
 use hsp_cli::{FileSource, Output, read_whole};
 use hsp_cli_orders::{FaultsOf, Word};
@@ -9,16 +16,49 @@ use hsp_tables::TableKind;
 use std::alloc::Global;
 use std::io::Read;
 
-// How a list ends that was written whole, or up to a stop.
-fn ended_by(listed: Result<bool, FaultsStop>) -> Result<Option<StreamSums>, StreamFailure> {
-    match listed {
-        Ok(false) => Ok(None),
-        Ok(true) => Err(StreamFailure::Faulty),
-        Err(FaultsStop::ReadFailed) => {
-            Err(StreamFailure::Refused(StreamFault::Log(RowFault::ReadFailed)))
+// The failure by which a list stops.
+fn stopped_by(stop: FaultsStop) -> StreamFailure
+    ensures { result ≡ stopped_by stop }
+{
+    match stop {
+        FaultsStop::ReadFailed => {
+            StreamFailure::Refused(StreamFault::Log(RowFault::ReadFailed))
         }
-        Err(FaultsStop::WriteFailed) => Err(StreamFailure::Write),
-        Err(FaultsStop::OutOfMemory) => Err(StreamFailure::Memory),
+        FaultsStop::WriteFailed => StreamFailure::Write,
+        FaultsStop::OutOfMemory => StreamFailure::Memory,
+    }
+}
+
+// Hands on what was listed, and ends with a failure or, where that fails, with a failed write.
+fn hand_on_failed<O: Output>(
+    out: &mut O,
+    failure: StreamFailure,
+) -> Result<Option<StreamSums>, StreamFailure>
+    ensures kept { Keeps (O.contents out.old) (O.contents out.new) }
+    ensures ended { (result ≡ Err failure) ⊎ (result ≡ Err Write) }
+    ensures handed { (O.handed out.new ≡ O.contents out.new) ⊎ (result ≡ Err Write) }
+{
+    match out.hand_on() {
+        Ok(()) => Err(failure),
+        Err(_) => Err(StreamFailure::Write),
+    }
+}
+
+// Hands on a list that was written whole.
+fn hand_on_list<O: Output>(
+    out: &mut O,
+    some: bool,
+) -> Result<Option<StreamSums>, StreamFailure>
+    ensures kept { Keeps (O.contents out.old) (O.contents out.new) }
+    ensures ended { (result ≡ ended_with some) ⊎ (result ≡ Err Write) }
+    ensures handed { (O.handed out.new ≡ O.contents out.new) ⊎ (result ≡ Err Write) }
+{
+    if some {
+        return hand_on_failed(out, StreamFailure::Faulty);
+    }
+    match out.hand_on() {
+        Ok(()) => Ok(None),
+        Err(_) => Err(StreamFailure::Write),
     }
 }
 
@@ -28,19 +68,22 @@ fn list<R: Read + Drop, O: Output>(
     asked: Asked,
     text: R,
     out: &mut O,
-) -> Result<Option<StreamSums>, StreamFailure> {
-    let listed = faults_run(alloc, asked, text, out);
-    if listed == Err(FaultsStop::WriteFailed) {
-        return Err(StreamFailure::Write);
-    }
-    match out.hand_on() {
-        Ok(()) => ended_by(listed),
-        Err(_) => Err(StreamFailure::Write),
+) -> Result<Option<StreamSums>, StreamFailure>
+    ensures ends { EndsList asked (R.remaining text) (O.contents out.old) (O.contents out.new)
+        result }
+    ensures handed { IsHandedOn (O.contents out.old) (O.handed out.old) (O.contents out.new)
+        (O.handed out.new) result }
+{
+    match faults_run(alloc, asked, text, out) {
+        Ok(some) => hand_on_list(out, some),
+        Err(stop) => hand_on_failed(out, stopped_by(stop)),
     }
 }
 
 // What is looked at, by the order.
-fn asked_for(of: FaultsOf) -> Asked {
+fn asked_for(of: FaultsOf) -> Asked
+    ensures { result ≡ asked_for of }
+{
     match of {
         FaultsOf::Demand => Asked::Table(TableKind::Demand),
         FaultsOf::Costs => Asked::Table(TableKind::Costs),
@@ -49,22 +92,55 @@ fn asked_for(of: FaultsOf) -> Asked {
     }
 }
 
-/// Lists the faulty rows of a file. A log is read as it comes, and a table is read whole first.
+// Lists the faulty rows of a log, which is read as it comes.
+fn list_log<S: FileSource, O: Output>(
+    alloc: Global,
+    files: &S,
+    file: &Word<'_>,
+    out: &mut O,
+) -> Result<Option<StreamSums>, StreamFailure>
+    ensures lists { ListsFaults (S.disk files.now) FaultsOf.Log file.now (O.contents out.old)
+        (O.contents out.new) result }
+    ensures handed { IsHandedOn (O.contents out.old) (O.handed out.old) (O.contents out.new)
+        (O.handed out.new) result }
+{
+    let log = files.open(file)?;
+    list(alloc, Asked::Log, log, out)
+}
+
+// Lists the faulty rows of a table, which is read whole first.
+fn list_table<S: FileSource, O: Output>(
+    alloc: Global,
+    files: &S,
+    of: FaultsOf,
+    file: &Word<'_>,
+    out: &mut O,
+) -> Result<Option<StreamSums>, StreamFailure>
+    requires { of ≢ FaultsOf.Log }
+    ensures lists { ListsFaults (S.disk files.now) of file.now (O.contents out.old)
+        (O.contents out.new) result }
+    ensures handed { IsHandedOn (O.contents out.old) (O.handed out.old) (O.contents out.new)
+        (O.handed out.new) result }
+{
+    let text = read_whole(alloc, files, file)?;
+    list(alloc, asked_for(of), text.as_slice(), out)
+}
+
+/// Lists the faulty rows of a file: those of a log as it comes, and those of a table once it was read whole.
 pub(crate) fn list_faults<S: FileSource, O: Output>(
     alloc: Global,
     files: &S,
     of: FaultsOf,
     file: &Word<'_>,
     out: &mut O,
-) -> Result<Option<StreamSums>, StreamFailure> {
-    match asked_for(of) {
-        Asked::Log => {
-            let log = files.open(file)?;
-            list(alloc, Asked::Log, log, out)
-        }
-        table => {
-            let text = read_whole(alloc, files, file)?;
-            list(alloc, table, text.as_slice(), out)
-        }
+) -> Result<Option<StreamSums>, StreamFailure>
+    ensures lists { ListsFaults (S.disk files.now) of file.now (O.contents out.old)
+        (O.contents out.new) result }
+    ensures handed { IsHandedOn (O.contents out.old) (O.handed out.old) (O.contents out.new)
+        (O.handed out.new) result }
+{
+    match of {
+        FaultsOf::Log => list_log(alloc, files, file, out),
+        table => list_table(alloc, files, table, file, out),
     }
 }

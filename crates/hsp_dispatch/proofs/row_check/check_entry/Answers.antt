@@ -5,25 +5,23 @@ use Rattle.hsp_dispatch.proofs.row_check.check_entry.Goals as goal
 
 pub returns-in_ok-check_handle-in-Handles-clause-good : goal.returns-in_ok-check_handle-in-Handles-clause-good
 returns-in_ok-check_handle-in-Handles-clause-good c =
-    let entry : Entry = record { region = c.in-Some._region.now; handle = c.in-Some.field.now } in
-    (
+    let entry : Entry = record { region = c.in-Some._region.now; handle = c.in-Some.field.now } in (
       entry,
       spells c.args.form _ _ _ entry c.in-Some.ensures.found refl (rw c.in-Handles.is refl)
-      c.in_ok-check_handle-in-Handles.ensures.good,
+          c.in_ok-check_handle-in-Handles.ensures.good,
     )
 
 pub returns-in_ok-check_handle-in-Bodies-clause-good : goal.returns-in_ok-check_handle-in-Bodies-clause-good
 returns-in_ok-check_handle-in-Bodies-clause-good c =
-    let entry : Entry = record { region = c.in-Some._region.now; handle = c.handle.result.now } in
-    (
+    let entry : Entry = record { region = c.in-Some._region.now; handle = c.handle.result.now } in (
       entry,
       spells c.args.form _ _ _ entry c.in-Some.ensures.found refl
-      (rw c.in-Bodies.is (
-        _,
-        c.in_ok-request-in-Bodies.ensures.request.0,
-        c.in_ok-octets-in-Bodies.ensures.octets,
-        rw c.deref.ensures.value at c.in_ok-request-in-Bodies.ensures.request.1,
-        c.handle.ensures ∙ c.in_ok-request-in-Bodies.ensures.request.2,
-      ))
-      c.in_ok-check_handle-in-Bodies.ensures.good,
+          (rw c.in-Bodies.is (
+            _,
+            c.in_ok-request-in-Bodies.ensures.request.0,
+            c.in_ok-octets-in-Bodies.ensures.octets,
+            rw c.deref.ensures.value at c.in_ok-request-in-Bodies.ensures.request.1,
+            c.handle.ensures ∙ c.in_ok-request-in-Bodies.ensures.request.2,
+          ))
+          c.in_ok-check_handle-in-Bodies.ensures.good,
     )

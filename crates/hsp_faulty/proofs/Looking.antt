@@ -1,0 +1,52 @@
+-- A record is looked at.
+use Rattle.std.proofs.Common.{◌≡◌, ◌⊎◌, inl, inr, ℕ, List, [], ◌∷◌, map, refl, ap}
+use Rattle.hsp_csv.specs.Found.{listed}
+use Rattle.hsp_csv.specs.Places.{Placed}
+use Rattle.hsp_csv.specs.declared.found.Checked.{Checked}
+use Rattle.hsp_csv.specs.declared.found.Checked.TheVariants.{Faulty, Good, Last}
+use Rattle.hsp_csv.specs.declared.found.Found.{Found}
+use Rattle.hsp_dispatch.specs.declared.row_check.LogForm.{LogForm}
+use Rattle.hsp_tables.specs.TableChecks.{faulty_from}
+use Rattle.hsp_tables.specs.declared.fault.TableFault.{TableFault}
+use Rattle.hsp_tables.specs.declared.table_check.TableCheck.{TableCheck}
+use Rattle.hsp_tables.specs.declared.table_check.TableKind.{TableKind}
+use Rattle.hsp_stream.specs.declared.fault.StreamFault.{StreamFault}
+use Rattle.hsp_faulty.specs.Checkers.{LooksAt, checked_named}
+use Rattle.hsp_faulty.specs.Faulty.{Continues, IsDispatched, counted, handled, named, next_of_32, next_of_64}
+use Rattle.hsp_faulty.specs.declared.checker.Checker.TheVariants as checker
+
+-- what goes on with known faults is a list of them
+continues_listed : (checked : Checked StreamFault) (more all : List (Found StreamFault))
+    → Continues checked (λ rest. rest ≡ more) all → all ≡ listed checked more
+continues_listed Good more all is = is
+continues_listed (Faulty found) more all (rest, is, whole) = rw (whole, is) refl
+continues_listed (Last found) more all is = is
+
+-- the faults of a table by its name
+named_listed : (kind : TableKind) (checked : Checked TableFault) (more : List (Found TableFault))
+    → map (named kind) (listed checked more) ≡ listed (checked_named kind checked) (map (named kind) more)
+named_listed kind Good more = refl
+named_listed kind (Faulty found) more = refl
+named_listed kind (Last found) more = refl
+
+pub table_looks : (kind : TableKind) (old new : TableCheck) (one : Placed) (checked : Checked TableFault)
+    → ((more : List Placed) → faulty_from old (one ∷ more) ≡ listed checked (faulty_from new more))
+    → LooksAt (checker.Table kind old) one (checker.Table kind new) (checked_named kind checked)
+table_looks kind old new one checked is more all goes =
+    rw (is more, named_listed kind checked (faulty_from new more))
+    (continues_listed (checked_named kind checked) (map (named kind) (faulty_from new more)) all goes)
+
+pub dispatched_looks : (form : LogForm) (row next : ℕ) (one : Placed) (checked : Checked StreamFault)
+    → IsDispatched form row one checked → next ≡ next_of_32 row
+    → LooksAt (checker.Dispatched form row) one (checker.Dispatched form next) checked
+dispatched_looks form row next one checked is after more all goes = (checked, is, rw after at goes)
+
+pub counted_looks : (row next : ℕ) (one : Placed) (checked : Checked StreamFault) → checked ≡ counted row one
+    → next ≡ next_of_64 row → LooksAt (checker.Counted row) one (checker.Counted next) checked
+counted_looks row next one checked is after more all goes =
+    rw (← is, ← after) (continues_listed checked _ all goes)
+
+pub handled_looks : (row next : ℕ) (one : Placed) (checked : Checked StreamFault) → checked ≡ handled row one
+    → next ≡ next_of_64 row → LooksAt (checker.Handles row) one (checker.Handles next) checked
+handled_looks row next one checked is after more all goes =
+    rw (← is, ← after) (continues_listed checked _ all goes)
