@@ -62,6 +62,20 @@ def test_a_fault_has_its_place(tmp_path: Path, octets: bytes, place: tuple[int, 
     assert (finding.line, finding.column, finding.end) == place
 
 
+def test_rows_of_one_unknown_site_are_found_at_once(example: Example, monkeypatch: pytest.MonkeyPatch) -> None:
+    """In three turns: so many rows of a misspelt site, and of one that nobody knows."""
+    monkeypatch.setattr(faults, "TURNS", 3)
+    folder = example("two-sites")
+    rows = [f"r{at},{site},5\n" for at in range(40) for site in ("pariss", "atlantis")]
+    with (folder / "costs.csv").open("a") as file:
+        file.writelines(rows)
+    found = examined(str(folder), Programs(), {})
+    lines = sorted(finding.line for finding in found.errors)
+    assert lines == list(range(lines[0], lines[0] + 80)) and not found.is_cut_short
+    for finding in found.errors:
+        assert finding.said == f"build: UnknownSite table costs row {finding.line - 2}"
+
+
 def question_with(folder: Path, demand: bytes) -> Question:
     """A plan of a demand without sites."""
     programs = Programs()

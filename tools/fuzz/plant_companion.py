@@ -49,6 +49,8 @@ COMPANION = os.path.join(programs.TOP, "companion")
 TESTS = {
     "fleet/": "test_fleet test_bounds",
     "doctor/guard": "test_bounds test_doctor",
+    "doctor/table": "test_doctor_rows test_doctor test_doctor_printed test_doctor_words",
+    "doctor/faults": "test_doctor_rows test_doctor test_doctor_printed test_doctor_words test_doctor_cut_short",
     "doctor/word": "test_doctor_words test_doctor_parts",
     "doctor/commands": "test_doctor_words",
     "doctor/doubts": "test_doctor_doubts test_doctor",

@@ -10,9 +10,9 @@ from hsp.base.numbers import listed
 from hsp.base.programs import run
 from hsp.base.spelling import near
 from hsp.doctor.findings import Finding, Place, Text, Words, found, quoted
-from hsp.doctor.question import Question, Said, sites_used
+from hsp.doctor.question import Mend, Question, Said, sites_used
 from hsp.doctor.rows import joined, table_of
-from hsp.doctor.table_faults import Explained, Faulty, numbered_row
+from hsp.doctor.table_faults import Explained, Faulty, alike, numbered_row
 from hsp.doctor.toml_places import data_of, listed_in
 
 
@@ -55,13 +55,18 @@ def unknown_site(question: Question, said: Said) -> Explained | None:
         return Explained(_without_sites(question, said))
     at = faulty.header.index("site")
     name, names = faulty.fields[at], names_in(question)
-    without = question.without_rows(said.table, [faulty.row])
+    rows = alike(faulty, at)
+    without = question.without_rows(said.table, [other.row for other in rows])
     if name in _left_out_sites(question) or question.lacks_site:
         return Explained(None, [without])
-    meant, words = _site_words(question, faulty, name, names)
-    fields = [*faulty.fields[:at], meant, *faulty.fields[at + 1 :]]
-    mended = [question.with_row(said.table, faulty.row, fields)] if meant else []
-    return Explained(found(faulty.path, faulty.place(at), words, faulty.words()), [*mended, without], True)
+    findings, mends = [], []
+    for other in rows:
+        meant, words = _site_words(question, other, name, names)
+        findings.append(found(other.path, other.place(at), words, other.words()))
+        fields = [*other.fields[:at], meant, *other.fields[at + 1 :]]
+        mends += [Mend(other.row, other.row.last, joined(fields))] if meant else []
+    mended = [question.with_mends(said.table, mends)] if mends else []
+    return Explained(findings[0], [*mended, without], True, findings[1:])
 
 
 def _without_sites(question: Question, said: Said) -> Finding:

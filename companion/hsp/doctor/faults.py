@@ -215,8 +215,9 @@ def diagnosed(question: Question, line: Line | None = None, show: Show = unheard
             said = question.ask()
             continue
         one = explained(question, said, line)
-        if one.finding and not _is_known(result.findings, one.finding):
-            result.add(one.finding)
+        for finding in filter(None, [one.finding, *one.more]):
+            if not _is_known(result.findings, finding):
+                result.add(finding)
         then = _next(question, said, one, line)
         if not then:
             return result

@@ -45,6 +45,8 @@ class Explained(NamedTuple):
     mended: Iterator[Question] | list[Question] = []
     # The next fault may not be of the same row, since then the mend was a wrong one.
     is_whole_row: bool = False
+    # The same of further rows, which one mend helps too.
+    more: list[Finding] = []
 
 
 @dataclass(frozen=True)
@@ -348,6 +350,17 @@ def bad_fields(faulty: Faulty) -> Words:
     advised = _too_many(faulty) if len(fields) > want else _too_few(faulty)
     message = f"{some(len(fields), 'field')} in place of {want} ({','.join(faulty.header)})"
     return replace(advised, message=message, group=f"Fields {advised.why}")
+
+
+def alike(faulty: Faulty, at: int) -> list[Faulty]:
+    """A row and those below it with the same text in a field, each with the words that hsplan would have for it."""
+    return [
+        replace(
+            faulty, row=row, said=replace(faulty.said, line=re.sub(r"row \d+", f"row {number}", faulty.said.line))
+        )
+        for number, row in enumerate(table_of(faulty.draft.text).rows)
+        if row.first >= faulty.row.first and row.fields[at : at + 1] == faulty.fields[at : at + 1]
+    ]
 
 
 def _place_of_fields(faulty: Faulty) -> Place:
