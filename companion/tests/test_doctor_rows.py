@@ -76,6 +76,18 @@ def test_rows_of_one_unknown_site_are_found_at_once(example: Example, monkeypatc
         assert finding.said == f"build: UnknownSite table costs row {finding.line - 2}"
 
 
+def test_rows_that_are_left_out_lack_nothing(example: Example, monkeypatch: pytest.MonkeyPatch) -> None:
+    """A turn for each site suffices, however many of its servers lose their row."""
+    monkeypatch.setattr(faults, "TURNS", 4)
+    folder = example("two-sites")
+    head, *rows = (folder / "capacity.csv").read_text().splitlines()
+    cut = [row.rpartition(",")[0] for row in rows]
+    (folder / "capacity.csv").write_text("\n".join([head, *cut, ""]))
+    found = examined(str(folder), Programs(), {})
+    assert [finding.said for finding in found.errors] == [f"capacity: Fields row {at}" for at in range(len(rows))]
+    assert len(rows) == 5 and not found.is_cut_short
+
+
 def question_with(folder: Path, demand: bytes) -> Question:
     """A plan of a demand without sites."""
     programs = Programs()

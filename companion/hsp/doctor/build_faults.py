@@ -153,15 +153,18 @@ def unknown_server(question: Question, said: Said) -> Explained | None:
 
 def no_capacity(question: Question, said: Said) -> Explained:
     """A server without a row in the capacities."""
-    site, server = site_at(question, said.numbers["site"]).name, str(said.numbers["server_id"])
+    (site, servers), server = site_at(question, said.numbers["site"]), str(said.numbers["server_id"])
     draft = question.files["capacity"]
     lines = draft.text.lines
     number = next((at for at in range(len(lines), 1, -1) if lines[at - 1].strip()), 1)
-    text = lines[number - 1] + "\n" + joined([site, server, "0"])
+    there = {row.fields[1] for row in table_of(draft.text).rows if row.fields[0] == site}
+    rows = table_of(draft.original).rows
+    absent = [own for own in map(str, servers) if own not in there | {server}]
+    others = [own for own in absent if not rows or _follows(question, site, own)]
+    text = "\n".join([lines[number - 1], *(joined([site, own, "0"]) for own in (server, *others))])
     mended = question.with_file("capacity", draft.with_text("\n".join([*lines[: number - 1], text, *lines[number:]])))
     if _follows(question, site, server):
         return Explained(None, [mended])
-    rows = table_of(draft.original).rows
     if not rows:
         return Explained(_without_rows(draft.original, said))
     own = [other for other in rows if other.fields[0] == site]
