@@ -52,5 +52,8 @@ pub enum StreamOrder<'a> {
         front: Option<FrontWords<'a>>,
     },
     /// `faults` with one of `--demand F`, `--costs F`, `--capacity F` and `--log F`
-    Faults { of: FaultsOf, file: Word<'a> },
+    Faults {
+        of: FaultsOf,
+        file: Word<'a>,
+    },
 }

@@ -21,9 +21,7 @@ fn stopped_by(stop: FaultsStop) -> StreamFailure
     ensures { result ≡ stopped_by stop }
 {
     match stop {
-        FaultsStop::ReadFailed => {
-            StreamFailure::Refused(StreamFault::Log(RowFault::ReadFailed))
-        }
+        FaultsStop::ReadFailed => { StreamFailure::Refused(StreamFault::Log(RowFault::ReadFailed)) }
         FaultsStop::WriteFailed => StreamFailure::Write,
         FaultsStop::OutOfMemory => StreamFailure::Memory,
     }
@@ -45,10 +43,7 @@ fn hand_on_failed<O: Output>(
 }
 
 // Hands on a list that was written whole.
-fn hand_on_list<O: Output>(
-    out: &mut O,
-    some: bool,
-) -> Result<Option<StreamSums>, StreamFailure>
+fn hand_on_list<O: Output>(out: &mut O, some: bool) -> Result<Option<StreamSums>, StreamFailure>
     ensures kept { Keeps (O.contents out.old) (O.contents out.new) }
     ensures ended { (result ≡ ended_with some) ⊎ (result ≡ Err Write) }
     ensures handed { (O.handed out.new ≡ O.contents out.new) ⊎ (result ≡ Err Write) }
