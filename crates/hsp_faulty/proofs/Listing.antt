@@ -1,6 +1,6 @@
 -- Lists of faults as they are written.
 use Rattle.std.proofs.Common.{◌≡◌, ◌∙◌, ◌+◌, ℕ, zero, suc, Bool, true, false, List, [], ◌∷◌, ◌++◌, length, take, Option, Some, None}
-use Rattle.std.proofs.Common.{append_assoc, map, refl, sym, ap, arith}
+use Rattle.std.proofs.Common.{append_assoc, map, refl, sym, ap, arith, Result, Ok, Err, OnErr}
 use Rattle.std.specs.Prelude.{⊤}
 use Rattle.std.proofs.lemmas.List.{append-nil}
 use Rattle.std.specs.Io.KnownBytes.{Appends}
@@ -248,3 +248,8 @@ module _ (start now next : Checker) (all left after : Option (List Placed)) (old
           all_of (Some all) None after one taken took takes = absurd took
           all_of (Some all) (Some left) None one taken took takes = absurd takes
           all_of (Some all) (Some left) (Some after) one taken took takes = took ∙ rw takes refl
+
+-- what holds at each stop holds at an answer that stops
+pub at_stop : {A E : Type 0} {P : Type 0} (answer : Result A E) → P → OnErr answer P
+at_stop (Ok x) holds = tt
+at_stop (Err e) holds = holds
