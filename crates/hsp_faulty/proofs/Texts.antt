@@ -2,16 +2,16 @@
 use Rattle.std.proofs.Common.{◌≡◌, ◌∙◌, inl, inr, ℕ, Bool, true, false, List, [], ◌∷◌, ◌++◌, Option, Some, None, refl, ap, sym}
 use Rattle.std.proofs.lemmas.List.{append-nil}
 use Rattle.std.specs.Io.KnownBytes.{Appends}
-use Rattle.hsp_csv.specs.Places.{Placed, TakesPlaced}
-use Rattle.hsp_csv.specs.declared.found.Found.{Found}
-use Rattle.hsp_stream.specs.declared.fault.StreamFault.{StreamFault}
+use Rattle.std.proofs.Common.{IfSome, option_map}
+use Rattle.hsp_csv.specs.Places.{Placed, TakesPlaced, placed_of}
+use Rattle.hsp_text.specs.Writing.{IsCut}
 use Rattle.hsp_faulty.specs.Faulty.{AreFaultsOf, IsHeadedBy, IsUnheaded, ListsBelow, found_header}
 use Rattle.hsp_faulty.specs.Lines.{header_line, line_of, lines_of, text_of}
 use Rattle.hsp_faulty.specs.Runs.{AreAll, AreBegun, AreFirst, AreListed, BelowIsBegun, BelowIsListed, Faults, IsBegun, IsListBegun}
 use Rattle.hsp_faulty.specs.Runs.{IsListed, LinesAreBegun, LinesAreListed}
 use Rattle.hsp_faulty.specs.declared.checker.Asked.{Asked}
 use Rattle.hsp_faulty.specs.declared.checker.Headed.{Headed}
-use Rattle.hsp_faulty.proofs.Listing.{appends_both, appends_none, begun_behind, begun_whole}
+use Rattle.hsp_faulty.proofs.Listing.{appends_both, appends_none, begun_behind, begun_by_cut}
 
 -- lists that hold of less hold of more
 pub listed_as : (Are Are2 : List Placed → Faults → Type 0)
@@ -98,13 +98,48 @@ module _ (asked : Asked) (left after : Option (List Placed)) (one : Placed) (old
 pub nothing_begun : (asked : Asked) (left : Option (List Placed)) (old : Option (List ℕ)) → LinesAreBegun asked left old old
 nothing_begun asked left old = ([], none_first left, found_header asked ∷ [], refl, (0, appends_none old))
 
--- the list is the lines below the first one
-pub whole_listed : (asked : Asked) (left : Option (List Placed)) (old middle new : Option (List ℕ)) (some : Bool)
-    → Appends old middle header_line → LinesAreListed asked left middle new some → IsListed asked left old new some
-whole_listed asked left old middle new some head (records, whole, all, are, wrote, tells) =
-    (records, whole, all, are, appends_both old middle new header_line (lines_of all) head wrote, tells)
+-- the records that a reader begins with are those of its text, where that is known
+abbrev BeginsWith : Option (List ℕ) → Option (List Placed) → Type 0
+BeginsWith text left = IfSome text (λ octets. left ≡ Some (placed_of octets))
 
-pub whole_begun : (asked : Asked) (left : Option (List Placed)) (old middle new : Option (List ℕ))
-    → Appends old middle header_line → LinesAreBegun asked left middle new → IsListBegun asked left old new
-whole_begun asked left old middle new head (records, first, all, are, wrote) =
-    (records, first, all, are, begun_behind old middle new header_line (lines_of all) head wrote)
+all_of_text : (text : Option (List ℕ)) (left : Option (List Placed)) (records : List Placed) → BeginsWith text left
+    → AreAll left records → AreAll (option_map placed_of text) records
+all_of_text None left records begins whole = tt
+all_of_text (Some octets) left records begins whole = rw begins at whole
+
+first_of_text : (text : Option (List ℕ)) (left : Option (List Placed)) (records : List Placed) → BeginsWith text left
+    → AreFirst left records → AreFirst (option_map placed_of text) records
+first_of_text None left records begins first = tt
+first_of_text (Some octets) left records begins first = rw begins at first
+
+-- the list is the lines below the first one
+pub whole_listed : (asked : Asked) (text : Option (List ℕ)) (left : Option (List Placed)) (old middle new : Option (List ℕ))
+    (some : Bool) → BeginsWith text left → Appends old middle header_line → LinesAreListed asked left middle new some
+    → IsListed asked (option_map placed_of text) old new some
+whole_listed asked text left old middle new some begins head (records, whole, all, are, wrote, tells) =
+    (
+      records,
+      all_of_text text left records begins whole,
+      all,
+      are,
+      appends_both old middle new header_line (lines_of all) head wrote,
+      tells,
+    )
+
+pub whole_begun : (asked : Asked) (text : Option (List ℕ)) (left : Option (List Placed)) (old middle new : Option (List ℕ))
+    → BeginsWith text left → Appends old middle header_line → LinesAreBegun asked left middle new
+    → IsListBegun asked (option_map placed_of text) old new
+whole_begun asked text left old middle new begins head (records, first, all, are, wrote) =
+    (
+      records,
+      first_of_text text left records begins first,
+      all,
+      are,
+      begun_behind old middle new header_line (lines_of all) head wrote,
+    )
+
+-- the first line was cut
+pub head_cut : (asked : Asked) (left : Option (List Placed)) (old new : Option (List ℕ)) → IsCut old new header_line
+    → IsListBegun asked left old new
+head_cut asked left old new cut =
+    ([], none_first left, found_header asked ∷ [], refl, begun_by_cut old new header_line _ cut)
