@@ -1,9 +1,11 @@
 -- Lists of faults as they are written.
 use Rattle.std.proofs.Common.{◌≡◌, ◌∙◌, ◌+◌, ℕ, zero, suc, Bool, true, false, List, [], ◌∷◌, ◌++◌, length, take, Option, Some, None}
-use Rattle.std.proofs.Common.{append_assoc, map, refl, sym, ap, arith}
+use Rattle.std.proofs.Common.{append_assoc, map, refl, sym, ap, arith, Result, Ok, Err, OnErr}
 use Rattle.std.specs.Prelude.{⊤}
 use Rattle.std.proofs.lemmas.List.{append-nil}
 use Rattle.std.specs.Io.KnownBytes.{Appends}
+use Rattle.hsp_text.specs.Writing.{IsCut}
+use Rattle.std.proofs.Common.{IfOk, OnOk, ◌≤◌, ◌<◌}
 use Rattle.hsp_csv.specs.Places.{Placed, TakesPlaced}
 use Rattle.hsp_csv.specs.declared.found.Checked.TheVariants.{Faulty, Good, Last}
 use Rattle.hsp_csv.specs.declared.found.Found.{Found}
@@ -248,3 +250,29 @@ module _ (start now next : Checker) (all left after : Option (List Placed)) (old
           all_of (Some all) None after one taken took takes = absurd took
           all_of (Some all) (Some left) None one taken took takes = absurd takes
           all_of (Some all) (Some left) (Some after) one taken took takes = took ∙ rw takes refl
+
+-- what holds at each stop holds at an answer that stops
+pub at_stop : {A E : Type 0} {P : Type 0} (answer : Result A E) → P → OnErr answer P
+at_stop (Ok x) holds = tt
+at_stop (Err e) holds = holds
+
+-- what holds at an answer that stops is so of more
+pub stop_as : {A E : Type 0} {P Q : Type 0} (answer : Result A E) → (P → Q) → OnErr answer P → OnErr answer Q
+stop_as (Ok x) so holds = tt
+stop_as (Err e) so holds = so holds
+
+-- what two clauses say of an answer that is whole
+pub both_whole : {A E : Type 0} (P Q : A → Type 0) (W : Type 0) (answer : Result A E)
+    → ((x : A) → P x → W → Q x) → IfOk answer P → OnOk answer W → IfOk answer Q
+both_whole P Q W (Ok x) so one other = so x one other
+both_whole P Q W (Err e) so one other = tt
+
+-- a cut of a text is a beginning of it and of what follows
+pub begun_by_cut : (old new : Option (List ℕ)) (a b : List ℕ) → IsCut old new a → IsBegun old new (a ++ b)
+begun_by_cut old new a b (count, within, wrote) = (count, rw (take_first a b count (omega arith)) wrote)
+  where
+    take_first : (a b : List ℕ) (count : ℕ) → count ≤ length a → take count (a ++ b) ≡ take count a
+    take_first [] b zero within = refl
+    take_first [] b (suc count) within = absurd (omega arith)
+    take_first (x ∷ a) b zero within = refl
+    take_first (x ∷ a) b (suc count) within = ap (λ (t : List ℕ). x ∷ t) (take_first a b count (omega arith))
