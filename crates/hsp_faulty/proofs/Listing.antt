@@ -210,32 +210,29 @@ module _ (start now next : Checker) (all left after : Option (List Placed)) (old
 
       pub cuts_line : LooksAt now one next (Faulty found) → IsBegun new written (line_of found)
           → RowsAreBegun start all old written
-      cuts_line looks line =
-          (
-            far.taken ++ one ∷ [],
-            first_one,
-            far.found ++ found ∷ [],
-            far.leads (one ∷ []) (found ∷ []) (looks [] (found ∷ []) ([], none_listed next, refl)),
-            begun_one line,
-          )
+      cuts_line looks line = (
+        far.taken ++ one ∷ [],
+        first_one,
+        far.found ++ found ∷ [],
+        far.leads (one ∷ []) (found ∷ []) (looks [] (found ∷ []) ([], none_listed next, refl)),
+        begun_one line,
+      )
 
       pub cuts_last : LooksAt now one next (Last found) → IsBegun new written (line_of found)
           → RowsAreBegun start all old written
-      cuts_last looks line =
-          (
-            far.taken ++ one ∷ [],
-            first_one,
-            far.found ++ found ∷ [],
-            far.leads (one ∷ []) (found ∷ []) (looks [] (found ∷ []) refl),
-            begun_one line,
-          )
+      cuts_last looks line = (
+        far.taken ++ one ∷ [],
+        first_one,
+        far.found ++ found ∷ [],
+        far.leads (one ∷ []) (found ∷ []) (looks [] (found ∷ []) refl),
+        begun_one line,
+      )
 
       -- a last fault ends the list, whatever is left
       pub ends_last : LooksAt now one next (Last found) → Appends new written (line_of found)
           → RowsAreListed start all old written true
       ends_last looks line =
-          let rest = rest_of after in
-          (
+          let rest = rest_of after in (
             far.taken ++ one ∷ rest,
             all_of all left after one far.taken far.took takes,
             far.found ++ found ∷ [],

@@ -76,8 +76,7 @@ module _ (asked : Asked) (left after : Option (List Placed)) (one : Placed) (old
       → Appends old new (line_of (found_header asked)) → (some : Bool) → some ≡ true
       → LinesAreListed asked left old new some
   unheaded_listed takes is wrote some tells =
-      let behind = behind_of left after one takes in
-      (
+      let behind = behind_of left after one takes in (
         one ∷ behind.0,
         behind.1,
         found_header asked ∷ [],
@@ -116,27 +115,25 @@ first_of_text (Some octets) left records begins first = rw begins at first
 pub whole_listed : (asked : Asked) (text : Option (List ℕ)) (left : Option (List Placed)) (old middle new : Option (List ℕ))
     (some : Bool) → BeginsWith text left → Appends old middle header_line → LinesAreListed asked left middle new some
     → IsListed asked (option_map placed_of text) old new some
-whole_listed asked text left old middle new some begins head (records, whole, all, are, wrote, tells) =
-    (
-      records,
-      all_of_text text left records begins whole,
-      all,
-      are,
-      appends_both old middle new header_line (lines_of all) head wrote,
-      tells,
-    )
+whole_listed asked text left old middle new some begins head (records, whole, all, are, wrote, tells) = (
+  records,
+  all_of_text text left records begins whole,
+  all,
+  are,
+  appends_both old middle new header_line (lines_of all) head wrote,
+  tells,
+)
 
 pub whole_begun : (asked : Asked) (text : Option (List ℕ)) (left : Option (List Placed)) (old middle new : Option (List ℕ))
     → BeginsWith text left → Appends old middle header_line → LinesAreBegun asked left middle new
     → IsListBegun asked (option_map placed_of text) old new
-whole_begun asked text left old middle new begins head (records, first, all, are, wrote) =
-    (
-      records,
-      first_of_text text left records begins first,
-      all,
-      are,
-      begun_behind old middle new header_line (lines_of all) head wrote,
-    )
+whole_begun asked text left old middle new begins head (records, first, all, are, wrote) = (
+  records,
+  first_of_text text left records begins first,
+  all,
+  are,
+  begun_behind old middle new header_line (lines_of all) head wrote,
+)
 
 -- the first line was cut
 pub head_cut : (asked : Asked) (left : Option (List Placed)) (old new : Option (List ℕ)) → IsCut old new header_line

@@ -1,6 +1,5 @@
 // What looks at the rows of a table or a log.
 
-
 ghost use Rattle.std.specs.Prelude.{◌≡◌, ◌∷◌, IfErr, IfNone, IfOk, IfSome, List, OnOk};
 ghost use Rattle.csv.specs.Records.{fields_of};
 ghost use Rattle.hsp_csv.specs.Found.{place_at};
@@ -172,12 +171,7 @@ fn too_long(placed: &PlacedRecord) -> Checked<StreamFault>
 }
 
 // A row of a log that a run of `hsplan` refuses.
-fn refused(
-    form: LogForm,
-    row: u32,
-    placed: &PlacedRecord,
-    fault: LogFault,
-) -> Checked<StreamFault>
+fn refused(form: LogForm, row: u32, placed: &PlacedRecord, fault: LogFault) -> Checked<StreamFault>
     ensures { result ≡ Faulty (found_at (shown placed.now) row (field_at_fault form fault)
         (Input (Log fault))) }
 {

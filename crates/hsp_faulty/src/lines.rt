@@ -1,6 +1,5 @@
 // Faulty rows as lines.
 
-
 ghost use Rattle.std.specs.Prelude.{◌≡◌, ◌++◌, OnOk};
 ghost use Rattle.hsp_faulty.specs.Lines.{line_of, number_text};
 

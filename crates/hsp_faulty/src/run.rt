@@ -11,7 +11,7 @@ ghost use Rattle.hsp_faulty.specs.Runs.{BelowIsBegun, BelowIsListed, IsBegun, Is
 ghost use Rattle.hsp_faulty.specs.Runs.{LinesAreListed, RowsAreBegun, RowsAreListed, stop_of};
 ghost use Rattle.hsp_faulty.specs.declared.run.FaultsStop.TheVariants.{OutOfMemory, WriteFailed};
 
-use crate::checker::{Asked, Checker, Headed, header_fault, headed_by};
+use crate::checker::{Asked, Checker, Headed, headed_by, header_fault};
 use crate::lines::{HEADER_LINE, push_found};
 use hsp_csv::{
     Checked, Found, Place, PlacedReader, PlacedRecord, RecordsFault, read_placed, take_placed,
@@ -129,11 +129,7 @@ fn list_below<R: Read + Drop, W: Write>(
 }
 
 // Writes the line of a text that lacks its header.
-fn list_header<W: Write>(
-    alloc: Global,
-    asked: Asked,
-    writer: &mut W,
-) -> Result<bool, FaultsStop>
+fn list_header<W: Write>(alloc: Global, asked: Asked, writer: &mut W) -> Result<bool, FaultsStop>
     ensures some { IfOk result (λ some. some ≡ true) }
     ensures put { OnOk result
         (Appends (W.contents writer.old) (W.contents writer.new) (line_of (found_header asked))) }
