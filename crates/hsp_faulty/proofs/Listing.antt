@@ -1,5 +1,6 @@
 -- Lists of faults as they are written.
-use Rattle.std.proofs.Common.{◌≡◌, ◌∙◌, ◌+◌, ℕ, zero, suc, Bool, true, false, List, [], ◌∷◌, ◌++◌, length, take, Option, Some, None}
+use Rattle.std.proofs.Common.{◌≡◌, ◌∙◌, ◌+◌, ℕ, zero, suc, Bool, true, false, List, [], ◌∷◌, ◌++◌, length, take, Option}
+use Rattle.std.proofs.Common.{Some, None}
 use Rattle.std.proofs.Common.{append_assoc, map, refl, sym, ap, arith, Result, Ok, Err, OnErr}
 use Rattle.std.specs.Prelude.{⊤}
 use Rattle.std.proofs.lemmas.List.{append-nil}
@@ -27,7 +28,8 @@ use Rattle.hsp_faulty.specs.declared.checker.Checker.TheVariants as checker
 lines_in_parts : (a b : Faults) → lines_of (a ++ b) ≡ lines_of a ++ lines_of b
 lines_in_parts [] b = refl
 lines_in_parts (found ∷ a) b =
-    ap (λ (t : List ℕ). line_of found ++ t) (lines_in_parts a b) ∙ sym (append_assoc (line_of found) (lines_of a) (lines_of b))
+    ap (λ (t : List ℕ). line_of found ++ t) (lines_in_parts a b)
+    ∙ sym (append_assoc (line_of found) (lines_of a) (lines_of b))
 
 -- the line of one more
 lines_and_one : (a : Faults) (found : Found StreamFault) → lines_of (a ++ found ∷ []) ≡ lines_of a ++ line_of found
@@ -65,6 +67,7 @@ take_both (x ∷ a) b count = rw (one_more (length a) count) (ap (λ (t : List �
     one_more : (n m : ℕ) → suc n + m ≡ suc (n + m)
     one_more n m = omega arith
 
+-- a beginning behind a whole text is a beginning of both
 pub begun_behind : (old middle new : Option (List ℕ)) (a b : List ℕ) → Appends old middle a → IsBegun middle new b
     → IsBegun old new (a ++ b)
 begun_behind old middle new a b one (count, two) =
@@ -114,7 +117,9 @@ pub record SoFar (start now : Checker) (all left : Option (List Placed)) (old ne
   pub wrote : Appends old new (lines_of found)
   pub tells : some ≡ has_some found
 
-pub begins : (start : Checker) (all : Option (List Placed)) (old : Option (List ℕ)) → SoFar start start all all old old false
+-- before the first row nothing is taken and nothing is written
+pub begins : (start : Checker) (all : Option (List Placed)) (old : Option (List ℕ))
+    → SoFar start start all all old old false
 begins start all old =
     record {
       taken = [];
@@ -187,6 +192,7 @@ module _ (start now next : Checker) (all left after : Option (List Placed)) (old
       wrote_one : Appends new written (line_of found) → Appends old written (lines_of (far.found ++ found ∷ []))
       wrote_one line = rw (lines_and_one far.found found) (appends_both old new written _ _ far.wrote line)
 
+      -- a faulty row that is listed adds its line
       pub adds_line : LooksAt now one next (Faulty found) → Appends new written (line_of found)
           → SoFar start next all after old written true
       adds_line looks line =
@@ -205,9 +211,11 @@ module _ (start now next : Checker) (all left after : Option (List Placed)) (old
       begun_one : IsBegun new written (line_of found) → IsBegun old written (lines_of (far.found ++ found ∷ []))
       begun_one line = rw (lines_and_one far.found found) (begun_behind old new written _ _ far.wrote line)
 
+      -- the rows up to this one are some first rows
       first_one : AreFirst all (far.taken ++ one ∷ [])
       first_one = first_of all after (far.taken ++ one ∷ []) (took_one all left after one far.taken far.took takes)
 
+      -- a faulty row whose line was cut leaves a beginning of the list
       pub cuts_line : LooksAt now one next (Faulty found) → IsBegun new written (line_of found)
           → RowsAreBegun start all old written
       cuts_line looks line = (
@@ -218,6 +226,7 @@ module _ (start now next : Checker) (all left after : Option (List Placed)) (old
         begun_one line,
       )
 
+      -- so does a last row whose line was cut
       pub cuts_last : LooksAt now one next (Last found) → IsBegun new written (line_of found)
           → RowsAreBegun start all old written
       cuts_last looks line = (
@@ -241,7 +250,8 @@ module _ (start now next : Checker) (all left after : Option (List Placed)) (old
             some_with far.found found,
           )
         where
-          all_of : (all left after : Option (List Placed)) (one : Placed) (taken : List Placed) → AreTaken all left taken
+          all_of : (all left after : Option (List Placed)) (one : Placed) (taken : List Placed)
+              → AreTaken all left taken
               → TakesPlaced left after true one → AreAll all (taken ++ one ∷ rest_of after)
           all_of None left after one taken took takes = tt
           all_of (Some all) None after one taken took takes = absurd took

@@ -29,6 +29,7 @@ named_listed kind Good more = refl
 named_listed kind (Faulty found) more = refl
 named_listed kind (Last found) more = refl
 
+-- a look at a row of a table goes on as the table's faulty rows do
 pub table_looks : (kind : TableKind) (old new : TableCheck) (one : Placed) (checked : Checked TableFault)
     → ((more : List Placed) → faulty_from old (one ∷ more) ≡ listed checked (faulty_from new more))
     → LooksAt (checker.Table kind old) one (checker.Table kind new) (checked_named kind checked)
@@ -36,16 +37,19 @@ table_looks kind old new one checked is more all goes =
     rw (is more, named_listed kind checked (faulty_from new more))
     (continues_listed (checked_named kind checked) (map (named kind) (faulty_from new more)) all goes)
 
+-- a look at a row of a log for a run of hsplan goes on as the definition does
 pub dispatched_looks : (form : LogForm) (row next : ℕ) (one : Placed) (checked : Checked StreamFault)
     → IsDispatched form row one checked → next ≡ next_of_32 row
     → LooksAt (checker.Dispatched form row) one (checker.Dispatched form next) checked
 dispatched_looks form row next one checked is after more all goes = (checked, is, rw after at goes)
 
+-- so does a look at a row that counts
 pub counted_looks : (row next : ℕ) (one : Placed) (checked : Checked StreamFault) → checked ≡ counted row one
     → next ≡ next_of_64 row → LooksAt (checker.Counted row) one (checker.Counted next) checked
 counted_looks row next one checked is after more all goes =
     rw (← is, ← after) (continues_listed checked _ all goes)
 
+-- so does a look at a row of handles
 pub handled_looks : (row next : ℕ) (one : Placed) (checked : Checked StreamFault) → checked ≡ handled row one
     → next ≡ next_of_64 row → LooksAt (checker.Handles row) one (checker.Handles next) checked
 handled_looks row next one checked is after more all goes =

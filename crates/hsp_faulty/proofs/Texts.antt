@@ -1,5 +1,6 @@
 -- The faults of a text: those below its header, or that it has none.
-use Rattle.std.proofs.Common.{◌≡◌, ◌∙◌, inl, inr, ℕ, Bool, true, false, List, [], ◌∷◌, ◌++◌, Option, Some, None, refl, ap, sym}
+use Rattle.std.proofs.Common.{◌≡◌, ◌∙◌, inl, inr, ℕ, Bool, true, false, List, [], ◌∷◌, ◌++◌, Option, Some, None, refl}
+use Rattle.std.proofs.Common.{ap, sym}
 use Rattle.std.proofs.lemmas.List.{append-nil}
 use Rattle.std.specs.Io.KnownBytes.{Appends}
 use Rattle.std.proofs.Common.{IfSome, option_map}
@@ -7,7 +8,8 @@ use Rattle.hsp_csv.specs.Places.{Placed, TakesPlaced, placed_of}
 use Rattle.hsp_text.specs.Writing.{IsCut}
 use Rattle.hsp_faulty.specs.Faulty.{AreFaultsOf, IsHeadedBy, IsUnheaded, ListsBelow, found_header}
 use Rattle.hsp_faulty.specs.Lines.{header_line, line_of, lines_of, text_of}
-use Rattle.hsp_faulty.specs.Runs.{AreAll, AreBegun, AreFirst, AreListed, BelowIsBegun, BelowIsListed, Faults, IsBegun, IsListBegun}
+use Rattle.hsp_faulty.specs.Runs.{AreAll, AreBegun, AreFirst, AreListed, BelowIsBegun, BelowIsListed, Faults, IsBegun}
+use Rattle.hsp_faulty.specs.Runs.{IsListBegun}
 use Rattle.hsp_faulty.specs.Runs.{IsListed, LinesAreBegun, LinesAreListed}
 use Rattle.hsp_faulty.specs.declared.checker.Asked.{Asked}
 use Rattle.hsp_faulty.specs.declared.checker.Headed.{Headed}
@@ -21,6 +23,7 @@ pub listed_as : (Are Are2 : List Placed → Faults → Type 0)
 listed_as Are Are2 so left old new some (records, whole, all, are, wrote, tells) =
     (records, whole, all, so records all are, wrote, tells)
 
+-- lists that begin with less begin with more
 pub begun_as : (Are Are2 : List Placed → Faults → Type 0)
     → ((records : List Placed) (all : Faults) → Are records all → Are2 records all)
     → (left : Option (List Placed)) (old new : Option (List ℕ)) → AreBegun Are left old new → AreBegun Are2 left old new
@@ -33,6 +36,7 @@ all_with None new one records takes whole = tt
 all_with (Some old) None one records takes whole = absurd takes
 all_with (Some old) (Some new) one records takes whole = takes ∙ ap (λ (t : List Placed). one ∷ t) whole
 
+-- one record before some first ones
 first_with : (old new : Option (List Placed)) (one : Placed) (records : List Placed) → TakesPlaced old new true one
     → AreFirst new records → AreFirst old (one ∷ records)
 first_with None new one records takes first = tt
@@ -47,10 +51,12 @@ behind_of None new one takes = ([], tt)
 behind_of (Some old) None one takes = absurd takes
 behind_of (Some old) (Some new) one takes = (new, takes)
 
+-- no record is some first ones of any
 none_first : (old : Option (List Placed)) → AreFirst old []
 none_first None = tt
 none_first (Some old) = (old, refl)
 
+-- where no record is taken there is none
 all_none : (old new : Option (List Placed)) (one : Placed) → TakesPlaced old new false one → AreAll old []
 all_none None new one none = tt
 all_none (Some old) new one none = none
@@ -61,11 +67,13 @@ header_lines asked = append-nil (line_of (found_header asked))
 
 module _ (asked : Asked) (left after : Option (List Placed)) (one : Placed) (old new : Option (List ℕ)) where
   -- below a header
-  pub below_listed : TakesPlaced left after true one → (headed : Headed) → IsHeadedBy asked one.fields headed → (some : Bool)
+  pub below_listed : TakesPlaced left after true one → (headed : Headed) → IsHeadedBy asked one.fields headed
+      → (some : Bool)
       → BelowIsListed headed after old new some → LinesAreListed asked left old new some
   below_listed takes headed is some (records, whole, all, are, wrote, tells) =
       (one ∷ records, all_with left after one records takes whole, all, inl (headed, is, are), wrote, tells)
 
+  -- a beginning of the list below a header
   pub below_begun : TakesPlaced left after true one → (headed : Headed) → IsHeadedBy asked one.fields headed
       → BelowIsBegun headed after old new → LinesAreBegun asked left old new
   below_begun takes headed is (records, first, all, are, wrote) =
@@ -85,6 +93,7 @@ module _ (asked : Asked) (left after : Option (List Placed)) (one : Placed) (old
         tells,
       )
 
+  -- an empty text lacks its header
   pub lacking_listed : TakesPlaced left after false one → Appends old new (line_of (found_header asked))
       → (some : Bool) → some ≡ true → LinesAreListed asked left old new some
   lacking_listed none wrote some tells =
@@ -94,25 +103,30 @@ module _ (asked : Asked) (left after : Option (List Placed)) (one : Placed) (old
   pub header_begun : IsBegun old new (line_of (found_header asked)) → LinesAreBegun asked left old new
   header_begun begun = ([], none_first left, found_header asked ∷ [], refl, rw (header_lines asked) begun)
 
-pub nothing_begun : (asked : Asked) (left : Option (List Placed)) (old : Option (List ℕ)) → LinesAreBegun asked left old old
+-- where nothing is written nothing is begun
+pub nothing_begun : (asked : Asked) (left : Option (List Placed)) (old : Option (List ℕ))
+    → LinesAreBegun asked left old old
 nothing_begun asked left old = ([], none_first left, found_header asked ∷ [], refl, (0, appends_none old))
 
 -- the records that a reader begins with are those of its text, where that is known
 abbrev BeginsWith : Option (List ℕ) → Option (List Placed) → Type 0
 BeginsWith text left = IfSome text (λ octets. left ≡ Some (placed_of octets))
 
+-- all records of a reader are those of its text
 all_of_text : (text : Option (List ℕ)) (left : Option (List Placed)) (records : List Placed) → BeginsWith text left
     → AreAll left records → AreAll (option_map placed_of text) records
 all_of_text None left records begins whole = tt
 all_of_text (Some octets) left records begins whole = rw begins at whole
 
+-- some first records of a reader are some of its text
 first_of_text : (text : Option (List ℕ)) (left : Option (List Placed)) (records : List Placed) → BeginsWith text left
     → AreFirst left records → AreFirst (option_map placed_of text) records
 first_of_text None left records begins first = tt
 first_of_text (Some octets) left records begins first = rw begins at first
 
 -- the list is the lines below the first one
-pub whole_listed : (asked : Asked) (text : Option (List ℕ)) (left : Option (List Placed)) (old middle new : Option (List ℕ))
+pub whole_listed : (asked : Asked) (text : Option (List ℕ)) (left : Option (List Placed))
+    (old middle new : Option (List ℕ))
     (some : Bool) → BeginsWith text left → Appends old middle header_line → LinesAreListed asked left middle new some
     → IsListed asked (option_map placed_of text) old new some
 whole_listed asked text left old middle new some begins head (records, whole, all, are, wrote, tells) = (
@@ -124,7 +138,9 @@ whole_listed asked text left old middle new some begins head (records, whole, al
   tells,
 )
 
-pub whole_begun : (asked : Asked) (text : Option (List ℕ)) (left : Option (List Placed)) (old middle new : Option (List ℕ))
+-- a beginning of the lines below the first one is a beginning of the list
+pub whole_begun : (asked : Asked) (text : Option (List ℕ)) (left : Option (List Placed))
+    (old middle new : Option (List ℕ))
     → BeginsWith text left → Appends old middle header_line → LinesAreBegun asked left middle new
     → IsListBegun asked (option_map placed_of text) old new
 whole_begun asked text left old middle new begins head (records, first, all, are, wrote) = (

@@ -78,7 +78,8 @@ IsRead form row one (Last found) = ⊥
 -- what a row is that a run of hsplan reads; a row beyond the limit is the last one that is looked at
 abbrev pub IsDispatched : LogForm → ℕ → Placed → Checked StreamFault → Type 0
 IsDispatched form row one checked =
-    ((MOST_LOG_ROWS ≤ row) × (checked ≡ Last (found_beyond one))) ⊎ ((row < MOST_LOG_ROWS) × IsRead form row one checked)
+    ((MOST_LOG_ROWS ≤ row) × (checked ≡ Last (found_beyond one)))
+    ⊎ ((row < MOST_LOG_ROWS) × IsRead form row one checked)
 
 -- the number of the field at fault of a row with a region, a handle and a count, and of one with a handle
 abbrev pub counted_field : RowFault → Option ℕ

@@ -48,7 +48,8 @@ AreListed Are left old new some =
     × (some ≡ has_some all)
 
 -- a beginning of the lines, for some first records
-abbrev pub AreBegun : (List Placed → Faults → Type 0) → Option (List Placed) → Option (List ℕ) → Option (List ℕ) → Type 0
+abbrev pub AreBegun : (List Placed → Faults → Type 0) → Option (List Placed) → Option (List ℕ) → Option (List ℕ)
+    → Type 0
 AreBegun Are left old new =
     (records : List Placed) × AreFirst left records × (all : Faults) × Are records all × IsBegun old new (lines_of all)
 

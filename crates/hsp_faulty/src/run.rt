@@ -180,8 +180,8 @@ fn list_text<R: Read + Drop, W: Write>(
 /// A faulty row is left out: the rows behind it are read as if it weren't there, but for their numbers. A row that is
 /// one too many is the last one that is looked at. A text without its header has that one fault.
 ///
-/// The text is read in one pass. Of a log nothing is kept, and of a table the keys of its rows without fault. At a stop a
-/// beginning of the list was written.
+/// The text is read in one pass. Of a log nothing is kept, and of a table the keys of its rows without fault. At a stop
+/// a beginning of the list was written.
 pub fn faults_run<R: Read + Drop, W: Write>(
     alloc: Global,
     asked: Asked,

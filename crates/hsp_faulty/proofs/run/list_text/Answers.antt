@@ -15,7 +15,8 @@ returns-in_err-take_placed-clause-begun g c = at_stop c.from_residual.result (no
 pub returns-then-not-branch-clause-begun : goal.returns-then-not-branch-clause-begun
 returns-then-not-branch-clause-begun g c =
     let left = placed_left g.R.Read.remaining c.args.reader.now in
-    stop_as c.list_header.result (λ begun. header_begun c.args.asked left left (shown c.take_placed.new.placed) _ _ begun)
+    stop_as c.list_header.result
+    (λ begun. header_begun c.args.asked left left (shown c.take_placed.new.placed) _ _ begun)
     c.list_header.ensures.begun
 
 pub returns-in-Some-clause-listed : goal.returns-in-Some-clause-listed
