@@ -4,7 +4,8 @@
     tools/gate/check_modules.py
 
 The rules: the modules of a crate do not import one another in a circle. No line of src, specs or proofs has over 120
-columns, but for an attribute, which rt fmt writes in one line. In a file of lemmas each lemma has a line above it that says in words what it shows.
+columns, but for an attribute, which rt fmt writes in one line. In a file of lemmas each lemma has a line above it that
+says in words what it shows.
 """
 from __future__ import annotations
 
