@@ -36,6 +36,7 @@ NUMBERS = ("count", "cost", "capacity", "server_id", "front")
 # So many faulty rows of a file are looked at.
 MOST_FAULTY = 10_000
 OPEN_QUOTE = "open quote"
+LINE_END = re.compile(rb"[\r\n]")
 
 
 class Explained(NamedTuple):
@@ -136,11 +137,12 @@ def with_reasons(question: Question, every: list[Faulty]) -> list[Faulty]:
 
 def _faulty(draft: Draft, table: str, listed_row: list[str]) -> Faulty:
     _, line, field, octet, words = listed_row
-    octets, number = draft.text.octets, int(field) if field else None
-    begin = max(octets.rfind(b"\n", 0, int(octet)), octets.rfind(b"\r", 0, int(octet))) + 1
-    column = len(decoded(octets[begin : int(octet)]))
+    octets, number, at = draft.text.octets, int(field) if field else None, int(octet)
+    begin, end = max(octets.rfind(b"\n", 0, at), octets.rfind(b"\r", 0, at)) + 1, LINE_END.search(octets, at)
+    column = len(decoded(octets[begin:at]))
     row = row_of(draft, int(line), number or 0, column)
-    return Faulty(draft, table, row, said_of(1, words), number, column if row.first == int(line) else None)
+    is_there = draft.text.line(row.first) == decoded(octets[begin : end.start() if end else None])
+    return Faulty(draft, table, row, said_of(1, words), number, column if is_there else None)
 
 
 def row_of(draft: Draft, line: int, field: int, column: int) -> Row:
