@@ -1,3 +1,3 @@
-mod Listing
+pub mod Listing
 mod Looking
 mod Texts
