@@ -1,5 +1,5 @@
-// Tests of the runs over logs of any length: tables of kinds, places, and answers by a portion of a plan. Then of the
-// lines that are printed, and of what the runs stand on: rows that are lines, rows that were seen.
+// Tests of the runs over logs of any length: tables of kinds, places, answers by a portion of a plan, and faulty rows.
+// Then of the lines that are printed, and of what the runs stand on: rows that are lines, rows that were seen.
 #![tactic(auto)]
 
 #[cfg(test)]
@@ -7,8 +7,9 @@ mod answer_tests;
 #[cfg(test)]
 mod fakes;
 #[cfg(test)]
-mod kinds_tests;
+mod faulty_tests;
 #[cfg(test)]
+mod kinds_tests;
 #[cfg(test)]
 mod line_tests;
 #[cfg(test)]

@@ -1,0 +1,131 @@
+// The run that lists faulty rows, from the octets of a text to what it prints.
+
+use crate::fakes::{Full, Rows};
+use crate::same::is_same;
+use hsp_faulty::{Asked, FaultsStop, faults_run};
+use hsp_tables::TableKind;
+use std::alloc::Global;
+use std::process::Abort;
+
+// How the run ends, and what it lists.
+type Ended = (Result<bool, FaultsStop>, Vec<u8>);
+
+fn faults_once(alloc: Global, asked: Asked, text: Rows<'_>) -> Ended {
+    let mut listed = Vec::new(alloc);
+    let ended = faults_run(alloc, asked, text, &mut listed);
+    (ended, listed)
+}
+
+// The same, once more where memory ran out: a writer without memory fails.
+fn faults_of(alloc: Global, asked: Asked, text: Rows<'_>) -> Ended {
+    let (ended, listed) = faults_once(alloc, asked, text);
+    match ended {
+        Err(FaultsStop::OutOfMemory) | Err(FaultsStop::WriteFailed) => {
+            faults_once(alloc, asked, text)
+        }
+        _ => (ended, listed),
+    }
+}
+
+fn has_faults(
+    rt: &impl Abort,
+    alloc: Global,
+    asked: Asked,
+    text: Rows<'_>,
+    wanted: (Result<bool, FaultsStop>, &[u8]),
+) {
+    let (ended, listed) = faults_of(alloc, asked, text);
+    is_same(rt, listed.as_slice(), wanted.1);
+    is_same(rt, ended, wanted.0);
+}
+
+#[test]
+fn faulty_rows_of_a_table_are_listed(rt: HostRuntime) {
+    let cases: [(TableKind, &[u8], bool, &[u8]); 4] = [
+        (
+            TableKind::Demand,
+            b"region,handle,count\nr1,10/1,5\n",
+            false,
+            b"row,line,field,octet,fault\n",
+        ),
+        (
+            TableKind::Demand,
+            b"region,handle,count\n\"r1\",no,7\nr1,10/1,5\nr1,10/1,6\n",
+            true,
+            b"row,line,field,octet,fault\n0,2,1,25,demand: BadHandle row 0 NoSlash\n2,4,,40,demand: RowTwice row 2\n",
+        ),
+        (
+            TableKind::Costs,
+            b"region,site,cost\nr1,E\n\nr1,E,01\n",
+            true,
+            b"row,line,field,octet,fault\n0,2,,17,costs: Fields row 0\n1,4,2,28,costs: BadNumber row 1\n",
+        ),
+        (
+            TableKind::Capacity,
+            b"region,site,cost\n",
+            true,
+            b"row,line,field,octet,fault\n,1,,0,capacity: Header\n",
+        ),
+    ];
+    for (table, text, some, listed) in cases {
+        let asked = Asked::Table(table);
+        has_faults(&rt, rt.alloc(), asked, Rows::only(text), (Ok(some), listed));
+    }
+}
+
+#[test]
+fn faulty_rows_of_a_log_are_listed(rt: HostRuntime) {
+    let cases: [(&[u8], &[u8]); 3] = [
+        (
+            b"region,handle\nr1,10/1\nr1\n",
+            b"row,line,field,octet,fault\n1,3,,22,log: Fields row 1\n",
+        ),
+        (
+            b"region,handle,count\nr1,10/1,x\n",
+            b"row,line,field,octet,fault\n0,2,2,28,log: BadNumber row 0\n",
+        ),
+        (
+            b"handle\n10\n",
+            b"row,line,field,octet,fault\n0,2,0,7,log: BadHandle row 0 NoSlash\n",
+        ),
+    ];
+    for (text, listed) in cases {
+        has_faults(
+            &rt,
+            rt.alloc(),
+            Asked::Log,
+            Rows::only(text),
+            (Ok(true), listed),
+        );
+    }
+}
+
+// A header and a row are read, and then a read fails.
+#[test]
+fn a_list_stops_where_a_read_fails(rt: HostRuntime) {
+    let failing = Rows {
+        head: b"region,handle\nr1\n",
+        row: b"",
+        times: 0,
+        end: b"",
+        fails: true,
+    };
+    let listed: &[u8] = b"row,line,field,octet,fault\n0,2,,14,log: Fields row 0\n";
+    has_faults(
+        &rt,
+        rt.alloc(),
+        Asked::Log,
+        failing,
+        (Err(FaultsStop::ReadFailed), listed),
+    );
+}
+
+#[test]
+fn a_list_stops_where_a_write_fails(rt: HostRuntime) {
+    let mut full = Full;
+    let text = Rows::only(b"region,handle\n");
+    let ended = faults_run(rt.alloc(), Asked::Log, text, &mut full);
+    if ended != Err(FaultsStop::OutOfMemory) {
+        is_same(&rt, ended, Err(FaultsStop::WriteFailed));
+    }
+}
