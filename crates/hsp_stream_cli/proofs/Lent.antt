@@ -21,7 +21,7 @@ use Rattle.hsp_stream.specs.declared.portions.PortionWords.{PortionWords}
 use Rattle.hsp_stream_cli.specs.Ending.{Ended}
 use Rattle.hsp_stream_cli.specs.Printing.{IsFailedWrite, IsHandedOn}
 use Rattle.hsp_stream_cli.specs.Talking.{EndsAnswers, EndsPlaces, MayEnd, TalksOver}
-use Rattle.hsp_stream_cli.specs.declared.failure.StreamFailure.TheVariants.{Usage, Memory, Read, Write, Refused}
+use Rattle.hsp_stream_cli.specs.declared.failure.StreamFailure.TheVariants.{Faulty, Usage, Memory, Read, Write, Refused}
 use Rattle.hsp_stream_cli.specs.declared.files.Sources.{Sources}
 
 abbrev IsKept : Known → Known → Type 0
@@ -55,6 +55,7 @@ places_keep sources (Err Usage) old new so = absurd so
 places_keep sources (Err Memory) old new so = absurd so
 places_keep sources (Err Read) old new so = absurd so
 places_keep sources (Err Write) old new so = absurd so
+places_keep sources (Err Faulty) old new so = absurd so
 
 -- ---- answers
 
@@ -94,6 +95,7 @@ answers_keep inputs octets words (Err Usage) old new so = absurd so
 answers_keep inputs octets words (Err Memory) old new so = absurd so
 answers_keep inputs octets words (Err Read) old new so = absurd so
 answers_keep inputs octets words (Err Write) old new so = absurd so
+answers_keep inputs octets words (Err Faulty) old new so = absurd so
 
 -- ---- names
 
