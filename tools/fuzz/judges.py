@@ -100,10 +100,11 @@ def judge_octets(words: bytes, name: str, part: bytes) -> Callable[[Runner, byte
 
     def judge(program: Runner, text: bytes, where: Where) -> None:
         whole, beginning = answered(program, words, {**BASE, name: text}), where.cut(text)
-        fault, place = fault_of("hsplan", whole), place_of(fault_of("hsplan", whole))
+        fault, end = fault_of("hsplan", whole), len(beginning)
         begun = answered(program, words, {**BASE, name: beginning})
         cut = place_of(fault_of("hsplan", begun))
-        is_bad, end = (fault or b"").startswith(part + b": "), len(beginning)
+        is_bad = (fault or b"").startswith(part + b": ")
+        place = place_of(fault) if is_bad else None
         if end == len(text) or place and end >= place[1] + (place[0] == b"Trailing"):
             assert begun.reported == whole.reported, f"a beginning of {end}: {begun} {whole}"
         elif place and place[0] == b"Trailing" and end == place[1]:
