@@ -26,7 +26,7 @@ sys.path.insert(0, str(Path(__file__).resolve().parents[1]))
 from lib import cases, growth, preload, programs
 
 # The commands that print as they read.
-GOING_ON = ([b"dispatch"], [b"places"], [b"answer"])
+GOING_ON = ([b"dispatch"], [b"places"], [b"answer"], [b"faults"])
 
 
 class Tried(NamedTuple):

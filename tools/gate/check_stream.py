@@ -282,6 +282,8 @@ FAILING = [
     (f"kinds {FILES} --unit 2 --log log.csv", b""),
     ("places --settings settings.toml --log log.csv", b""),
     (f"{ANSWER.replace('/dev/stdin', 'log.csv')} --unit 2", b""),
+    ("faults --demand log.csv", b""),
+    ("faults --log log.csv", b""),
     ("--help", b""),
 ]
 READ_FAILED = b"hsplan-stream: read failed\n"
