@@ -191,8 +191,8 @@ pub(crate) fn stop_at_faults(
 }
 
 // What is not accepted answers nothing.
-pub(crate) fn nothing_is_answered(rt: &impl Abort, alloc: Global, worked: Worked<'_>) {
-    let cases: [(Texts<'_>, &[u8], Fault); 2] = [
+pub(crate) fn nothing_is_answered<'a>(rt: &impl Abort, alloc: Global, worked: Worked<'a>) {
+    let cases: [(Texts<'a>, &'a [u8], Fault); 2] = [
         (BASE, CHEAPER_PLAN, Fault::Refused(Reason::Cost)),
         (LACKING, SHORTAGE, Fault::WrongKind),
     ];
