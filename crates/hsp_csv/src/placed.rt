@@ -20,7 +20,10 @@ pub struct PlacedRecord {
 
 impl PlacedRecord {
     /// A record without fields, into which others are read.
-    pub fn new(alloc: Global) -> PlacedRecord {
+    pub fn new(alloc: Global) -> PlacedRecord
+        ensures fields { (shown result).fields ≡ [] }
+        ensures places { (shown result).places ≡ [] }
+    {
         PlacedRecord {
             fields: ByteRecord::new(alloc),
             places: Vec::new(alloc),

@@ -1,6 +1,6 @@
 // A reader of rows, each of which is one line.
 
-ghost use Rattle.std.specs.Prelude.{◌≡◌, IfOk};
+ghost use Rattle.std.specs.Prelude.{◌≡◌, [], IfOk};
 ghost use Rattle.csv.specs.Reading.{default_config, records};
 ghost use Rattle.csv.specs.Records.{fields_of};
 ghost use Rattle.hsp_csv.specs.Row.{IsCounted, row_of, row_shown};
@@ -20,7 +20,9 @@ pub struct RowReader {
 
 impl RowReader {
     /// A reader that has read nothing yet.
-    pub fn new(alloc: Global) -> RowReader {
+    pub fn new(alloc: Global) -> RowReader
+        ensures { fields_of result.first ≡ [] }
+    {
         RowReader {
             text: Vec::new(alloc),
             first: ByteRecord::new(alloc),

@@ -1,7 +1,9 @@
 -- The rows of one of the three tables, looked at one after the other.
-use Rattle.std.specs.Prelude.{ℕ, List, [], map}
+use Rattle.std.specs.Prelude.{◌≡◌, ℕ, List, [], ◌∷◌, map}
 use Rattle.hsp_csv.specs.Places.{Placed}
 use Rattle.hsp_csv.specs.Records.{Fields}
+use Rattle.hsp_csv.specs.Found.{listed}
+use Rattle.hsp_csv.specs.declared.found.Checked.{Checked}
 use Rattle.hsp_csv.specs.declared.found.Found.{Found}
 use Rattle.hsp_tables.specs.Capacities.{capacity_table}
 use Rattle.hsp_tables.specs.Costs.{cost_table}
@@ -54,3 +56,8 @@ AreHeld (held.Capacity kept) = IsKept capacity_table (map server_entry kept.rows
 
 abbrev pub AreKept : TableCheck → Type 0
 AreKept rows = AreHeld rows.held
+
+-- the next record was checked: its row is faulty or it is kept, and what is found behind it is as before
+abbrev pub IsChecked : TableCheck → Placed → Checked TableFault → TableCheck → Type 0
+IsChecked old one checked new =
+    (more : List Placed) → faulty_from old (one ∷ more) ≡ listed checked (faulty_from new more)

@@ -1,12 +1,11 @@
 // The rows of one of the three tables, looked at one after the other.
 
-ghost use Rattle.std.specs.Prelude.{◌≡◌, ◌∷◌, IfOk, List, OnOk};
+ghost use Rattle.std.specs.Prelude.{◌≡◌, IfOk, List, OnOk};
 ghost use Rattle.csv.specs.Records.{fields_of};
-ghost use Rattle.hsp_csv.specs.Found.{listed};
 ghost use Rattle.hsp_csv.specs.Header.{same_fields};
 ghost use Rattle.hsp_csv.specs.Places.{Placed};
 ghost use Rattle.hsp_csv.specs.Walks.{shown};
-ghost use Rattle.hsp_tables.specs.TableChecks.{AreKept, faulty_from, faulty_at_start, header_of};
+ghost use Rattle.hsp_tables.specs.TableChecks.{AreKept, IsChecked, faulty_from, faulty_at_start, header_of};
 
 use crate::capacity::Capacities;
 use crate::costs::Costs;
@@ -74,8 +73,7 @@ impl TableCheck {
     ) -> Result<Checked<TableFault>, AllocError>
         requires { AreKept self.old }
         ensures kept { OnOk result (AreKept self.new) }
-        ensures checked { IfOk result (λ checked. (more : List Placed) →
-            faulty_from self.old (shown placed.now ∷ more) ≡ listed checked (faulty_from self.new more)) }
+        ensures checked { IfOk result (λ checked. IsChecked self.old (shown placed.now) checked self.new) }
     {
         match &mut self.held {
             Held::Demand(kept) => kept.check(alloc, placed),
