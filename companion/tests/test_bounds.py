@@ -51,7 +51,7 @@ def sparse(path: Path, octets: int) -> Path:
 MEASURED = """
 import atexit, re, sys
 from hsp.cli import main
-def end():
+def end() -> None:
     said = open("/proc/self/status").read()
     open(sys.argv[-1], "w").write(re.search("VmHWM:\\s*([0-9]+) kB", said)[1])
 atexit.register(end)
