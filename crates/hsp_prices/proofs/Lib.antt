@@ -1,0 +1,4 @@
+pub mod Bounding
+pub mod Catching
+pub mod Keeping
+pub mod Spread

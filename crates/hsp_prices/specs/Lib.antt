@@ -1,0 +1,4 @@
+pub mod Bounds
+pub mod ServerSets
+pub mod Kept
+pub mod Classes
