@@ -2,7 +2,6 @@
 
 from __future__ import annotations
 
-from collections.abc import Callable
 from pathlib import Path
 
 import pytest
@@ -16,9 +15,6 @@ from hsp.doctor.question import Draft, Mend, Question, Said
 from hsp.doctor.table_faults import numbered_row, open_quote
 
 from printed import assert_kept
-from test_sites import invoke
-
-Example = Callable[[str], Path]
 
 
 def text_of(lines: str, path: str = "demand.csv") -> Text:
@@ -68,13 +64,6 @@ def test_an_answer_that_cannot_be_written(tmp_path: Path) -> None:
     assert third and (third.why, third.remedy) == ("a folder, not a file", "give the file in it")
 
 
-def test_an_empty_table_has_no_second_line(example: Example) -> None:
-    folder = example("two-sites")
-    (folder / "capacity.csv").write_text("site,server_id,capacity\n")
-    said = invoke("doctor", folder, status=1).stdout
-    assert "/capacity.csv:1:1\n1 | site,server_id,capacity\n" in said
-
-
 @pytest.mark.parametrize(
     "text, why, mended",
     [
@@ -103,24 +92,12 @@ def test_a_number_that_is_none_is_mended(text: str, why: str, mended: str) -> No
         assert found.remedy.split(",")[0].split(";")[0] == f"write {mended}"
 
 
-@pytest.mark.parametrize(
-    "room, message",
-    [
-        (600, "the demand is far above all capacity"),
-        (629, ""),
-        (6_282_000, ""),
-        (6_282_001, "all capacity is far above the demand"),
-    ],
-)
-def test_units_are_doubted_from_ten_times_and_a_thousand_times_on(example: Example, room: int, message: str) -> None:
-    """6,282 queries are asked: ten times 628.2, and a thousandth of 6,282,000."""
-    folder = example("two-sites")
-    header, *rows = (folder / "capacity.csv").read_text().splitlines()
-    rooms = [room // 5 + (at < room % 5) for at in range(5)]
-    lines = [",".join([*row.split(",")[:2], str(own)]) for row, own in zip(rows, rooms, strict=True)]
-    (folder / "capacity.csv").write_text("\n".join([header, *lines]) + "\n")
-    found = [it for it in invoke("doctor", folder).stdout.splitlines() if " far above " in it]
-    assert found == ([f"warning: {message}"] if message else [])
+@pytest.mark.parametrize("name", ["count", "cost", "capacity", "server_id", "front"])
+def test_what_is_advised_of_a_number(name: str) -> None:
+    """Of a number beyond its limit each column has words of its own."""
+    texts = ["99999999999", " 5", "x", "1.50", "2,5", "0,4", "2.5", "-7", "3k", "1,5M"]
+    found = [advice(it, name) for it in texts]
+    assert_kept("parts", f"advice: {name}", "".join(f"{text!r}: {it}\n" for text, it in zip(texts, found)))
 
 
 def test_faults_that_no_small_file_has() -> None:
@@ -132,7 +109,7 @@ def test_faults_that_no_small_file_has() -> None:
     for name, said in (("far", far), ("long", long), ("memory", memory), ("other", other), ("nothing", Said(9, ""))):
         found = faults.explained(question, said, None)
         assert found.finding and not found.is_whole_row and list(found.mended) == []
-        assert_kept("faults", f"part: {name}", "\n".join(lines([found.finding])))
+        assert_kept("parts", f"part: {name}", "\n".join(lines([found.finding])))
 
 
 def test_octets_of_files_are_counted_where_memory_ran_out() -> None:

@@ -1,4 +1,5 @@
-"""Folders that are broken at random: the doctor explains each fault of hsplan, and finds none where hsplan has none."""
+"""Folders and words that are broken at random: the doctor explains each fault of hsplan, and finds none where hsplan has
+none."""
 
 from __future__ import annotations
 
@@ -14,11 +15,13 @@ from pathlib import Path
 import pytest
 
 from hsp.base.programs import Programs
-from hsp.doctor import Examined, examined
+from hsp.doctor import Examined, examined, examined_words
+from hsp.doctor.commands import line_of
 from hsp.doctor.printing import json_of, lines
 
 from conftest import TOP
 from test_broken import FILES, break_folder
+from test_printed import FILES as OPTIONS
 
 FOLDERS = 250
 SIGNS = "0123456789,;.\"'[]=#/- \t\r\nabcXYZ\x00\x7fé\ufeff\u200b€"
@@ -97,3 +100,58 @@ def test_folders_that_are_broken_at_random(
     for folder, it in zip(folders, found):
         check(folder, it)
     assert {it.status for it in found} == {0, 1, 5} if spoil is break_folder else {0, 1}
+
+
+COMMANDS = [
+    f"check {OPTIONS} --plan plan.txt",
+    f"dispatch {OPTIONS} --plan plan.txt --log log.csv",
+    f"dispatch {OPTIONS} --plan plan.txt --log log.csv --fronts 2",
+    f"report {OPTIONS} --plan plan.txt --kind load",
+    "kinds --settings settings.toml --costs costs.csv --log log.csv",
+    "places --settings settings.toml --log log.csv",
+    "locate --settings settings.toml 20.500.1234/film-5",
+    "site paris.site",
+    "faults --demand demand.csv",
+]
+
+
+def spoilt(words: list[str], draw: random.Random) -> list[str]:
+    """Words of which some are lost, doubled, misspelt or added."""
+    found = list(words)
+    for _ in range(draw.randint(0, 3)):
+        at = draw.randrange(len(found))
+        way = draw.randrange(6)
+        if way == 0 and len(found) > 1:
+            del found[at]
+        elif way == 1:
+            found.insert(at, draw.choice(found))
+        elif way == 2:
+            found[at] = found[at][:-1] + draw.choice(("", "s", "x", "="))
+        elif way == 3:
+            found.insert(at, draw.choice(("--", "-", "--help", "-v", "=", "", "x", "--kind", "\u00e9", ".", "--log")))
+        elif way == 4:
+            found[at] = found[at].replace("--", "-")
+        else:
+            found[at] = found[at].upper()
+    return found
+
+
+def test_words_that_are_spoilt_at_random(example: Callable[[str], Path], monkeypatch: pytest.MonkeyPatch) -> None:
+    """The doctor's status is hsplan's, and no fault of words is explained by a sentence that fits any."""
+    monkeypatch.chdir(example("two-sites"))
+    with open("plan.txt", "wb") as plan:
+        subprocess.run([os.environ["HSPLAN"], "plan", *OPTIONS.split()], stdout=plan, check=True)
+    draw = random.Random(53)
+    for _ in range(150):
+        words = spoilt(draw.choice(COMMANDS).split(), draw)
+        line = line_of(words)
+        path = os.environ[line.program.upper().replace("-", "_")]
+        own = [it.text for it in line.words]
+        ended = subprocess.run([path, *own], stdin=subprocess.DEVNULL, capture_output=True, text=True)
+        found = examined_words(words, Programs())
+        assert found.status == (ended.returncode if ended.returncode != 3 else bool(found.errors)), words
+        said = {it.said for it in found.errors}
+        first = ended.stderr.strip().partition(": ")[2] if ended.returncode else ""
+        assert not first or ended.returncode == 3 or first in said, (words, first, said)
+        for it in found.errors:
+            assert "these words are no command" not in it.message and "FAULTS" not in it.remedy, (words, it)

@@ -1,8 +1,9 @@
-"""What commands print and write over services of many kinds, word for word as printed/commands.txt and printed/pages.txt
-keep it. Each case there is a transcript: its commands run in turn in an empty folder.
+"""What commands print and write over services of many kinds, word for word as the transcripts of the folder `printed`
+keep it. Each head has a transcript: its commands run in turn in an empty folder, after those above the first head.
 
-`hsp WORDS` is run here, and `show FILE..`, `page FILE`, `write SERVICE FOLDER`. Other commands are run by bash, which
-finds the examples by $EXAMPLES.
+`hsp WORDS` is run here, and `show FILE..`, `page FILE`, `write SERVICE FOLDER`. Other commands are run by bash, where
+`hsp`, `hsplan` and `hsplan-stream` are there too. The examples are in $EXAMPLES, and $FILES are the options of hsplan
+for a folder. Behind what hsp doctor finds stands each finding's place with its end, and what hsplan says of it.
 """
 
 from __future__ import annotations
@@ -11,6 +12,7 @@ import os
 import re
 import shlex
 import subprocess
+import sys
 from pathlib import Path
 
 import pytest
@@ -18,18 +20,37 @@ from click.testing import CliRunner
 
 from lib import examples, transcripts
 from hsp import __version__
-from hsp.cli import main
+from hsp.base.text import say, visible
+from hsp.cli import main, shown_findings
+from hsp.doctor import Examined
 
-from conftest import TOP
-from printed import assert_kept, kept
+from conftest import TOP, variables
+from printed import assert_kept, heads, kept
 from test_units import one_machine
+
+TRANSCRIPTS = ("commands", "pages", "mistakes", "doubts", "words", "faults", "rows")
+# What bash has to run: words that go on, other streams, and octets that are no text.
+OF_BASH = re.compile(r"[|<>;&\n]|\$['(]")
+# Commands of bash.
+FUNCTIONS = {
+    "hsp": f'{sys.executable} -m hsp "$@"',
+    "hsplan": '"$HSPLAN" "$@"',
+    "hsplan-stream": '"$HSPLAN_STREAM" "$@"',
+    "octets": "perl -pe 's/\\\\x(..)/chr hex $1/ge'",
+    "terminal": """NO_COLOR=1 script -qec "$*" /dev/null | tr -d '\\r'""",
+}
+FILES = "--settings settings.toml --demand demand.csv --costs costs.csv --capacity capacity.csv"
 
 
 def ran(words: list[str]) -> str:
     """What a command of hsp prints, and its status where that isn't 0."""
     result = CliRunner().invoke(main, words, prog_name="hsp")
     assert result.exception is None or isinstance(result.exception, SystemExit), repr(result.exception)
-    return result.output + (f"status {result.exit_code}\n" if result.exit_code else "")
+    return result.output + status_of(result.exit_code)
+
+
+def status_of(number: int) -> str:
+    return f"status {number}\n" if number else ""
 
 
 def page(path: str) -> str:
@@ -54,18 +75,24 @@ def written(service: str, folder: str) -> str:
     return ""
 
 
+def by_bash(command: str) -> str:
+    functions = {f"BASH_FUNC_{name}%%": f"() {{ {body}; }}" for name, body in FUNCTIONS.items()}
+    environment = variables(SHELL="/bin/bash", **functions)
+    done = subprocess.run(
+        ["bash", "-ec", command], env=environment, stdout=subprocess.PIPE, stderr=subprocess.STDOUT, text=True
+    )
+    return done.stdout + status_of(done.returncode)
+
+
 def printed(command: str) -> str:
     """What a command of a transcript prints."""
-    name, *words = shlex.split(command) if "<<" not in command else ["bash"]
+    name = command.partition(" ")[0]
+    if name not in ("hsp", "show", "page", "write") or OF_BASH.search(command):
+        return by_bash(command)
+    words = shlex.split(os.path.expandvars(command))[1:]
     if name == "hsp":
         return ran(words)
-    if name in ("show", "page"):
-        return shown(words, name)
-    if name == "write":
-        return written(*words)
-    environment = dict(os.environ, EXAMPLES=str(TOP / "examples"))
-    done = subprocess.run(["bash", "-ec", command], env=environment, stdout=subprocess.PIPE, text=True, check=True)
-    return done.stdout
+    return written(*words) if name == "write" else shown(words, name)
 
 
 def transcript(text: str) -> str:
@@ -78,18 +105,25 @@ def ended(text: str) -> str:
     return text if text.endswith("\n") or not text else f"{text}\n"
 
 
+def with_ends(found: Examined, summary: str) -> None:
+    """Prints what hsp doctor prints, with a line for each finding."""
+    shown_findings(found, summary)
+    for it in found.findings:
+        say(f"at {visible(it.file)}:{it.line}:{it.column}-{it.end} {visible(it.said)}".rstrip())
+
+
 @pytest.fixture(autouse=True)
 def _alone(tmp_path: Path, monkeypatch: pytest.MonkeyPatch) -> None:
     """A folder of the test's own, at 27 November 2026, 09:00 UTC."""
-    monkeypatch.chdir(tmp_path)
-    monkeypatch.setenv("SOURCE_DATE_EPOCH", "1795770000")
+    (tmp_path / "here").mkdir()
+    monkeypatch.chdir(tmp_path / "here")
+    monkeypatch.setattr("hsp.cli.shown_findings", with_ends)
+    for name, value in (("SOURCE_DATE_EPOCH", "1795770000"), ("EXAMPLES", str(TOP / "examples")), ("FILES", FILES)):
+        monkeypatch.setenv(name, value)
 
 
-@pytest.mark.parametrize("name", kept("commands"))
-def test_what_is_printed_is_what_was_read(name: str) -> None:
-    assert_kept("commands", name, transcript(kept("commands")[name]))
-
-
-@pytest.mark.parametrize("name", kept("pages"))
-def test_a_page_is_the_one_that_was_read(name: str) -> None:
-    assert_kept("pages", name, transcript(kept("pages")[name]))
+@pytest.mark.parametrize("name, head", [(name, head) for name in TRANSCRIPTS for head in heads(name)])
+def test_what_is_printed_is_what_was_read(name: str, head: str) -> None:
+    before = kept(name)[""]
+    assert transcript(before) == before, f"{name}.txt: what stands above the first head"
+    assert_kept(name, head, transcript(kept(name)[head]))
