@@ -709,14 +709,6 @@ def test_standard_input_is_a_log(tmp_path: Path) -> None:
         assert counts_of(done.stdout.decode()) == wanted(rows), done.stderr
 
 
-@pytest.mark.parametrize(
-    "words", [["demand", "-", "-", "--regions", "networks.csv"], ["sites", "-", "-"]], ids=" ".join
-)
-def test_standard_input_is_read_once(hsp: Hsp, words: list[str]) -> None:
-    said = hsp(*words, status=2).stderr.splitlines()[-1]
-    assert said.endswith("- stands twice, and standard input is read once")
-
-
 def test_a_row_that_hsplan_refuses_is_shown() -> None:
     """By its region and its handle, also where it isn't the first one. A database may name regions so."""
     tally = Tally(Programs())

@@ -17,7 +17,6 @@ from conftest import TOP
 EXAMPLE = TOP / "examples" / "two-sites"
 INPUTS = [f"--{it}={EXAMPLE}/{it}.{'toml' if it == 'settings' else 'csv'}" for it in ("settings", "demand", "costs")]
 INPUTS.append(f"--capacity={EXAMPLE}/capacity.csv")
-LIMITS = (TOP / "docs" / "use" / "LIMITS.md").read_text()
 
 
 @pytest.fixture(scope="module")
@@ -48,24 +47,6 @@ def name_of(words: list[str]) -> str:
     return Path(words[0]).name.replace("_", "-")
 
 
-def test_a_limit_of_files_ends_by_its_signal(plan: Path, log: Path, tmp_path: Path) -> None:
-    for words in (answer(plan, log), dispatch(plan, log)):
-        for trap, ends in (("", -signal.SIGXFSZ), ('trap "" XFSZ; ', 5)):
-            shell = ["bash", "-c", f'{trap}ulimit -f 1; exec "$@" > {tmp_path}/out', "bash", *words]
-            done = subprocess.run(shell, capture_output=True, text=True)
-            assert (done.returncode, (tmp_path / "out").stat().st_size) == (ends, 1024)
-            assert done.stderr == (f"{name_of(words)}: log: WriteFailed\n" if ends == 5 else "")
-    assert "SIGXFSZ, without a line; a shell shows 153" in LIMITS and signal.SIGXFSZ + 128 == 153
-
-
-def test_a_full_output_is_one_line(plan: Path, log: Path) -> None:
-    full = "write failed"
-    for words, said in ((answer(plan, log), "log: WriteFailed"), ([program("hsplan"), "plan", *INPUTS], full)):
-        with open("/dev/full", "wb") as out:
-            done = subprocess.run(words, stdout=out, stderr=subprocess.PIPE, text=True)
-        assert (done.returncode, done.stderr) == (5, f"{name_of(words)}: {said}\n")
-
-
 def test_a_pipe_that_does_not_block_gets_a_beginning(plan: Path, log: Path) -> None:
     for words in (answer(plan, log), dispatch(plan, log)):
         whole = subprocess.run(words, capture_output=True).stdout
@@ -94,24 +75,3 @@ def test_a_small_stack_suffices(plan: Path, log: Path) -> None:
         assert subprocess.run(shell, capture_output=True).returncode == 0
         small = ["bash", "-c", 'ulimit -s 64; exec "$@"', "bash", *words]
         assert subprocess.run(small, capture_output=True).returncode in (0, -signal.SIGSEGV)
-
-
-def test_a_carriage_return_by_itself(plan: Path, tmp_path: Path) -> None:
-    log, places = tmp_path / "log.csv", tmp_path / "places.csv"
-    log.write_bytes(b"region,handle\neu,20.500.1/a\reu,20.500.1/b\n")
-    places.write_bytes(b"handle\n20.500.1/a\r20.500.1/b\n")
-    stream, settings, costs = program("hsplan-stream"), INPUTS[0], INPUTS[2]
-
-    def printed(words: list[str]) -> tuple[int, bytes]:
-        done = subprocess.run(words, capture_output=True)
-        return done.returncode, done.stdout
-
-    kinds = [stream, "kinds", settings, costs, f"--log={log}"]
-    assert printed(kinds) == (0, b"region,handle,count\neu,20.500.1/a,1\neu,20.500.1/b,1\n")
-    assert printed(dispatch(plan, log)) == (0, b"unknown\nunknown\n")
-    assert printed(answer(plan, log)) == (0, b"refused Fields\n")
-    assert printed([stream, "places", settings, f"--log={places}"])[0] == 1
-    table = tmp_path / "demand.csv"
-    table.write_bytes((EXAMPLE / "demand.csv").read_bytes().replace(b"\n", b"\r"))
-    same = [INPUTS[0], f"--demand={table}", *INPUTS[2:]]
-    assert printed([program("hsplan"), "plan", *same]) == (0, plan.read_bytes())

@@ -64,11 +64,6 @@ def test_options_have_their_defaults_and_bounds() -> None:
     assert {name: it for name, command in commands(main) if (it := stated(command))} == OPTIONS
 
 
-@pytest.mark.parametrize("option, refused", [("--points", "1"), ("--points", "101"), ("--step", "0.01")])
-def test_an_option_beyond_its_bounds_is_refused(tmp_path: Path, option: str, refused: str) -> None:
-    assert "is not in the range" in invoke("whatif", tmp_path, option, refused, status=2).stderr
-
-
 def test_a_new_service_has_sites_that_answer_both_ways(tmp_path: Path) -> None:
     """Servers 1, 2 and so on, each for administration and resolution (3), over UDP (0) and TCP (1), at the port 2641
     (RFC 3651, section 3.2.2)."""

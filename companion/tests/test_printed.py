@@ -1,5 +1,6 @@
 """What commands print and write over services of many kinds, word for word as the transcripts of the folder `printed`
-keep it. Each head has a transcript: its commands run in turn in an empty folder, after those above the first head.
+keep it. Each head has a transcript: its commands run in turn in an empty folder, after those above the first head. `! `
+marks a line of standard error.
 
 `hsp WORDS` is run here, and `show FILE..`, `page FILE`, `write SERVICE FOLDER`. Other commands are run by bash, where
 `hsp`, `hsplan` and `hsplan-stream` are there too. The examples are in $EXAMPLES, and $FILES are the options of hsplan
@@ -28,7 +29,7 @@ from conftest import TOP, variables
 from printed import assert_kept, heads, kept
 from test_units import one_machine
 
-TRANSCRIPTS = ("commands", "pages", "mistakes", "doubts", "words", "faults", "rows")
+TRANSCRIPTS = ("commands", "pages", "mistakes", "doubts", "words", "faults", "rows", "runs", "streams", "sites")
 # What bash has to run: words that go on, other streams, and octets that are no text.
 OF_BASH = re.compile(r"[|<>;&\n]|\$['(]")
 # Commands of bash.
@@ -43,14 +44,16 @@ FILES = "--settings settings.toml --demand demand.csv --costs costs.csv --capaci
 
 
 def ran(words: list[str]) -> str:
-    """What a command of hsp prints, and its status where that isn't 0."""
-    result = CliRunner().invoke(main, words, prog_name="hsp")
-    assert result.exception is None or isinstance(result.exception, SystemExit), repr(result.exception)
-    return result.output + status_of(result.exit_code)
+    """What a command of hsp prints."""
+    done = CliRunner(mix_stderr=False).invoke(main, words, prog_name="hsp")
+    assert done.exception is None or isinstance(done.exception, SystemExit), repr(done.exception)
+    return streams(done.stdout, done.stderr, done.exit_code)
 
 
-def status_of(number: int) -> str:
-    return f"status {number}\n" if number else ""
+def streams(out: str, err: str, status: int) -> str:
+    """Both streams, and the status where it isn't 0."""
+    marked = "".join(f"! {line}\n" for line in ended(err).split("\n")[:-1])
+    return ended(out) + marked + (f"status {status}\n" if status else "")
 
 
 def page(path: str) -> str:
@@ -78,10 +81,8 @@ def written(service: str, folder: str) -> str:
 def by_bash(command: str) -> str:
     functions = {f"BASH_FUNC_{name}%%": f"() {{ {body}; }}" for name, body in FUNCTIONS.items()}
     environment = variables(SHELL="/bin/bash", **functions)
-    done = subprocess.run(
-        ["bash", "-ec", command], env=environment, stdout=subprocess.PIPE, stderr=subprocess.STDOUT, text=True
-    )
-    return done.stdout + status_of(done.returncode)
+    done = subprocess.run(["bash", "-ec", command], env=environment, capture_output=True)
+    return streams(done.stdout.decode(), done.stderr.decode(), done.returncode)
 
 
 def printed(command: str) -> str:

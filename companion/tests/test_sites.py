@@ -4,12 +4,10 @@ from __future__ import annotations
 
 import base64
 import hashlib
-import itertools
 import json
 import os
 import random
 import subprocess
-import sys
 from concurrent.futures import ThreadPoolExecutor
 from pathlib import Path
 from typing import Any
@@ -23,7 +21,7 @@ from hsp.base.programs import Programs
 from hsp.cli import main
 from hsp.plans.service import read_service
 
-from conftest import Hsp, variables
+from conftest import Hsp
 
 ADDRESSES = examples.TWO_SITES
 PARIS = examples.site_octets("paris", 7, ADDRESSES["paris"])
@@ -247,60 +245,6 @@ def test_what_is_left_out_is_named_by_its_path(tmp_path: Path) -> None:
     assert octets.endswith(bytes.fromhex("00000000" "00000001" "0001" "00000001"))
 
 
-@pytest.mark.parametrize(
-    "octets, says",
-    [
-        (b"", "neither JSON"),
-        (b"{", "not whole JSON"),
-        (b"[" * 100000, "not whole JSON"),
-        (b'{"responseCode":100,"handle":"0.NA/1"}', "the code 100 \\(no such handle\\)"),
-        (b'{"responseCode":1,"values":[]}', "it has no values"),
-        (answer(ADMIN), "its values are of the types 'HS_ADMIN'"),
-        (b"<html></html>", "a page, not JSON"),
-        (b"[]", "no site is in it"),
-        (b"[" * 700 + b"]" * 700, "nested too deep|no site is in it"),
-        (b'{"servers":' + b"[" * 700 + b"]" * 700 + b"}", "isn't an object"),
-        (b'{"a":1}', "neither values of a handle nor servers of a site"),
-        (b'{"servers":[]}', "no servers"),
-        (b'{"servers":[{"serverId":1}]}', "servers\\[0\\]: no address"),
-        (b'{"servers":[{"serverId":1,"address":"www.example"}]}', "isn't an IP address"),
-        (b'{"servers":[{"serverId":4294967296,"address":"192.0.2.1"}]}', "isn't a whole number up to"),
-        (b'{"servers":[{"serverId":true,"address":"192.0.2.1"}]}', "isn't a whole number up to"),
-        (b'{"servers":[{"serverId":1,"address":"192.0.2.1"}],"hashOption":3}', "isn't 0, 1 or 2"),
-        (b'{"servers":{"a":1}}', "isn't a list"),
-        (b'{"servers":[{"serverId":1,"address":"::1"}],"hashFilter":{"a":1}}', "hashFilter: {'a': 1} isn't text"),
-        (b'{"servers":[{"serverId":1,"address":"::1","interfaces":[{"port":-1}]}]}', "interfaces[0].port: -1 isn't"),
-        (b'{"servers":[{"serverId":1,"address":"::1"}],"protocolVersion":"2"}', "isn't a version such as 2.11"),
-        (b'{"servers":[{"serverId":1,"address":"::1"}],"primarySite":"yes"}', "is neither true nor false"),
-        (
-            b'{"servers":[{"serverId":1,"address":"::1"},{"serverId":1,"address":"::2"}]}',
-            "servers[0].serverId and servers[1].serverId are 1; hsplan refuses 'given': build: ServerIdTwice site 0; "
-            "give each server its own identifier",
-        ),
-        (
-            examples.site_octets("paris", 7, ADDRESSES["paris"][:1] * 3).replace(
-                b"\0\0\0\3" + bytes(12), b"\0\0\0\1" + bytes(12)
-            ),
-            "server 1 of its record and server 3 of its record are 1; hsplan refuses 'given': build: ServerIdTwice",
-        ),
-        (b'{"servers":[{"serverId":1,"address":"::1"}],"attributes":[{"name":"\\ud800"}]}', "half a character"),
-        (PARIS[:-1], "hsplan says Truncated"),
-        (PARIS + b"\0", "hsplan says Trailing"),
-        (PARIS.hex().encode()[:-2], "hsplan says Truncated"),
-        (b"\xff" * 500, "hsplan says"),
-    ],
-    ids=itertools.count(),
-)
-def test_what_is_no_site_is_refused_in_one_line(tmp_path: Path, octets: bytes, says: str) -> None:
-    path = tmp_path / "given"
-    path.write_bytes(octets)
-    result = invoke("sites", path, "--into", tmp_path, status=1)
-    assert result.stdout == "" and result.stderr.count("\n") == 1
-    assert result.stderr.startswith(f"hsp: {path}: ")
-    assert any(part.replace("\\", "") in result.stderr for part in says.split("|")), result.stderr
-    assert os.listdir(tmp_path) == ["given"]
-
-
 def test_a_server_that_stands_twice_in_an_answer(tmp_path: Path) -> None:
     """The entries are named by their paths from the top of the JSON, in the second site of the answer too."""
     fine, twice = site_json("paris", 7), site_json("reston", 8)
@@ -375,99 +319,6 @@ def test_places_of_what_is_written(tmp_path: Path) -> None:
             assert lines == "".join(f"{it} {place(handle, n)} {place(handle, n) + 1}\n" for it, n in sizes.items())
 
 
-def test_sites_are_added_once_and_nothing_is_lost(tmp_path: Path) -> None:
-    settings, capacity = tmp_path / "settings.toml", tmp_path / "capacity.csv"
-    settings.write_text("# mine", encoding="utf-8")
-    capacity.write_text("site,server_id,capacity\nparis,1,77", encoding="utf-8")
-    (tmp_path / "paris.bin").write_bytes(PARIS)
-    (tmp_path / "reston.bin").write_bytes(RESTON)
-    invoke("sites", tmp_path / "paris.bin", "--into", tmp_path, "--capacity", "500")
-    assert settings.read_text().startswith("# mine\n\n[[site]]\n")
-    assert capacity.read_text() == "site,server_id,capacity\nparis,1,77\nparis,2,500\n"
-    before = settings.read_bytes(), capacity.read_bytes()
-    assert invoke("sites", tmp_path / "paris.bin", "--into", tmp_path).stdout.endswith("nothing is added\n")
-    line = invoke("sites", tmp_path / "reston.bin", "--into", tmp_path, "--name", "paris", status=1).stderr
-    assert "paris is there with another record" in line
-    assert (settings.read_bytes(), capacity.read_bytes()) == before
-    lines = invoke("sites", tmp_path / "reston.bin", "--into", tmp_path).stdout.splitlines()
-    assert lines[:4] == [
-        f"reston  3 servers by whole handle, from {tmp_path}/reston.bin",
-        "    1 at 198.51.100.21",
-        "    2 at 198.51.100.22",
-        "    3 at 198.51.100.22",
-    ]
-    assert lines[-1].endswith("; 3 servers with the capacity 0: put in what each takes")
-    assert records(settings.read_text()) == [PARIS, RESTON]
-    assert capacity.read_text().endswith("reston,1,0\nreston,2,0\nreston,3,0\n")
-    assert sorted(os.listdir(tmp_path)) == ["capacity.csv", "paris.bin", "reston.bin", "settings.toml"]
-
-
-def test_a_folder_that_is_wrong_is_left_as_it_is(tmp_path: Path) -> None:
-    (tmp_path / "paris.bin").write_bytes(PARIS)
-    wrong = {
-        "settings.toml": ["[[site", "\udcff", "site = 3\n", "[[sites]]\n", '[[site]]\nname = "a"\nrecord = "00"\n'],
-        "capacity.csv": ["site,capacity\n", '"', "\udcff"],
-    }
-    for name, texts in wrong.items():
-        for text in texts:
-            (tmp_path / name).write_text(text, encoding="utf-8", errors="surrogateescape")
-            line = invoke("sites", tmp_path / "paris.bin", "--into", tmp_path, status=1).stderr
-            assert line.count("\n") == 1, line
-            assert sorted(os.listdir(tmp_path)) == sorted(["paris.bin", name])
-        (tmp_path / name).unlink()
-
-
-def test_names_are_of_one_site_each(tmp_path: Path) -> None:
-    (tmp_path / "paris.bin").write_bytes(PARIS)
-    (tmp_path / "reston.bin").write_bytes(RESTON)
-    both = [tmp_path / "paris.bin", tmp_path / "reston.bin"]
-    assert "two sites have the same name" in invoke("sites", *both, "--name", "reston", status=1).stderr
-    assert "2 names for 1 site" in invoke("sites", both[0], "--name", "a", "--name", "b", status=1).stderr
-    names = [it for it in invoke("sites", *both, "--name", "a").stdout.splitlines() if it.startswith("name")]
-    assert names == ['name = "a"', 'name = "reston"']
-    assert "; write --name a-b\n" in invoke("sites", both[0], "--name", "A b", status=1).stderr
-    for odd in ('a"b', "a\nb", "a b", "\udcff", ""):
-        for words in (["--into", tmp_path], []):
-            line = invoke("sites", both[0], "--name", odd, *words, status=1).stderr
-            says = (f"hsp: {both[0]}: hsplan refuses ", "hsp: hsplan refuses these files: ", "hsp: a name isn't text")
-            assert line.startswith(says), line
-            assert line.count("\n") == 1
-    assert "SiteTwice" in invoke("sites", both[0], "--into", two_of_a_name(tmp_path), status=1).stderr
-
-
-def two_of_a_name(tmp_path: Path) -> Path:
-    """A folder whose settings hsplan refuses."""
-    folder = tmp_path / "twice"
-    folder.mkdir()
-    (folder / "settings.toml").write_text(f'[[site]]\nname = "x"\nrecord = "{RESTON.hex()}"\n' * 2)
-    return folder
-
-
-def test_new_files_say_what_goes_into_them(hsp: Hsp, tmp_path: Path) -> None:
-    folder = tmp_path / "mine"
-    hsp("new", str(folder))
-    names = ["README.txt", "capacity.csv", "costs.csv", "demand.csv", "hsp.toml", "settings.toml"]
-    assert sorted(os.listdir(folder)) == names
-    assert "cost  0" in hsp("plan", str(folder), "--no-save").stdout
-    assert all(name in (folder / "README.txt").read_text() for name in names[1:])
-    before = {it.name: it.read_bytes() for it in folder.iterdir()}
-    line = hsp("new", str(folder), "--example", status=5).stderr
-    assert line == f"hsp: {folder}/settings.toml: it is there already, and no file is overwritten\n"
-    assert {it.name: it.read_bytes() for it in folder.iterdir()} == before
-
-
-def test_one_file_that_is_there_keeps_all_from_being_written(hsp: Hsp, tmp_path: Path) -> None:
-    (tmp_path / "costs.csv").symlink_to("nowhere")
-    assert "costs.csv: it is there already" in hsp("new", str(tmp_path), status=5).stderr
-    assert os.listdir(tmp_path) == ["costs.csv"]
-
-
-def test_an_address_is_not_opened(hsp: Hsp) -> None:
-    line = hsp("sites", "https://hdl.handle.net/api/handles/0.NA/20.1?a=1&b=2", status=1).stderr
-    assert line.endswith(": curl -o answer.json 'https://hdl.handle.net/api/handles/0.NA/20.1?a=1&b=2'\n")
-    assert "hsp opens no connection" in line and line.count("\n") == 1
-
-
 def test_the_example_plans_at_once(hsp: Hsp, tmp_path: Path) -> None:
     folder = tmp_path / "example"
     hsp("new", str(folder), "--example")
@@ -481,16 +332,6 @@ def test_the_example_plans_at_once(hsp: Hsp, tmp_path: Path) -> None:
         ("north", 2, "c0000202"),
         ("south", 1, "c6336401"),
     ]
-
-
-def test_a_full_disk_leaves_nothing_half_written(tmp_path: Path) -> None:
-    """A limit on the size of files stands for the full disk."""
-    folder = tmp_path / "mine"
-    script = f"ulimit -f 1; {sys.executable} -m hsp new {folder}"
-    environment = variables()
-    done = subprocess.run(["bash", "-c", script], capture_output=True, text=True, env=environment)
-    assert (done.returncode, done.stderr) == (5, f"hsp: {folder}/README.txt: File too large\n")
-    assert os.listdir(folder) == []
 
 
 def test_files_are_written_together_or_not_at_all(tmp_path: Path) -> None:
@@ -528,12 +369,6 @@ def test_a_link_stays_a_link_and_rights_stay_as_they_are(tmp_path: Path) -> None
         file.write(b"newer")
     assert ((tmp_path / "own").read_bytes(), (tmp_path / "own").stat().st_mode & 0o777) == (b"newer", 0o640)
     assert sorted(os.listdir(tmp_path)) == ["link", "own"]
-
-
-def test_standard_output_may_be_the_file(hsp_apart: Hsp, tmp_path: Path) -> None:
-    folder = tmp_path / "example"
-    hsp_apart("new", str(folder), "--example")
-    assert hsp_apart("plan", str(folder), "-o", "/dev/stdout").stdout.startswith("HSPLAN 1\nPLAN\n")
 
 
 def test_a_key_twice_is_refused(tmp_path: Path) -> None:

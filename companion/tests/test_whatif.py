@@ -40,26 +40,6 @@ def test_each_case_is_a_plan_of_hsplan(hsp: Hsp, example: Example) -> None:
         assert int(it["lack"]) == certificate.demand - certificate.capacity > 0
 
 
-def test_sizes_of_a_server(hsp: Hsp, example: Example) -> None:
-    folder = example("two-sites")
-    found = cases(hsp, str(folder), "--server", "paris:2", "--from", "1500", "--to", "1520", "--points", "3")
-    assert [it["room"] for it in found] == ["1500", "1510", "1520"]
-    assert [it["change"] for it in found] == ["720", "0", "-720"]
-
-
-@pytest.mark.parametrize(
-    "words, remedy",
-    [
-        ("x", "write site:identifier, as paris:1"),
-        ("paris2", "did you mean paris:2?"),
-        ("Paris:2", "did you mean paris:2?"),
-        ("paris:7", "paris has 1 and 2"),
-    ],
-)
-def test_no_such_server(hsp: Hsp, example: Example, words: str, remedy: str) -> None:
-    assert remedy in hsp("whatif", str(example("two-sites")), "--server", words, status=5).stderr
-
-
 def changes_of(hsp: Hsp, folder: Path) -> dict[str, int]:
     return {it["what"]: abs(int(it["change"])) for it in cases(hsp, str(folder)) if it["change"]}
 
@@ -101,15 +81,6 @@ def test_charts_are_svg(hsp: Hsp, example: Example) -> None:
         chart = folder / "chart.svg"
         hsp("whatif", str(folder), *words, "--chart", str(chart))
         assert ElementTree.parse(chart).getroot().tag.endswith("svg")
-
-
-def test_one_query_is_singular(hsp: Hsp, example: Example) -> None:
-    """In base the plan lacks room for two queries without W, and for one without E."""
-    lines = hsp("whatif", str(example("base"))).stdout.splitlines()
-    assert [it.strip() for it in lines if "short by" in it] == [
-        "W                          short by 2 queries",
-        "E                          short by 1 query",
-    ]
 
 
 def test_more_room_is_more_by_the_step(hsp: Hsp, example: Example) -> None:
