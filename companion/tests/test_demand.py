@@ -7,7 +7,6 @@ import csv
 import gzip
 import io
 import ipaddress
-import itertools
 import json
 import lzma
 import os
@@ -127,10 +126,6 @@ FORMS: dict[str, tuple[list[str], Callable[[Asked], str], list[str]]] = {
 }
 
 
-# A log that is packed and then damaged.
-PLAIN = "".join(f"{server_line(it)}\n" for it in asked(999, 20)).encode()
-
-
 def regions_file(tmp_path: Path) -> str:
     path = tmp_path / "networks.csv"
     path.write_text("network,region\n" + "".join(f"{it},{region}\n" for it, region in NETWORKS.items()))
@@ -226,41 +221,6 @@ def test_what_is_skipped_is_counted_with_its_first_line(tmp_path: Path) -> None:
     assert "a handle of another prefix" in only.stderr
 
 
-def test_operations_of_a_handle_server_that_are_no_resolutions(tmp_path: Path) -> None:
-    rows = asked(50, 11)
-    lines = [server_line(it) for it in rows] + [server_line(rows[0]).replace(" 1 1 3ms ", " 101 1 3ms ")] * 3
-    (tmp_path / "log").write_text("\n".join(lines), encoding="utf-8")
-    result = invoke("demand", tmp_path / "log", "--regions", regions_file(tmp_path))
-    assert counts_of(result.stdout) == wanted(rows)
-    assert "  3  another operation than a resolution; first " in result.stderr
-
-
-def test_escapes_of_a_proxy_log_are_undone(tmp_path: Path) -> None:
-    lines = [
-        '10.1.2.3 - - [x] "GET /20.1/\\xc3\\xa9 HTTP/1.1" 302 -',
-        '10.1.2.3 - - [x] "GET /20.1/a\\"b HTTP/1.1" 302 -',
-        '10.1.2.3 - - [x] "GET http://hdl.example/20.1/a%22b HTTP/1.1" 302 -',
-        '10.1.2.3 - - [x] "HEAD /20.1/a\\\\b?c" 302 -',
-    ]
-    (tmp_path / "log").write_text("\n".join(lines), encoding="utf-8")
-    result = invoke("demand", tmp_path / "log", "--regions", regions_file(tmp_path))
-    assert counts_of(result.stdout) == {("eu", "20.1/é"): 1, ("eu", '20.1/a"b'): 2, ("eu", "20.1/a\\b"): 1}
-
-
-def test_paths_of_proxies(tmp_path: Path) -> None:
-    paths = [
-        "20.1/a/b",
-        "/20.1/a/b",
-        "https://hdl.example/20.1/a%2Fb?x",
-        "//api/handles/20.1/a/b",
-        "/doi:20.1/a/b",
-        "/HDL:20.1/a/b",
-    ]
-    (tmp_path / "log").write_text("client,url\n" + "".join(f"10.1.2.3,{it}\n" for it in paths))
-    words = ("demand", tmp_path / "log", "--regions", regions_file(tmp_path), "--path", "url")
-    assert counts_of(invoke(*words).stdout) == {("eu", "20.1/a/b"): len(paths)}
-
-
 def random_networks(draw: random.Random) -> dict[str, str]:
     """Networks of both kinds, many of them inside others."""
     found = {}
@@ -349,89 +309,6 @@ def test_regions_of_a_maxmind_database(tmp_path: Path) -> None:
         path.write_bytes(cut)
         result = invoke("demand", tmp_path / "log", "--regions", path, status=1)
         assert result.stderr.startswith("hsp: ") and result.stderr.count("\n") == 1
-
-
-@pytest.mark.parametrize(
-    "table, says",
-    [
-        (b"", "line 1: the header isn't network,region"),
-        (b"region,network\n", "line 1: the header isn't network,region"),
-        (b"network,region\n10.0.0.0/8\n", "line 2: 1 field in place of network,region"),
-        (b"network,region\n\n10.0.0.0/33,eu\n", "line 3: '10.0.0.0/33' isn't a network such as"),
-        (b"network,region\n10.0.0.0/x,eu\n", "isn't a network such as"),
-        (b"network,region\n10.0.0.1/8,eu\n", "begins in the middle of a network of this length; write 10.0.0.0/8\n"),
-        (b"network,region\n10.1.0.0/255.255.0.0,eu\n", "such as 192.0.2.0/24; write 10.1.0.0/16\n"),
-        (b"network,region\n10.1.2.3/255.255.0.0,eu\n", "such as 192.0.2.0/24; write 10.1.0.0/16\n"),
-        (b"network,region\n2001:db8::1/32,eu\n", "a network of this length; write 2001:db8::/32\n"),
-        (
-            b"network,region\n192.0.2.1,us\n10.0.0.0/8,eu\n\n10.0.0.0/8,us\n",
-            "line 5: 10.0.0.0/8 has two regions, 'us' here and 'eu' in line 3; take one of the lines out",
-        ),
-        (b"network,region\n10.0.0.0/8,\n", "line 2: no region"),
-        (b"network,region\n10.0.0.0/8,e\xff\n", "line 2: not UTF-8"),
-        (b'network,region\n10.0.0.0/8,"eu\n', "line 2: "),
-        (
-            b"network,region\n10.0.0.0/8,eu\n10.1.0.0/16,EU West\n192.0.2.0/24,EU West\n",
-            "networks.csv: line 3: hsplan refuses the region 'EU West': BadName; a name has only ASCII letters",
-        ),
-        (
-            b"network,region\n" + b"".join(b"10.%d.0.0/16,r%d\n" % (it, it) for it in range(99)) + b"::/0,\xc3\xa9\n",
-            "line 101: hsplan refuses the region '\\xe9': BadName; ",
-        ),
-    ],
-    ids=itertools.count(),
-)
-def test_tables_of_networks_that_are_refused(tmp_path: Path, table: bytes, says: str) -> None:
-    (tmp_path / "networks.csv").write_bytes(table)
-    (tmp_path / "log").write_text(server_line(Asked("10.1.2.3", "", "20.1/a")))
-    words = ("demand", tmp_path / "log", "--regions", tmp_path / "networks.csv", "-o", tmp_path / "out")
-    line = invoke(*words, status=1).stderr
-    assert says in line and line.count("\n") == 1
-    assert sorted(os.listdir(tmp_path)) == ["log", "networks.csv"]
-
-
-def test_a_region_that_is_no_name_is_refused_before_the_log_is_read(tmp_path: Path) -> None:
-    """Here the log would be refused, too. A table may have more regions than a demand has: a log seldom has all."""
-    (tmp_path / "networks.csv").write_text("network,region\n10.0.0.0/8,EU West\n")
-    (tmp_path / "log").write_bytes(b"\xff\xfeh\0i\0")
-    words = ("demand", tmp_path / "log", "--regions", tmp_path / "networks.csv")
-    assert "networks.csv: line 2: hsplan refuses the region 'EU West'" in invoke(*words, status=1).stderr
-    many = "".join(f"10.{it}.0.0/16,r{it}\n" for it in range(200))
-    (tmp_path / "networks.csv").write_text("network,region\n" + many)
-    assert "UTF-16" in invoke(*words, status=1).stderr
-    line = invoke(*words, "--elsewhere", "the rest", status=1).stderr
-    assert line.startswith("hsp: --elsewhere: hsplan refuses the region 'the rest': BadName; ")
-
-
-@pytest.mark.parametrize(
-    "octets, says",
-    [
-        (b"", "it has no line"),
-        (b"\n\r\n", "it has no line"),
-        (b"\xff\xfeh\0i\0", "line 1: this text is in UTF-16"),
-        (b"hello\nworld\n", "line 1: a log of no known form"),
-        (bytes(range(256)) * 9, "a log of no known form"),
-        (b"time,address\n1,2\n", "a log of no known form"),
-        (gzip.compress(PLAIN)[:-9], "it can't be unpacked further"),
-        (gzip.compress(PLAIN)[:-8] + b"\0" * 8, "it can't be unpacked further"),
-        (gzip.compress(PLAIN)[:12], "line 1: it can't be unpacked further"),
-        (b"\x1f\x8b" + b"\0" * 30, "line 1: it can't be unpacked further"),
-        (bz2.compress(PLAIN)[:-9], "it can't be unpacked further"),
-        (bz2.compress(PLAIN)[:10] + b"\0" * 60, "it can't be unpacked further"),
-        (lzma.compress(PLAIN)[:-30], "it can't be unpacked further"),
-        (lzma.compress(PLAIN)[:20] + b"\xff" * 60, "it can't be unpacked further"),
-        (b'203.0.113.1 - - [x] "GET /20.1/a HTTP/1.1" 302 -\n', "1  no region for the client's address; first "),
-    ],
-    ids=itertools.count(),
-)
-def test_logs_without_a_query_are_refused_in_one_line(tmp_path: Path, octets: bytes, says: str) -> None:
-    (tmp_path / "log").write_bytes(octets)
-    (tmp_path / "demand.csv").write_text("mine")
-    words = ("demand", tmp_path / "log", "--regions", regions_file(tmp_path), "--into", tmp_path)
-    result = invoke(*words, "--log", tmp_path / "kept.csv", status=1)
-    assert says in result.stderr and result.stderr.count("\n") == 1 and result.stdout == ""
-    assert (tmp_path / "demand.csv").read_text() == "mine"
-    assert sorted(os.listdir(tmp_path)) == ["demand.csv", "log", "networks.csv"]
 
 
 def test_a_cut_log_names_the_line_that_it_ends_in(tmp_path: Path) -> None:
@@ -565,17 +442,6 @@ def test_a_count_that_is_too_large_needs_a_unit(tmp_path: Path) -> None:
     assert tally.demand(inputs_of(folder), 2)[0] == b"region,handle,count\neu,20.1/a,500500\n"
 
 
-def test_more_regions_than_hsplan_takes(tmp_path: Path) -> None:
-    (tmp_path / "networks.csv").write_text(
-        "network,region\n" + "".join(f"10.{it}.0.0/16,r{it}\n" for it in range(65))
-    )
-    lines = [server_line(Asked(f"10.{it}.0.1", "", "20.1/a")) for it in range(65)]
-    for number, status in ((64, 0), (65, 1)):
-        (tmp_path / "log").write_text("\n".join(lines[:number]))
-        result = invoke("demand", tmp_path / "log", "--regions", tmp_path / "networks.csv", status=status)
-        assert ("; join networks to at most 64 regions\n" in result.stderr) == (number == 65)
-
-
 def test_more_kinds_than_hsplan_takes(tmp_path: Path) -> None:
     """Sites of 5, 7, 8 and 9 servers have 2,520 kinds in a region, so that four regions have too many."""
     folder = service(tmp_path)
@@ -613,18 +479,6 @@ def test_a_plan_of_the_demand_answers_the_whole_log(hsp: Hsp, tmp_path: Path) ->
     done = subprocess.run(words, capture_output=True, text=True, check=True)
     assert done.stderr == f"assigned {len(rows)} spent 0 unknown 0\n"
     assert done.stdout.count("\n") == len(rows)
-
-
-def test_words_that_are_no_command(tmp_path: Path) -> None:
-    regions = regions_file(tmp_path)
-    (tmp_path / "log").write_text(server_line(Asked("10.1.2.3", "eu", "20.1/a")))
-    words = ("demand", tmp_path / "log", "--regions", regions)
-    assert "missing ), unterminated subpattern" in invoke(*words, "--regex", "(", status=2).stderr
-    assert "(?P<client>..)" in invoke(*words, "--regex", "(?P<handle>x)", status=2).stderr
-    assert "would be read and written" in invoke(*words, "-o", regions, status=1).stderr
-    assert "would be read and written" in invoke(*words, "--log", tmp_path / "log", status=1).stderr
-    assert "No such file" in invoke("demand", tmp_path / "absent", "--regions", regions, status=5).stderr
-    assert "no header with client and handle" in invoke(*words, "--format", "csv", status=1).stderr
 
 
 def test_a_database_needs_its_package(tmp_path: Path, monkeypatch: pytest.MonkeyPatch) -> None:
@@ -678,37 +532,6 @@ def test_progress_is_shown_on_a_terminal(tmp_path: Path, is_packed: bool) -> Non
     assert done.stdout.decode().splitlines()[-1].startswith("out.csv has ")
 
 
-def test_names_that_are_no_text(tmp_path: Path) -> None:
-    """File names and words may be any octets."""
-    folder = os.fsencode(tmp_path) + b"/\xff"
-    regions = regions_file(tmp_path).encode()
-    environment = variables(LC_ALL="C.UTF-8", PYTHONUTF8="0")
-    hsp = [os.fsencode(it) for it in (sys.executable, "-m", "hsp")]
-    runs = [
-        ([b"new", folder], 0),
-        ([b"demand", folder + b"/log", b"--regions", regions, b"--into", folder], 5),
-        ([b"demand", regions, b"--regions", regions, b"--regex", b"(?P<client>1\\S+)/(?P<handle>\xff)"], 1),
-        ([b"demand", folder + b".log", b"--regions", regions, b"--into", folder], 0),
-        ([b"demand", folder + b".log", b"--regions", regions, b"--elsewhere", b"\xff", b"--prefix", b"\xff"], 1),
-        ([b"sites", folder + b".log", b"--into", folder], 1),
-    ]
-    with open(folder + b".log", "w") as file:
-        file.write(server_line(Asked("10.1.2.3", "eu", "20.1/a")))
-    for words, status in runs:
-        done = subprocess.run(hsp + words, capture_output=True, env=environment)
-        assert done.returncode == status and b"Traceback" not in done.stderr, (words, done)
-
-
-def test_standard_input_is_a_log(tmp_path: Path) -> None:
-    rows = asked(100, 19)
-    text = "\n".join(map(server_line, rows)).encode()
-    words = [sys.executable, "-m", "hsp", "demand", "-", "--regions", regions_file(tmp_path)]
-    environment = variables()
-    for octets in (text, gzip.compress(text)):
-        done = subprocess.run(words, input=octets, capture_output=True, env=environment)
-        assert counts_of(done.stdout.decode()) == wanted(rows), done.stderr
-
-
 def test_a_row_that_hsplan_refuses_is_shown() -> None:
     """By its region and its handle, also where it isn't the first one. A database may name regions so."""
     tally = Tally(Programs())
@@ -717,21 +540,6 @@ def test_a_row_that_hsplan_refuses_is_shown() -> None:
     refused = "hsplan refuses this demand: demand: BadName row 1 in the row 'no name,20.500.1/b,1'"
     with pytest.raises(Exception, match=refused):
         tally.demand(None, None)
-
-
-def test_reasons_stand_by_their_counts_and_then_by_their_words(tmp_path: Path) -> None:
-    log, networks = tmp_path / "log.csv", tmp_path / "networks.csv"
-    networks.write_text("network,region\n192.0.2.0/24,eu\n")
-    odd = ["192.0.2.1", "203.0.113.1,20.500.1/a", "here,20.500.1/a", "192.0.2.1,none", "192.0.2.1"]
-    log.write_text("client,handle\n192.0.2.1,20.500.1/a\n" + "".join(f"{it}\n" for it in odd))
-    said = invoke("demand", log, "--regions", networks, "-o", tmp_path / "out").stdout
-    reasons = [re.sub(";.*", "", it) for it in said.splitlines() if it.startswith("  ") and "; first" in it]
-    assert reasons == [
-        "  2  not a line of this form",
-        "  1  no region for the client's address",
-        "  1  not a handle (NoSlash)",
-        "  1  the client isn't an IP address",
-    ]
 
 
 @pytest.mark.parametrize("unit, remedy", [(1_000_000, "give --unit 1000000"), (1_000_001, "count the logs in parts")])

@@ -20,7 +20,7 @@ from hsp.plans.service import read_service
 
 from conftest import Hsp
 from test_sites import invoke
-from test_units import Place, random_service, rows, written
+from test_units import random_service, rows
 
 JOINED = Mark(KINDS, 1000, ("access.log", 'odd "name"\\.log'), 109_614, 36_419)
 BLOCK = r"""[demand]  # written by hsp demand
@@ -117,39 +117,6 @@ def test_a_mark_that_cannot_be_written_leaves_the_demand(tmp_path: Path) -> None
         assert (folder / "demand.csv").read_bytes() == before
 
 
-BAD = {
-    "unit = 0": "write how many queries a count of 1 stands for",
-    "unit = 1000001": "write how many queries",
-    "unit = true": "write how many queries",
-    "unit = 1.5": "write how many queries",
-    'unit = "10"': "write how many queries",
-    'rows = "kind"': 'write rows = "kinds"',
-    "queries = -1": "take queries out",
-    "handles = []": "take handles out",
-    'log = "access.log"': 'write log = ["access.log"]',
-}
-
-
-@pytest.mark.parametrize("line", BAD)
-def test_the_doctor_names_a_bad_key(hsp: Hsp, tmp_path: Path, line: str) -> None:
-    folder = service(tmp_path)
-    (folder / "hsp.toml").write_text(f'title = "T"\n[demand]\n{line}\n')
-    (found,) = json.loads(hsp("doctor", str(folder), "--json", status=1).stdout)
-    at = line.index("=") + 3
-    assert (found["file"], found["line"], found["column"]) == (f"{folder}/hsp.toml", 3, at)
-    assert found["remedy"].startswith(BAD[line]) and found["severity"] == "error"
-    assert hsp("plan", str(folder), status=1).stderr.startswith("error: ")
-
-
-def test_the_doctor_names_a_key_that_is_not_read(hsp: Hsp, tmp_path: Path) -> None:
-    folder = service(tmp_path)
-    (folder / "hsp.toml").write_text("[demand]\nunits = 10\n")
-    found = json.loads(hsp("doctor", str(folder), "--json").stdout)
-    assert [(it["message"], it["remedy"]) for it in found if it["file"].endswith("hsp.toml")] == [
-        ("the key 'units' of hsp.toml is not read", "write unit")
-    ]
-
-
 def test_a_unit_that_adds_much_is_warned_of(hsp: Hsp, tmp_path: Path) -> None:
     """In units of 200 each row is rounded up; what that adds is summed here."""
     folder = service(tmp_path, "--unit", 200)
@@ -212,43 +179,6 @@ def test_a_joined_demand_is_shown_as_kinds(hsp: Hsp, tmp_path: Path) -> None:
     page = (folder / "plan.html").read_text()
     assert f"{number} kinds of {handles} handles" in page and "handles like</th>" in page
     assert 'placeholder="the handle that names a kind contains' in page
-
-
-def test_a_shortage_names_kinds(hsp: Hsp, tmp_path: Path) -> None:
-    """Each kind that lacks room is one of its own, though two of two regions have one name."""
-    folder = written(
-        tmp_path / "s",
-        settings=Place("north", 2, ["192.0.2.1"]).block(),
-        demand="eu,20.1/a,30\nus,20.1/a,20\n",
-        costs="eu,north,1\nus,north,2\n",
-        capacity="north,1,40\n",
-        titles='[demand]\nrows = "kinds"\nhandles = 7\n',
-    )
-    lines = hsp("plan", str(folder), status=3).stdout.splitlines()
-    assert "2 kinds of 7 handles" in lines[0]
-    assert lines[2] == "who   2 kinds: handles like 20.1/a of eu (30) and handles like 20.1/a of us (20)"
-    hsp("view", str(folder), status=3)
-    page = (folder / "plan.html").read_text()
-    assert "The kinds of handles that lack room" in page
-    assert re.findall(r'<th scope="row">(handles like [^<]*)</th><td>(\d+)', page) == [
-        ("handles like 20.1/a", "30"),
-        ("handles like 20.1/a", "20"),
-    ]
-
-
-@pytest.mark.parametrize("rows_are, number", [("handles", 2), ("kinds", 0)])
-def test_a_handle_that_names_a_kind_may_be_odd(tmp_path: Path, rows_are: str, number: int) -> None:
-    """A blank and another case are of the log, whose handles are hashed as they are."""
-    folder = written(
-        tmp_path / "s",
-        settings=Place("north", 2, ["192.0.2.1"]).block(),
-        demand="eu,20.1/a ,30\nus,20.1/\u00e9,20\nus,20.1/\u00c9,10\n",
-        costs="eu,north,1\nus,north,2\n",
-        capacity="north,1,400\n",
-        titles=f'[demand]\nrows = "{rows_are}"\n',
-    )
-    found = [it.group for it in examined(str(folder), Programs(), {}).warnings]
-    assert sum(it in ("handle blank", "twin handles") for it in found) == number
 
 
 def test_kinds_are_compared_by_their_servers(tmp_path: Path) -> None:

@@ -29,7 +29,20 @@ from conftest import TOP, variables
 from printed import assert_kept, heads, kept
 from test_units import one_machine
 
-TRANSCRIPTS = ("commands", "pages", "mistakes", "doubts", "words", "faults", "rows", "runs", "streams", "sites")
+TRANSCRIPTS = (
+    "commands",
+    "pages",
+    "mistakes",
+    "doubts",
+    "words",
+    "faults",
+    "rows",
+    "runs",
+    "streams",
+    "sites",
+    "demand",
+    "units",
+)
 # What bash has to run: words that go on, other streams, and octets that are no text.
 OF_BASH = re.compile(r"[|<>;&\n]|\$['(]")
 # Commands of bash.

@@ -92,44 +92,6 @@ def one_machine(folder: Path) -> Path:
     )
 
 
-def test_a_limit_is_divided_by_the_unit(hsp: Hsp, tmp_path: Path) -> None:
-    """In thousands the machine takes 8, whatever each server takes. The other two thousand go south."""
-    folder = one_machine(tmp_path / "s")
-    lines = hsp("plan", str(folder)).stdout.splitlines()
-    assert lines[0] == "One machine  2 sites, 3 servers, 1 region, 10 handles, 10,000 queries in units of 1,000"
-    loads = loads_of(folder)
-    assert loads["north", 1] + loads["north", 2] == 8 and loads["south", 1] == 2
-    assert "host  192.0.2.1 takes 8,000 of 8,000; each of 1,000 queries more saves at most 99" in lines
-    assert "cost  208,000, 20.8 a query; 1.0 if all asked their cheapest site" in lines
-    assert rows(folder / "capacity-in-units.csv") == [["north", "1", "9"], ["north", "2", "9"], ["south", "1", "9"]]
-    assert (folder / "settings-in-units.toml").read_text().endswith("limit = 8\n")
-    assert lines[-2] == (
-        f"units {folder}/capacity-in-units.csv and {folder}/settings-in-units.toml: "
-        "the capacities and limits in units of 1,000 queries, rounded down"
-    )
-
-
-def test_sizes_of_a_what_if_are_in_queries(hsp: Hsp, tmp_path: Path) -> None:
-    """A server in the south that takes 1,999 takes one unit of the two that it has to."""
-    folder = one_machine(tmp_path / "s")
-    words = ["whatif", str(folder), "--server", "south:1", "--from", "1999", "--to", "2001", "--points", "3", "--csv"]
-    found = list(csv.DictReader(hsp(*words).stdout.splitlines()))
-    assert [(it["room"], it["cost"], it["lack"]) for it in found] == [
-        ("1999", "", "1000"),
-        ("2000", "208000", ""),
-        ("2001", "208000", ""),
-    ]
-
-
-def test_a_unit_of_more_than_a_capacity_leaves_no_room(hsp: Hsp, tmp_path: Path) -> None:
-    folder = one_machine(tmp_path / "s")
-    (folder / "capacity.csv").write_text("site,server_id,capacity\nnorth,1,999\nnorth,2,999\nsouth,1,9999\n")
-    lines = hsp("plan", str(folder), "--no-save", status=3).stdout.splitlines()
-    assert lines[1] == (
-        "short 1,000 queries can't be served, whatever the plan: 10,000 may only go to servers that take 9,000"
-    )
-
-
 @dataclass
 class Random:
     """A service of random sites, and the queries of its log."""
@@ -198,19 +160,3 @@ def test_a_plan_in_units_keeps_to_what_servers_and_machines_take(hsp: Hsp, tmp_p
     cost = json.loads(hsp("plan", str(folder), "--json", "--no-save").stdout)["cost"]
     invoke("demand", service.log, *words_of_demand, "--unit", 1)
     assert json.loads(hsp("plan", str(folder), "--json", "--no-save").stdout)["cost"] <= cost
-
-
-def test_a_purchase_is_in_queries(hsp: Hsp, tmp_path: Path) -> None:
-    """Of ten thousand the south takes eight. Two more in the north are cheapest: 999 + 2,000 has room for two."""
-    folder = one_machine(tmp_path / "s")
-    (folder / "settings.toml").write_text(TWO_IN_ONE.block() + OTHER.block())
-    (folder / "capacity.csv").write_text("site,server_id,capacity\nnorth,1,999\nnorth,2,0\nsouth,1,8500\n")
-    lines = hsp("plan", str(folder), status=3).stdout.splitlines()
-    assert lines[1].startswith("short 2,000 queries can't be served, whatever the plan: 10,000 ")
-    assert lines[4].startswith(
-        "buy   room for 2,000 queries more, the least that suffices; then the cost is 802,000, "
-    )
-    assert lines[5].split() in (
-        ["north", "1", "2,000", "more:", "999", "to", "2,999"],
-        ["north", "2", "2,000", "more:", "0", "to", "2,000"],
-    )
