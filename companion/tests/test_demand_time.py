@@ -6,9 +6,7 @@ import csv
 import datetime
 import io
 import json
-import os
 import random
-import shutil
 from collections import Counter
 from collections.abc import Callable
 from pathlib import Path
@@ -133,33 +131,6 @@ def test_the_busiest_hour_in_each_form(tmp_path: Path, name: str) -> None:
     assert found.stderr.splitlines()[0] == shown
 
 
-def test_the_busiest_hour_is_of_queries_that_count(tmp_path: Path) -> None:
-    """An hour with more lines that are no queries isn't busier, and --from and --to bound the hour."""
-    rows = [f'10.1.0.1 - - [26/Nov/2026:10:{at:02}:00 +0000] "GET /20.1/a HTTP/1.1" 302 -' for at in range(5)]
-    rows += [f'10.1.0.1 - - [26/Nov/2026:11:{at:02}:00 +0000] "GET /favicon.ico HTTP/1.1" 404 -' for at in range(50)]
-    rows += [f'10.9.0.1 - - [26/Nov/2026:12:{at:02}:00 +0000] "GET /20.1/a HTTP/1.1" 302 -' for at in range(50)]
-    rows += [f'10.1.0.1 - - [26/Nov/2026:14:{at:02}:00 +0000] "GET /20.1/b HTTP/1.1" 302 -' for at in range(4)]
-    words = written(tmp_path, "proxy", [])
-    (tmp_path / "log").write_text("\n".join(rows))
-    found = invoke(*words, "--busiest-hour")
-    assert found.stderr.startswith("busiest hour 2026-11-26 10:00 to 2026-11-26 11:00 UTC: 5 of 9 queries\n")
-    assert counts_of(found.stdout) == {("eu", "20.1/a"): 5}
-    found = invoke(*words, "--busiest-hour", "--from", "2026-11-26T11:00")
-    assert counts_of(found.stdout) == {("eu", "20.1/b"): 4}
-    assert "no query is in" in invoke(*words, "--busiest-hour", "--from", "2027-01-01", status=1).stderr
-
-
-def test_lines_without_a_time_are_counted_with_the_reason(tmp_path: Path) -> None:
-    words = written(tmp_path, "proxy", asked(50, 3))
-    with open(tmp_path / "log", "a") as file:
-        file.write('10.1.0.1 - - [26/Nov/2026] "GET /20.1/a HTTP/1.1" 302 -\n' * 3)
-        file.write('10.1.0.1 - - [31/Feb/2026:10:00:00 +0000] "GET /20.1/a HTTP/1.1" 302 -\nno line\n')
-    found = invoke(*words, "--from", "2026-11-26")
-    assert "  4  no time in the line; first " in found.stderr and "  1  not a line of this form; " in found.stderr
-    assert sum(counts_of(found.stdout).values()) == 50
-    assert sum(counts_of(invoke(*words).stdout).values()) == 54
-
-
 TIMES = {
     "2026-11-26 10:00:00.999+0100": 1_795_683_600,
     "2026-11-26T09:00:00Z": 1_795_683_600,
@@ -184,49 +155,11 @@ def test_times_of_every_form(text: str) -> None:
     assert seconds_of(text.encode()) == TIMES[text]
 
 
-def test_words_about_times_that_are_no_command(hsp: Hsp, tmp_path: Path) -> None:
-    words = written(tmp_path, "proxy", asked(5, 4))
-    said = invoke(*words, "--from", "noon", status=2).stderr
-    assert "'noon' is no time such as 2026-11-26T10:00 or 2026-11-26T10:00+01:00" in said
-    said = invoke(*words, "--from", "2026-11-27", "--to", "2026-11-27", status=2).stderr
-    assert "it isn't after --from" in said
-    table = tmp_path / "table.csv"
-    table.write_text("client,handle\n10.1.0.1,20.1/a\n")
-    said = invoke(words[0], table, *words[2:], "--busiest-hour", status=1).stderr
-    assert said == f"hsp: {table}: line 1: no field time; name the field of the time by --time\n"
-    pattern = r"(?P<client>[^,]+),(?P<handle>.+)"
-    said = invoke(words[0], table, *words[2:], "--from", "2026-11-26", "--regex", pattern, status=1).stderr
-    assert said.endswith("give the pattern a group (?P<time>..)\n")
-    os.mkfifo(tmp_path / "pipe")
-    for path in ("-", str(tmp_path / "pipe")):
-        said = hsp("demand", path, *words[2:], "--busiest-hour", status=1).stderr
-        why = "--busiest-hour reads a log twice, and this one can be read only once"
-        assert said == f"hsp: {path}: {why}; give a file\n"
-    said = hsp("fleet", *words, "--busiest-hour", status=2).stderr
-    assert "find the hour by hsp demand, and give --from and --to" in said
-
-
 def test_fleet_counts_the_same_span(hsp: Hsp, tmp_path: Path) -> None:
     words = written(tmp_path, "proxy", asked(4000, 5))
     span = ["--from", "2026-11-26T09:00", "--to", "2026-11-26T12:00"]
     one = invoke(*words, *span).stdout
     assert counts_of(hsp("fleet", *words, *span, "--workers", "1").stdout) == counts_of(one)
-
-
-def test_rare_prefixes_are_named_with_a_remedy(tmp_path: Path) -> None:
-    """Of 1,000 queries each of six prefixes has less than ten, and five of these are named."""
-    paths = [f"20.500.7777/item-{at}" for at in range(500)] + [f"21.T1/item-{at}" for at in range(460)]
-    paths += ["static/css/proxy.css"] * 9 + ["wp/x"] * 8 + ["a/b"] * 7 + ["c/d"] * 6 + ["e/f"] * 6 + ["g/h"] * 4
-    words = written(tmp_path, "proxy", [Asked(BEGIN, "10.1.0.1", it) for it in paths])
-    said = invoke(*words).stderr.splitlines()
-    assert said[1] == (
-        "6 prefixes have each less than 1% of the queries; where these are no handles of yours, "
-        "give --prefix 20.500.7777 --prefix 21.T1"
-    )
-    assert said[2] == "  9 queries of static, as static/css/proxy.css" and said[6] == "  6 queries of e, as e/f"
-    assert len(said) == 8
-    said = invoke(*words, "--prefix", "20.500.7777", "--prefix", "21.t1").stderr.splitlines()
-    assert said[0].endswith("960 queries of 1 region for 960 handles") and "prefixes" not in said[1]
 
 
 def test_any_number_of_prefixes_is_counted_within_bounds() -> None:
@@ -237,20 +170,6 @@ def test_any_number_of_prefixes_is_counted_within_bounds() -> None:
     lines = found.lines()
     assert lines[0].endswith("give --prefix 20.1") and lines[1] == "  5,000 queries of static, as static/a"
     assert len(found._counts) <= MOST_PREFIXES
-
-
-def test_a_file_that_is_given_twice_is_warned_of(tmp_path: Path) -> None:
-    words = written(tmp_path, "proxy", asked(10, 6))
-    log = tmp_path / "log"
-    os.link(log, tmp_path / "linked")
-    shutil.copy(log, tmp_path / "copied")
-    said = invoke(*words, log, tmp_path / "linked", tmp_path / "copied").stderr.splitlines()
-    assert said[:2] == [
-        f"hsp: {log} is given twice: its queries count twice",
-        f"hsp: {log} and {tmp_path}/linked are one file: its queries count twice",
-    ]
-    assert said[2].startswith("4 logs, 40 lines: 40 queries ")
-    assert "twice" not in invoke(*words, tmp_path / "copied").stderr
 
 
 def test_times_of_no_log_are_none() -> None:

@@ -26,23 +26,11 @@ from hsp.cli import main, shown_findings
 from hsp.doctor import Examined
 
 from conftest import TOP, variables
-from printed import assert_kept, heads, kept
+from printed import FOLDER, assert_kept, heads, kept
 from test_units import one_machine
 
-TRANSCRIPTS = (
-    "commands",
-    "pages",
-    "mistakes",
-    "doubts",
-    "words",
-    "faults",
-    "rows",
-    "runs",
-    "streams",
-    "sites",
-    "demand",
-    "units",
-)
+# Of help and parts other tests have the words.
+TRANSCRIPTS = sorted({it.stem for it in FOLDER.glob("*.txt")} - {"help", "parts"})
 # What bash has to run: words that go on, other streams, and octets that are no text.
 OF_BASH = re.compile(r"[|<>;&\n]|\$['(]")
 # Commands of bash.
@@ -112,7 +100,8 @@ def printed(command: str) -> str:
 def transcript(text: str) -> str:
     """The commands of a transcript with what they print now."""
     steps = transcripts.steps_of(text.splitlines())
-    return "".join("\n".join(step.lines) + "\n" + ended(printed(step.command())) for step in steps)
+    text = "".join("\n".join(step.lines) + "\n" + ended(printed(step.command())) for step in steps)
+    return text.replace(os.getcwd(), "HERE")
 
 
 def ended(text: str) -> str:

@@ -19,8 +19,8 @@ from hsp.base import files
 from hsp.base.programs import Missing, Programs
 from hsp.base.unfit import Unfit
 
-from conftest import WITH_SIGNALS, Hsp, variables
-from test_sites import PARIS, RESTON, invoke
+from conftest import WITH_SIGNALS, variables
+from test_sites import PARIS, RESTON
 
 Example = Callable[[str], Path]
 
@@ -111,24 +111,6 @@ def test_a_planted_link_is_not_followed(tmp_path: Path, monkeypatch: pytest.Monk
     assert ((tmp_path / "victim").read_bytes(), (tmp_path / "plan.txt").exists()) == (b"mine", False)
 
 
-def test_a_file_by_the_old_fixed_name_stays(hsp: Hsp, example: Example) -> None:
-    folder = example("two-sites")
-    own = folder / "plan.txt.part"
-    (folder / "victim").write_text("mine")
-    own.symlink_to("victim")
-    hsp("plan", str(folder))
-    assert ((folder / "victim").read_text(), own.is_symlink()) == ("mine", True)
-    assert not (folder / "plan.txt").is_symlink()
-
-
-def test_a_log_by_the_name_of_a_part_stays(tmp_path: Path, regions: Path) -> None:
-    log = log_of(tmp_path / "q.csv.part", "a", 20)
-    before = log.read_bytes()
-    invoke("demand", log, "--regions", regions, "--log", tmp_path / "q.csv", "-o", tmp_path / "out.csv")
-    assert log.read_bytes() == before
-    assert len((tmp_path / "q.csv").read_text().splitlines()) == 21
-
-
 def test_a_file_of_a_closed_owner_is_never_open_to_others(tmp_path: Path) -> None:
     """The part of a file that only its owner may read is that owner's too, while it is written."""
     own = tmp_path / "kept"
@@ -166,43 +148,6 @@ def test_files_that_are_not_there_yet_are_compared_too(tmp_path: Path) -> None:
     with pytest.raises(Unfit, match="written twice"):
         files.refuse_clashes([], [f"{tmp_path}/new", f"{tmp_path}/folder/../{tmp_path.name}/new"])
     files.refuse_clashes([f"{tmp_path}/a"], [f"{tmp_path}/b", f"{tmp_path}/c", "/dev/null", "/dev/null"])
-
-
-def test_no_command_writes_what_it_reads(example: Example, tmp_path: Path, regions: Path) -> None:
-    folder, log = example("two-sites"), log_of(tmp_path / "log.csv", "a", 20)
-    before = {it.name: it.read_bytes() for it in folder.iterdir()}
-    for words in (
-        ["plan", folder, "-o", folder / "demand.csv"],
-        ["plan", folder, "-o", folder / "hsp.toml"],
-        ["view", folder, "-o", folder / "settings.toml"],
-        ["view", folder, "--before", folder, "-o", folder / "costs.csv"],
-        ["whatif", folder, "--chart", folder / "capacity.csv"],
-        ["demand", log, "--regions", regions, "--log", folder / "costs.csv", "--into", folder],
-        ["demand", log, "--regions", regions, "--log", folder / "capacity.csv", "--into", folder],
-        ["demand", log, "--regions", regions, "--log", folder / "demand.csv", "-o", tmp_path / "o", "--into", folder],
-        ["demand", log, "--regions", regions, "-o", folder / "settings.toml", "--into", folder],
-        ["sites", folder / "settings.toml", "--into", folder],
-        ["fleet", "demand", log, "--regions", regions, "-o", folder / "costs.csv", "--into", folder],
-    ):
-        assert "would be read and written" in invoke(*words, status=1).stderr
-    for words in (
-        ["demand", log, "--regions", regions, "--log", tmp_path / "same", "-o", tmp_path / "same"],
-        ["demand", log, "--regions", regions, "--into", folder, "--log", folder / "demand.csv"],
-        ["fleet", "demand", log, "--regions", regions, "--keep", ".k", "-o", f"{log}.k"],
-    ):
-        assert "would be written twice" in invoke(*words, status=1).stderr
-    assert {it.name: it.read_bytes() for it in folder.iterdir()} == before
-
-
-def test_fleet_writes_no_log_and_no_plan(example: Example, tmp_path: Path) -> None:
-    folder, log = example("two-sites"), tmp_path / "a.csv"
-    log.write_text("region,handle\n")
-    (tmp_path / "a.csv.answers").write_text("region,handle\n")
-    plan = tmp_path / "b.csv.answers"
-    plan.write_text("HSPLAN 1\n")
-    fleet = ["fleet", "dispatch", folder, "--fronts", "2", "--plan", plan]
-    for words in ([f"0={log}", f"1={log}.answers"], [f"0={tmp_path}/b.csv"], [f"0@h={log}", f"1@h={log}.answers"]):
-        assert "would be read and written" in invoke(*fleet, *words, status=1).stderr
 
 
 STOPS = {signal.SIGTERM: 143, signal.SIGHUP: 129, signal.SIGINT: 130}
