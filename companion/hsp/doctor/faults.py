@@ -133,7 +133,7 @@ def _numbered(question: Question, said: Said, one: Explained) -> Explained:
     """The same with hsplan's words as they are for the files as they were, where a copy lacks a block."""
     for block in ("site", "host"):
         if one.finding and "settings" in question.files and block in said.numbers:
-            number = settings_faults.number_then(question, block, said.numbers[block])
+            number = settings_faults.Entry(question, block, said.numbers[block]).number_then()
             line = re.sub(rf"\b{block} \d+", f"{block} {number}", one.finding.said, count=1)
             one = one._replace(finding=replace(one.finding, said=line))
     return one

@@ -64,6 +64,12 @@ class Words:
     mended: str | None = None
 
 
+def first_of(*causes: tuple[object, str, str]) -> Words:
+    """The reason and the remedy of the first cause that is there."""
+    why, remedy = next((why, remedy) for is_there, why, remedy in causes if is_there)
+    return Words("", remedy, why)
+
+
 def found(path: str, place: Place, words: Words, said: str = "", severity: str = ERROR) -> Finding:
     """A finding at a place of a file."""
     return Finding(

@@ -5,6 +5,7 @@ from __future__ import annotations
 import os
 import re
 from collections.abc import Iterator
+from dataclasses import replace
 
 from hsp.base.grammar import MOST_SERVERS
 from hsp.base.numbers import some
@@ -12,9 +13,8 @@ from hsp.base.paths import shell_word
 from hsp.base.programs import Programs, run
 from hsp.doctor.findings import Place, Words, found, quoted
 from hsp.doctor.question import Question, Said
-from hsp.doctor.settings_faults import mends, place_in, with_value, without_block
+from hsp.doctor.settings_faults import Entry
 from hsp.doctor.table_faults import Explained
-from hsp.doctor.toml_places import listed_in
 
 
 # No server has fewer octets: its identifier, its address, and two numbers.
@@ -117,71 +117,47 @@ def record_words(octets: bytes, said: Said, path: str, programs: Programs) -> tu
 
 
 def bad_record(question: Question, said: Said) -> Explained:
-    """A record of the settings that can't be read."""
-    number = said.numbers.get("site", 0)
-    text = question.text("settings")
-    sites = listed_in(text, "site")
-    site = sites[number] if number < len(sites) else {}
-    name, record = site.get("name", ""), site.get("record")
-    place = place_in(question, "site", number, "record" if isinstance(record, str) else "index")
+    """A record of the settings that can't be read, or a value of a list that isn't a site's record."""
+    entry = Entry(question, "site", said.numbers.get("site", 0))
+    name, record, group = entry.values.get("name", ""), entry.values.get("record"), f"BadRecord {entry.number}"
     if not isinstance(record, str):
-        return _bad_value(question, said, number, str(name))
-    octets = bytes.fromhex(record)
-    advised, octets_then = record_words(octets, said, "", question.programs)
+        message = f"the value of '{name}' isn't a record that can be read"
+        remedy = "give the index of the site's value: hsplan site --index N FILE prints a good one"
+        why = f"the value list has other octets there ({said.detail or said.word})"
+        return entry.said(said, entry.place("index"), Words(message, remedy, why, group=group))
+    place = entry.place("record")
+    advised, octets_then = record_words(bytes.fromhex(record), said, "", question.programs)
     start = place.text.find(record)
     if start >= 0 and "at" in said.numbers:
         column = min(start + 2 * said.numbers["at"], max(start, start + len(record) - 2))
         place = Place(place.line, column + 1, 2, place.text)
-    words = Words(f"the record of '{name}' can't be read", advised.remedy, advised.why, group=f"BadRecord {number}")
-    ways = mends(
-        with_value(question, "site", number, "record", f'"{octets_then.hex()}"') if octets_then else None,
-        without_block(question, "site", number),
-        question.with_stand_in("settings"),
-    )
-    return Explained(found(text.path, place, words, said.line), ways)
-
-
-def _bad_value(question: Question, said: Said, number: int, name: str) -> Explained:
-    """A value of a list that isn't a site's record."""
-    path = question.files["settings"].original.path
-    remedy = "give the index of the site's value: hsplan site --index N FILE prints a good one"
-    why = f"the value list has other octets there ({said.detail or said.word})"
-    words = Words(f"the value of '{name}' isn't a record that can be read", remedy, why, group=f"BadRecord {number}")
-    ways = mends(without_block(question, "site", number), question.with_stand_in("settings"))
-    return Explained(found(path, place_in(question, "site", number, "index"), words, said.line), ways)
+    words = replace(advised, message=f"the record of '{name}' can't be read", group=group)
+    mended = entry.with_value("record", f'"{octets_then.hex()}"') if octets_then else None
+    return entry.said(said, place, words, mended)
 
 
 def no_value(question: Question, said: Said) -> Explained:
     """An index without a value, or with a value of another type."""
-    number = said.numbers.get("site", 0)
-    text = question.text("settings")
-    site = (listed_in(text, "site") + [{}] * (number + 1))[number]
-    index, name = site.get("index"), site.get("name")
-    beside = os.path.join(os.path.dirname(text.path), "sites.values")
+    entry = Entry(question, "site", said.numbers.get("site", 0))
+    index, name = entry.values.get("index"), entry.values.get("name")
+    beside = os.path.join(os.path.dirname(entry.text.path), "sites.values")
     good = _indices(question)
     if "values" not in question.files:
-        there = (
-            f"{beside} is there"
-            if os.path.exists(beside)
-            else "put the value list in sites.values beside the settings"
-        )
+        there = "put the value list in sites.values beside the settings"
+        there = f"{beside} is there" if os.path.exists(beside) else there
         message = f"site '{name}' has an index, and there is no value list"
         words = Words(message, f"give --values FILE; {there}", "an index counts in a value list")
     elif said.word == "NotSiteValue":
         other = f"; HS_SITE stands at {good}" if good else ""
-        remedy = f"write the index of the site's value{other}"
         why = "another value of the handle, as a key or an address"
-        words = Words(f"the value with index {index} isn't an HS_SITE", remedy, why, group=f"NotSiteValue {number}")
+        message = f"the value with index {index} isn't an HS_SITE"
+        words = Words(message, f"write the index of the site's value{other}", why)
     else:
         other = f"write index = {good}" if good else "write an index that the list has"
-        words = Words(
-            f"no value has the index {index}",
-            f"{other}; or give the right list",
-            "another value list, or a slip",
-            group=f"NoValue {number}",
-        )
-    ways = mends(without_block(question, "site", number), question.with_stand_in("settings"))
-    return Explained(found(text.path, place_in(question, "site", number, "index"), words, said.line), ways)
+        message, remedy = f"no value has the index {index}", f"{other}; or give the right list"
+        words = Words(message, remedy, "another value list, or a slip")
+    group = f"{said.word} {entry.number}" if "values" in question.files else ""
+    return entry.said(said, entry.place("index"), replace(words, group=group))
 
 
 def _indices(question: Question) -> str:
@@ -194,39 +170,40 @@ def _indices(question: Question) -> str:
     return " or ".join(good[:4])
 
 
+# What is wrong with a record that a reader accepts, by hsplan's word: message, remedy and reason.
+OF_RECORDS = {
+    "BadHashOption": (
+        "the hash option in the record of '{}' isn't 0, 1 or 2",
+        "copy the record again, or make the block by hsp sites",
+        "octets in another layout, or a digit that was changed",
+    ),
+    "NoServer": (
+        "the record of '{}' has no server",
+        "add its servers: hsp sites makes the block from a proxy's JSON",
+        "a record that isn't filled in",
+    ),
+    "ServerIdTwice": (
+        "two servers in the record of '{}' have one identifier",
+        "give each server its own identifier in the record",
+        "a server that was copied",
+    ),
+    "TooManyServers": (
+        "all sites together have more servers than hsplan takes",
+        f"plan in parts; {MOST_SERVERS:,} servers are the limit",
+        "a very large service",
+    ),
+}
+
+
 def site_record(question: Question, said: Said) -> Explained:
     """What is wrong with a record in two ways that a reader accepts: its hash option, or its servers."""
-    number = said.numbers.get("site", 0)
-    text = question.text("settings")
-    sites = listed_in(text, "site")
-    name = sites[number].get("name", "") if number < len(sites) else ""
-    advised = {
-        "BadHashOption": Words(
-            f"the hash option in the record of '{name}' isn't 0, 1 or 2",
-            "copy the record again, or make the block by hsp sites",
-            "octets in another layout, or a digit that was changed",
-        ),
-        "NoServer": Words(
-            f"the record of '{name}' has no server",
-            "add its servers: hsp sites makes the block from a proxy's JSON",
-            "a record that isn't filled in",
-        ),
-        "ServerIdTwice": Words(
-            f"two servers in the record of '{name}' have one identifier",
-            "give each server its own identifier in the record",
-            "a server that was copied",
-        ),
-        "TooManyServers": Words(
-            "all sites together have more servers than hsplan takes",
-            f"plan in parts; {MOST_SERVERS:,} servers are the limit",
-            "a very large service",
-        ),
-    }[said.word]
-    place = place_in(question, "site", number, "record") if "site" in said.numbers else Place()
-    if isinstance((sites[number] if number < len(sites) else {}).get("index"), int):
-        place = place_in(question, "site", number, "index")
-    ways = mends(without_block(question, "site", number), question.with_stand_in("settings"))
-    return Explained(found(text.path, place, advised, said.line), ways)
+    entry = Entry(question, "site", said.numbers.get("site", 0))
+    message, remedy, why = OF_RECORDS[said.word]
+    words = Words(message.format(entry.values.get("name", "")), remedy, why)
+    place = entry.place("record") if "site" in said.numbers else Place()
+    if isinstance(entry.values.get("index"), int):
+        place = entry.place("index")
+    return entry.said(said, place, words)
 
 
 def bad_file(question: Question, said: Said, role: str) -> Explained:

@@ -2,71 +2,97 @@
 
 from __future__ import annotations
 
+import functools
 import ipaddress
 import os
 import re
-from collections.abc import Iterator
-from dataclasses import replace
+from dataclasses import dataclass, replace
 from typing import Any
 
 from hsp.base.grammar import GREATEST_ID, GREATEST_LIMIT, MOST_HOSTS, MOST_SITES, NAME_RULE
 from hsp.base.paths import shell_word
 from hsp.base.spelling import near
-from hsp.doctor.findings import Place, Words, found, quoted
-from hsp.doctor.question import Question, Said, sites_used
+from hsp.doctor.findings import Place, Text, Words, first_of, found, quoted
+from hsp.doctor.question import Draft, Question, Said, sites_used
 from hsp.doctor.rows import table_of
 from hsp.doctor.table_faults import Explained, slug
-from hsp.doctor.toml_places import KEYS, blocks, data_of, head_of, listed_in, value_of
+from hsp.doctor.toml_places import KEYS, Block, blocks, data_of, head_of, listed_in, value_of
+
+# What is no hexadecimal digit.
+OTHER = re.compile(r"[^0-9A-Fa-f]")
 
 
-def place_in(question: Question, block: str, number: int, key: str) -> Place:
-    """Where the value of a key stands in the settings as they were, for a block that counts in the mended copy."""
-    draft = question.files["settings"]
-    place = value_of(draft.text, block, number, key)
-    line = draft.number(place.line)
-    if draft.original.line(line) != place.text:
-        return draft.original.whole(line)
-    return Place(line, place.column, place.width, place.text)
+@dataclass(frozen=True)
+class Entry:
+    """A site or a host of the settings by its number in their mended copy."""
+
+    question: Question
+    kind: str
+    number: int
+
+    @property
+    def text(self) -> Text:
+        return self.question.text("settings")
+
+    @property
+    def draft(self) -> Draft:
+        return self.question.files["settings"]
+
+    @functools.cached_property
+    def values(self) -> dict[str, Any]:
+        """Its keys with what stands behind them; nothing where it isn't there."""
+        return dict(enumerate(listed_in(self.text, self.kind))).get(self.number, {})
+
+    @functools.cached_property
+    def lines(self) -> Block | None:
+        return dict(enumerate(blocks(self.text, self.kind))).get(self.number)
+
+    def place(self, key: str) -> Place:
+        """Where the value of a key stands in the settings as they were."""
+        place = value_of(self.text, self.kind, self.number, key)
+        line = self.draft.number(place.line)
+        if self.draft.original.line(line) != place.text:
+            return self.draft.original.whole(line)
+        return replace(place, line=line)
+
+    def number_then(self) -> int:
+        """The number that it has in the settings as they were."""
+        firsts = [own.first for own in blocks(self.draft.original, self.kind)]
+        line = self.draft.number(self.lines.first) if self.lines else 0
+        return firsts.index(line) if line in firsts else self.number
+
+    def with_value(self, key: str, value: str) -> Question:
+        """The settings with another value of a key."""
+        place, text = value_of(self.text, self.kind, self.number, key), self.text
+        begin, fence = place.text[: place.column - 1] + value, place.text[place.column - 1 :][:3]
+        if fence in ('"' * 3, "'" * 3) and fence not in place.text[place.column + 2 :]:
+            below = range(place.line + 1, len(text.lines) + 1)
+            last = next((line for line in below if fence in text.line(line)), place.line)
+            return self.question.with_line("settings", place.line, begin, last)
+        return self.question.with_line("settings", place.line, begin + place.text[place.end - 1 :])
+
+    def without(self) -> Question | None:
+        """The settings without it, and the tables without the rows of its site."""
+        if not self.lines:
+            return None
+        name = self.values.get("name")
+        question = self.question.with_line("settings", self.lines.first, "", self.lines.last)
+        if self.kind == "site" and (not isinstance(name, str) or slug(name) != name):
+            question = replace(question, lacks_site=True)
+        for table in ("costs", "capacity") if self.kind == "site" else ():
+            if table in question.files:
+                question = without_site(question, table, str(name))
+        return question
+
+    def said(self, said: Said, place: Place, words: Words, *ways: Question | None) -> Explained:
+        """What is said of it. The settings are mended one way or another, have it no more, or are empty."""
+        return in_settings(self.question, said, place, words, *ways, self.without())
 
 
-def number_then(question: Question, block: str, number: int) -> int:
-    """The number that a block of the mended copy has in the settings as they were."""
-    draft = question.files["settings"]
-    own = blocks(draft.text, block)
-    firsts = [own_block.first for own_block in blocks(draft.original, block)]
-    line = draft.number(own[number].first) if number < len(own) else 0
-    return firsts.index(line) if line in firsts else number
-
-
-def with_value(question: Question, block: str, number: int, key: str, value: str) -> Question:
-    """The settings with another value of a key."""
-    text = question.text("settings")
-    place = value_of(text, block, number, key)
-    line = place.text[: place.column - 1] + value + place.text[place.end - 1 :]
-    fence = place.text[place.column - 1 :][:3]
-    if fence in ('"' * 3, "'" * 3) and fence not in place.text[place.column + 2 :]:
-        last = next(
-            (last_line for last_line in range(place.line + 1, len(text.lines) + 1) if fence in text.line(last_line)),
-            place.line,
-        )
-        return question.with_line("settings", place.line, place.text[: place.column - 1] + value, last)
-    return question.with_line("settings", place.line, line)
-
-
-def without_block(question: Question, block: str, number: int) -> Question | None:
-    """The settings without a block, and the tables without the rows of its site."""
-    own = blocks(question.text("settings"), block)
-    if number >= len(own):
-        return None
-    first, last = own[number]
-    name = listed_in(question.text("settings"), block)[number].get("name")
-    question = question.with_line("settings", first, "", last)
-    if block == "site" and (not isinstance(name, str) or slug(name) != name):
-        question = replace(question, lacks_site=True)
-    for table in ("costs", "capacity") if block == "site" else ():
-        if table in question.files:
-            question = without_site(question, table, str(name))
-    return question
+def in_settings(question: Question, said: Said, place: Place, words: Words, *ways: Question | None) -> Explained:
+    """What is said of a place of the settings, which are mended one way or another, or are empty."""
+    finding = found(question.text("settings").path, place, words, said.line)
+    return Explained(finding, [*filter(None, ways), question.with_stand_in("settings")])
 
 
 def without_site(question: Question, table: str, name: str) -> Question:
@@ -74,10 +100,6 @@ def without_site(question: Question, table: str, name: str) -> Question:
     read = table_of(question.text(table))
     at = read.header.index("site") if "site" in read.header else 0
     return question.without_rows(table, [row for row in read.rows if row.fields[at : at + 1] == [name]])
-
-
-def mends(*questions: Question | None) -> Iterator[Question]:
-    return (question for question in questions if question)
 
 
 def unknown_key(question: Question, said: Said) -> Explained:
@@ -92,8 +114,7 @@ def unknown_key(question: Question, said: Said) -> Explained:
         if key or "" in table:
             return _unknown(question, said, (block, at), key)
     words = Words("a key means nothing where it stands", "keep only name, record, index, address and limit")
-    place = question.files["settings"].original.whole(1)
-    return Explained(found(text.path, place, words, said.line), [question.with_stand_in("settings")])
+    return in_settings(question, said, question.files["settings"].original.whole(1), words)
 
 
 def _unknown(question: Question, said: Said, where: tuple[str, int], key: str) -> Explained:
@@ -115,49 +136,46 @@ def _unknown(question: Question, said: Said, where: tuple[str, int], key: str) -
     mark = f"did you mean {meant}?" if meant else ""
     words = Words(f"the key {quoted(key)} means nothing here", remedy, where_words, mark, f"UnknownKey {key}")
     line = place.text[: place.column - 1] + meant + place.text[place.end - 1 :]
-    head = f"[[{'host' if key in KEYS['host'] else 'site'}]]\n{place.text}" if not block and not meant else ""
     ways = [question.with_line("settings", place.line, line)] if meant else []
-    if head and "above" in remedy:
-        draft = question.files["settings"]
-        above = draft.with_text("\n".join([head.split("\n")[0], *text.lines]), 1)
+    if not block and not meant and "above" in remedy:
+        head = f"[[{'host' if key in KEYS['host'] else 'site'}]]"
+        above = question.files["settings"].with_text("\n".join([head, *text.lines]), 1)
         ways.append(question.with_file("settings", above))
     ways.append(question.with_line("settings", place.line, ""))
-    shown = place
-    original = question.files["settings"].original
-    number_then = question.files["settings"].number(place.line)
-    if original.line(number_then) != place.text or number_then != place.line:
-        shown = original.whole(number_then)
-    return Explained(found(text.path, shown, words, said.line), [*ways, question.with_stand_in("settings")])
+    draft = question.files["settings"]
+    line_then = draft.number(place.line)
+    if draft.original.line(line_then) != place.text or line_then != place.line:
+        place = draft.original.whole(line_then)
+    return in_settings(question, said, place, words, *ways)
 
 
 def record_words(record: str, folder: str) -> Words:
     """What is wrong with a record that isn't octets in hexadecimal digits."""
-    bare = re.sub(r"[\s:]", "", record)
-    if "\n" in record:
-        return Words("", "write the digits in one line, between two quotes", "line ends between the digits")
-    if re.match(r"0[xX]", record):
-        return Words("", "take out 0x", "0x before the digits")
-    if re.fullmatch(r"[0-9A-Fa-f]+", record):
-        why = f"{len(record):,} digits, so half an octet is lost or too much"
-        return Words("", "copy it again, or print the block by hsp sites", why)
-    if re.fullmatch(r"[0-9A-Fa-f]+", bare):
-        return Words("", "take the blanks or colons out", "blanks or colons between the digits")
-    if re.search(r"\.\w{1,6}$", record) or os.path.exists(os.path.join(folder, record)):
-        why = "the name of a file in place of its octets"
-        remedy = (
-            f"hsp sites {shell_word(record[:40])} prints the block; or xxd -p {shell_word(record[:40])} | tr -d '\\n'"
-        )
-        return Words("", remedy, why)
-    if record.lstrip().startswith(("{", "[")):
-        return Words("", "save it in a file; hsp sites prints the block", "JSON in place of hexadecimal digits")
-    wrong = re.search(r"[^0-9A-Fa-f]", record)
-    if wrong and len(re.findall(r"[^0-9A-Fa-f]", record)) <= 3 and len(record) > 20:
-        why = f"{quoted(wrong[0])} among the digits, at digit {wrong.start() + 1:,}"
-        return Words("", "copy it again, or print the block by hsp sites", why)
-    if re.fullmatch(r"[A-Za-z0-9+/_-]+=*", record):
-        why = "letters beyond f, as base64 has them"
-        return Words("", "save it in a file; hsp sites prints the block in hexadecimal digits", why)
-    return Words("", "write the octets as hexadecimal digits, as hsp sites prints them", "other signs than digits")
+    bare, others, path = re.sub(r"[\s:]", "", record), list(OTHER.finditer(record)), shell_word(record[:40])
+    again, save = "copy it again, or print the block by hsp sites", "save it in a file; hsp sites prints the block"
+    is_file = re.search(r"\.\w{1,6}$", record) or os.path.exists(os.path.join(folder, record))
+    slip = others[0] if others and len(others) <= 3 and len(record) > 20 else None
+    where = f"{quoted(slip[0])} among the digits, at digit {slip.start() + 1:,}" if slip else ""
+    lost = f"{len(record):,} digits, so half an octet is lost or too much"
+    return first_of(
+        ("\n" in record, "line ends between the digits", "write the digits in one line, between two quotes"),
+        (record[:2] in ("0x", "0X"), "0x before the digits", "take out 0x"),
+        (not others and record, lost, again),
+        (bare and not OTHER.search(bare), "blanks or colons between the digits", "take the blanks or colons out"),
+        (
+            is_file,
+            "the name of a file in place of its octets",
+            f"hsp sites {path} prints the block; or xxd -p {path} | tr -d '\\n'",
+        ),
+        (record.lstrip()[:1] in ("{", "["), "JSON in place of hexadecimal digits", save),
+        (slip, where, again),
+        (
+            re.fullmatch(r"[A-Za-z0-9+/_-]+=*", record),
+            "letters beyond f, as base64 has them",
+            f"{save} in hexadecimal digits",
+        ),
+        (True, "other signs than digits", "write the octets as hexadecimal digits, as hsp sites prints them"),
+    )
 
 
 def _source_words(name: str, site: dict[str, Any], folder: str) -> Words:
@@ -181,26 +199,21 @@ def _source_words(name: str, site: dict[str, Any], folder: str) -> Words:
 
 def bad_site(question: Question, said: Said) -> Explained:
     """A site that isn't as it should be."""
-    text, number = question.text("settings"), said.numbers.get("site", 0)
-    sites = listed_in(text, "site")
-    site = sites[number] if number < len(sites) else {}
-    if not isinstance((data_of(text) or {}).get("site"), list):
+    entry = Entry(question, "site", said.numbers.get("site", 0))
+    if not isinstance((data_of(entry.text) or {}).get("site"), list):
         return _one_table(question, said, "site")
-    name, record = site.get("name"), site.get("record")
+    name, record = entry.values.get("name"), entry.values.get("record")
     if not isinstance(name, str) or slug(name) != name or not name:
-        return _bad_site_name(question, said, number, name)
-    words = _source_words(name, site, os.path.dirname(text.path))
-    place = place_in(question, "site", number, "record" if record is not None else "index")
-    wrong = re.search(r"[^0-9A-Fa-f]", record) if isinstance(record, str) else None
-    if wrong and isinstance(record, str) and "among the digits" in words.why and record in place.text:
+        return _bad_site_name(entry, said, name)
+    words = _source_words(name, entry.values, os.path.dirname(entry.text.path))
+    place = entry.place("record" if record is not None else "index")
+    if not isinstance(record, str):
+        return entry.said(said, place, words)
+    wrong = OTHER.search(record)
+    if wrong and "among the digits" in words.why and record in place.text:
         place = Place(place.line, place.text.find(record) + wrong.start() + 1, 1, place.text)
-    bare = re.sub(r"^0[xX]|[\s:]", "", record) if isinstance(record, str) else ""
-    ways = mends(
-        with_value(question, "site", number, "record", f'"{bare}"') if bare else None,
-        without_block(question, "site", number),
-        question.with_stand_in("settings"),
-    )
-    return Explained(found(text.path, place, words, said.line), ways)
+    bare = re.sub(r"^0[xX]|[\s:]", "", record)
+    return entry.said(said, place, words, entry.with_value("record", f'"{bare}"') if bare else None)
 
 
 def _one_table(question: Question, said: Said, block: str) -> Explained:
@@ -209,59 +222,45 @@ def _one_table(question: Question, said: Said, block: str) -> Explained:
     place = text.match(rf"^\s*(\[\s*{block}\s*\])") or head_of(text, block, 0)
     message = f"{place.text.strip()[:20]} is one table; {block}s are a list"
     words = Words(message, f"write [[{block}]] for each", "two brackets on each side")
-    return Explained(
-        found(text.path, place, words, said.line),
-        [question.with_line("settings", place.line, f"[[{block}]]"), question.with_stand_in("settings")],
-    )
+    return in_settings(question, said, place, words, question.with_line("settings", place.line, f"[[{block}]]"))
 
 
-def _bad_site_name(question: Question, said: Said, number: int, name: object) -> Explained:
-    text = question.text("settings")
-    taken = {site.get("name") for site in listed_in(text, "site")}
+def _bad_site_name(entry: Entry, said: Said, name: object) -> Explained:
+    question, lines = entry.question, entry.lines
+    taken = {site.get("name") for site in listed_in(entry.text, "site")}
     free = [other for other in sites_used(question) if other not in taken and slug(other) == other and other]
     plain = slug(name) if isinstance(name, str) else ""
     meant = near(plain, free) if plain else (free[0] if len(free) == 1 else "")
     as_used = f'write name = "{meant}", as the tables have it' if meant else ""
+    ways: list[Question | None] = []
     if name is None:
-        message = f"site {number + 1} has no name"
+        message = f"site {entry.number + 1} has no name"
         words = Words(message, as_used or 'write a line name = ".." in its block', "each site has a name")
+        if meant and lines:
+            ways = [question.with_line("settings", lines.first, f'[[site]]\nname = "{meant}"')]
     elif not isinstance(name, str):
         words = Words("the name of a site isn't a text", f'write name = "{name}"', "a name stands in quotes")
     else:
         remedy = as_used or (f'write name = "{plain}"' if plain else 'write a name, as name = "paris"')
         words = Words(f"{quoted(name)} isn't the name of a site", remedy, NAME_RULE)
-    place = place_in(question, "site", number, "name")
-    own = blocks(text, "site")
-    ways: list[Question | None] = []
     if name is not None:
-        ways = [with_value(question, "site", number, "name", f'"{value}"') for value in (meant, plain) if value]
-    elif meant and number < len(own):
-        ways = [question.with_line("settings", own[number].first, f'[[site]]\nname = "{meant}"')]
-    ways += [without_block(question, "site", number), question.with_stand_in("settings")]
-    return Explained(found(text.path, place, words, said.line), mends(*ways))
+        ways = [entry.with_value("name", f'"{value}"') for value in (meant, plain) if value]
+    return entry.said(said, entry.place("name"), words, *ways)
 
 
 def site_twice(question: Question, said: Said) -> Explained:
     """Two sites of one name."""
-    number = said.numbers["site"]
-    text = question.text("settings")
-    sites = listed_in(text, "site")
-    name = str(sites[number].get("name")) if number < len(sites) else ""
-    first = next((at for at, other in enumerate(sites[:number]) if other.get("name") == name), 0)
-    free = [other for other in sites_used(question) if other not in {site.get("name") for site in sites} and other]
-    remedy = (
-        f'write name = "{free[0]}", which the tables have and the settings lack'
-        if free
-        else "give it another name, or take the block out"
-    )
-    mark = f"first in line {place_in(question, 'site', first, 'name').line}"
-    words = Words(f"a second site '{name}'", remedy, "a copied block", mark)
-    ways: list[Question | None] = [with_value(question, "site", number, "name", f'"{other}"') for other in free[:1]]
-    own = blocks(text, "site")
-    if number < len(own):
-        ways.append(question.with_line("settings", own[number].first, "", own[number].last))
-    ways.append(question.with_stand_in("settings"))
-    return Explained(found(text.path, place_in(question, "site", number, "name"), words, said.line), mends(*ways))
+    entry = Entry(question, "site", said.numbers["site"])
+    names, name = [site.get("name") for site in listed_in(entry.text, "site")], str(entry.values.get("name", ""))
+    first = Entry(question, "site", names.index(name) if name in names[: entry.number] else 0)
+    free = [other for other in sites_used(question) if other not in names and other]
+    remedy = "give it another name, or take the block out"
+    if free:
+        remedy = f'write name = "{free[0]}", which the tables have and the settings lack'
+    words = Words(f"a second site '{name}'", remedy, "a copied block", f"first in line {first.place('name').line}")
+    ways = [entry.with_value("name", f'"{other}"') for other in free[:1]]
+    ways += [question.with_line("settings", entry.lines.first, "", entry.lines.last)] if entry.lines else []
+    return in_settings(question, said, entry.place("name"), words, *ways)
 
 
 def _address_words(address: str) -> tuple[Words, str]:
@@ -305,46 +304,30 @@ def _host_words(host: dict[str, Any]) -> tuple[str, Words, str]:
 
 def bad_host(question: Question, said: Said) -> Explained:
     """A host that isn't as it should be."""
-    text, number = question.text("settings"), said.numbers.get("host", 0)
-    if not isinstance((data_of(text) or {}).get("host"), list):
+    entry = Entry(question, "host", said.numbers.get("host", 0))
+    if not isinstance((data_of(entry.text) or {}).get("host"), list):
         return _one_table(question, said, "host")
-    hosts = listed_in(text, "host")
-    key, words, value = _host_words(hosts[number] if number < len(hosts) else {})
-    ways = mends(
-        with_value(question, "host", number, key, value) if value else None,
-        without_block(question, "host", number),
-        question.with_stand_in("settings"),
-    )
-    return Explained(found(text.path, place_in(question, "host", number, key), words, said.line), ways)
+    key, words, value = _host_words(entry.values)
+    return entry.said(said, entry.place(key), words, entry.with_value(key, value) if value else None)
 
 
 def host_twice(question: Question, said: Said) -> Explained:
-    number = said.numbers["host"]
-    text = question.text("settings")
-    hosts = listed_in(text, "host")
-    address = str(hosts[number].get("address", "")) if number < len(hosts) else ""
-    first = next(
-        (at for at, host in enumerate(hosts[:number]) if str(host.get("address", "")).lower() == address.lower()), 0
-    )
-    mark = f"first in line {place_in(question, 'host', first, 'address').line}"
-    words = Words(
-        "a second host with this address", "keep one block with one limit for each machine", "a copied block", mark
-    )
-    ways = mends(without_block(question, "host", number), question.with_stand_in("settings"))
-    return Explained(found(text.path, place_in(question, "host", number, "address"), words, said.line), ways)
+    entry = Entry(question, "host", said.numbers["host"])
+    addresses = [str(host.get("address", "")).lower() for host in listed_in(entry.text, "host")]
+    address = str(entry.values.get("address", "")).lower()
+    first = Entry(question, "host", addresses.index(address) if address in addresses[: entry.number] else 0)
+    remedy, mark = "keep one block with one limit for each machine", f"first in line {first.place('address').line}"
+    words = Words("a second host with this address", remedy, "a copied block", mark)
+    return entry.said(said, entry.place("address"), words)
 
 
 def too_many_blocks(question: Question, said: Said) -> Explained:
     """More sites or hosts than hsplan takes."""
-    block = "site" if said.word == "TooManySites" else "host"
+    block, most, remedy = {
+        "TooManySites": ("site", MOST_SITES, "plan in parts, each with the regions that use its sites"),
+        "TooManyHosts": ("host", MOST_HOSTS, "keep hosts with several servers only"),
+    }[said.word]
     text = question.text("settings")
-    own = blocks(text, block)
-    most = MOST_SITES if block == "site" else MOST_HOSTS
-    remedy = (
-        "plan in parts, each with the regions that use its sites"
-        if block == "site"
-        else "keep hosts with several servers only"
-    )
-    words = Words(f"{len(own):,} {block}s; hsplan takes {most:,}", remedy, "every block counts")
-    place = head_of(text, block, min(most, len(own) - 1) if own else 0)
-    return Explained(found(text.path, place, words, said.line), [question.with_stand_in("settings")])
+    number = len(blocks(text, block))
+    words = Words(f"{number:,} {block}s; hsplan takes {most:,}", remedy, "every block counts")
+    return in_settings(question, said, head_of(text, block, min(most, number - 1) if number else 0), words)
