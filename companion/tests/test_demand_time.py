@@ -14,9 +14,7 @@ from typing import NamedTuple
 
 import pytest
 
-from hsp.intake import times
 from hsp.intake.prefixes import MOST_PREFIXES, Prefixes
-from hsp.intake.times import seconds_of
 
 from conftest import Hsp
 from test_demand import counts_of
@@ -131,30 +129,6 @@ def test_the_busiest_hour_in_each_form(tmp_path: Path, name: str) -> None:
     assert found.stderr.splitlines()[0] == shown
 
 
-TIMES = {
-    "2026-11-26 10:00:00.999+0100": 1_795_683_600,
-    "2026-11-26T09:00:00Z": 1_795_683_600,
-    "2026-11-26T09:00:00": 1_795_683_600,
-    "26/Nov/2026:10:00:00 +0100": 1_795_683_600,
-    "26/Nov/2026:09:00:00": 1_795_683_600,
-    "1795683600": 1_795_683_600,
-    "1795683600.75": 1_795_683_600,
-    "1795683600750": 1_795_683_600,
-    "26/Foo/2026:10:00:00 +0100": None,
-    "2026-13-01T00:00:00": None,
-    "": None,
-    "yesterday": None,
-    "0001-01-01T00:00:00+14:00": None,
-    "9999-12-31T23:59:59-14:00": None,
-}
-
-
-@pytest.mark.parametrize("text", TIMES)
-def test_times_of_every_form(text: str) -> None:
-    """The numbers are those of `date -u -d '2026-11-26 09:00' +%s`."""
-    assert seconds_of(text.encode()) == TIMES[text]
-
-
 def test_fleet_counts_the_same_span(hsp: Hsp, tmp_path: Path) -> None:
     words = written(tmp_path, "proxy", asked(4000, 5))
     span = ["--from", "2026-11-26T09:00", "--to", "2026-11-26T12:00"]
@@ -170,9 +144,3 @@ def test_any_number_of_prefixes_is_counted_within_bounds() -> None:
     lines = found.lines()
     assert lines[0].endswith("give --prefix 20.1") and lines[1] == "  5,000 queries of static, as static/a"
     assert len(found._counts) <= MOST_PREFIXES
-
-
-def test_times_of_no_log_are_none() -> None:
-    for seconds, wanted in ((0, 0), (-1, None), ((1 << 35) - 1, (1 << 35) - 1), (1 << 35, None)):
-        moment = datetime.datetime(1970, 1, 1, tzinfo=datetime.UTC) + datetime.timedelta(seconds=seconds)
-        assert times._of_iso(moment.isoformat()) == wanted

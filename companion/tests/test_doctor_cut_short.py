@@ -9,7 +9,7 @@ from pathlib import Path
 import pytest
 
 from hsp.doctor import faults, guard
-from hsp.doctor.cut_short import cut_short, likely, rounded
+from hsp.doctor.cut_short import cut_short, likely
 from hsp.doctor.findings import NOTE, WARNING, Finding
 
 from test_sites import invoke
@@ -29,11 +29,6 @@ def rows(bad: int, good: int, times: int) -> str:
     turn = "\n" * good + "eu,{},5\n" * bad
     names = iter(range(bad * times))
     return HEADER + "".join(turn.format(*(f"none{next(names)}" for _ in range(bad))) for _ in range(times))
-
-
-@pytest.mark.parametrize("number, said", [(7, 7), (99, 99), (124, 120), (126, 130), (4960, 5000), (5100.4, 5100)])
-def test_an_estimate_has_two_digits(number: float, said: int) -> None:
-    assert rounded(number) == said
 
 
 @pytest.fixture

@@ -64,34 +64,6 @@ def test_an_answer_that_cannot_be_written(tmp_path: Path) -> None:
     assert third and (third.why, third.remedy) == ("a folder, not a file", "give the file in it")
 
 
-@pytest.mark.parametrize(
-    "text, why, mended",
-    [
-        ("475.", "a point behind the digits", "475"),
-        ("475,", "a point behind the digits", "475"),
-        ("47.5", "a fraction; every number is whole", "48"),
-        ("47.4", "a fraction; every number is whole", "47"),
-        ("4.75e2", "an exponent, as spreadsheets write it", "475"),
-        ("0475", "a zero before the digits", "475"),
-        ("+475", "a plus before the digits", "475"),
-        ("\u221247", "a minus; no number is below 0", "0"),
-        ("1,234,567", "a separator of thousands", "1234567"),
-        ("1.5k", "k for thousands", "1500"),
-        ("2M", "M for millions", "2000000"),
-        ("84ms", "a unit behind the digits", "84"),
-        ("\u0664\u0667", "digits of another script", "47"),
-        ("\u201c47\u201d", "other quotes than those of a table", "47"),
-        ("", "an empty field", "1"),
-        ("unlimited", "a word in place of a number", "1"),
-    ],
-)
-def test_a_number_that_is_none_is_mended(text: str, why: str, mended: str) -> None:
-    found = advice(text, "count")
-    assert (found.why, found.mended) == (why, mended)
-    if mended not in ("0", "1"):
-        assert found.remedy.split(",")[0].split(";")[0] == f"write {mended}"
-
-
 @pytest.mark.parametrize("name", ["count", "cost", "capacity", "server_id", "front"])
 def test_what_is_advised_of_a_number(name: str) -> None:
     """Of a number beyond its limit each column has words of its own."""

@@ -36,7 +36,6 @@ from test_sites import invoke
 
 FRONTS = 8
 DOCUMENT = (TOP / "docs" / "use" / "FLEET.md").read_text()
-Fleet = Callable[..., "subprocess.CompletedProcess[str]"]
 
 
 def started(*words: object, **more: object) -> "subprocess.Popen[str]":
@@ -709,27 +708,9 @@ def test_progress_is_shown_on_a_terminal(million: Million, tmp_path: Path) -> No
     assert "1 of 1 front, " in shown and " rows a second, 1 worker" in shown and shown.endswith("\r\x1b[K")
 
 
-def test_words_that_are_no_run(million: Million, monkeypatch: pytest.MonkeyPatch, tmp_path: Path) -> None:
-    folder = str(million.folder)
-    wrong = {
-        ("0=a", "0@node=b"): "front 0 has logs at two hosts",
-        ("0@node1=a",): "a log at node1 needs --scheduler: without it all workers are of this machine",
-        ("2=a",): "front 2 isn't one of 2: the first one is 0",
-        ("0=a", "b"): "'b' names no front",
-        ("0=a", "1=a"): "a log is given twice",
-        ("--unit", "3", "0=a"): "--unit needs --any-handle",
-        ("--scheduler", "tls://h:1", "0=a"): "a scheduler at tls:// needs --tls-ca, --tls-cert and --tls-key",
-        ("--scheduler", "h:1", "0=a"): "a scheduler is tcp://HOST:PORT or tls://HOST:PORT, not h:1",
-        ("--tls-ca", "f", "0=a"): "are for a --scheduler",
-        ("--scheduler", "tcp://h:1", "--workers", "2", "0=a"): "--workers is for this machine",
-    }
-    for words, line in wrong.items():
-        assert line in invoke("fleet", "dispatch", folder, "--fronts", "2", *words, status=2).stderr
-    (tmp_path / "empty").mkdir()
-    absent = invoke("fleet", "dispatch", tmp_path / "empty", "--fronts", "2", "0=a", status=5).stderr
-    assert "no such file: hsp plan " in absent
+def test_a_fleet_needs_its_package(million: Million, monkeypatch: pytest.MonkeyPatch) -> None:
     monkeypatch.setitem(sys.modules, "distributed", None)
-    line = invoke("fleet", "dispatch", folder, "--fronts", "2", "0=a", status=5).stderr
+    line = invoke("fleet", "dispatch", million.folder, "--fronts", "2", "0=a", status=5).stderr
     assert line == "hsp: Python has no distributed: install it (Debian: python3-distributed)\n"
 
 

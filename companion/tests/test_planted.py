@@ -11,7 +11,6 @@ from click.testing import CliRunner
 
 from hsp.cli import main
 from hsp.fleet import session
-from hsp.plans.marks import bad_keys
 
 from printed import assert_kept
 
@@ -39,11 +38,6 @@ def test_each_command_says_what_it_lacks(
     monkeypatch.chdir(tmp_path)
     done = CliRunner(mix_stderr=False).invoke(main, [*words], prog_name="hsp", env={"COLUMNS": "100"})
     assert_kept("help", " ".join(["hsp", *words]), f"{done.exit_code}\n{done.stdout}{done.stderr}")
-
-
-def test_numbers_of_a_mark_may_be_0() -> None:
-    assert not list(bad_keys({"rows": "kinds", "queries": 0, "handles": 0}))
-    assert [bad.key for bad in bad_keys({"rows": "kinds", "queries": -1, "handles": 1.5})] == ["queries", "handles"]
 
 
 def test_a_worker_that_ends_plainly_is_a_fault_of_its_input(capsys: pytest.CaptureFixture[str]) -> None:

@@ -29,8 +29,8 @@ from conftest import TOP, variables
 from printed import FOLDER, assert_kept, heads, kept
 from test_units import one_machine
 
-# Of help and parts other tests have the words.
-TRANSCRIPTS = sorted({it.stem for it in FOLDER.glob("*.txt")} - {"help", "parts"})
+# Other tests have what is run for help and parts, and run sessions of Python.
+TRANSCRIPTS = sorted({it.stem for it in FOLDER.glob("*.txt")} - {"help", "parts", "exact"})
 # What bash has to run: words that go on, other streams, and octets that are no text.
 OF_BASH = re.compile(r"[|<>;&\n]|\$['(]")
 # Commands of bash.
