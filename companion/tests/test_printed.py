@@ -33,12 +33,17 @@ from test_units import one_machine
 TRANSCRIPTS = sorted({it.stem for it in FOLDER.glob("*.txt")} - {"help", "parts", "exact"})
 # What bash has to run: words that go on, other streams, and octets that are no text.
 OF_BASH = re.compile(r"[|<>;&\n]|\$['(]")
+# A program that writes an octet for each escape such as \xe9 of what it reads.
+OCTETS = (
+    r'import re, sys; text = re.sub(rb"\\x(..)", lambda it: bytes.fromhex(it[1].decode()), sys.stdin.buffer.read()); '
+    "sys.stdout.buffer.write(text)"
+)
 # Commands of bash.
 FUNCTIONS = {
     "hsp": f'{sys.executable} -m hsp "$@"',
     "hsplan": '"$HSPLAN" "$@"',
     "hsplan-stream": '"$HSPLAN_STREAM" "$@"',
-    "octets": "perl -pe 's/\\\\x(..)/chr hex $1/ge'",
+    "octets": f"{sys.executable} -c '{OCTETS}'",
     "terminal": """NO_COLOR=1 script -qec "$*" /dev/null | tr -d '\\r'""",
 }
 FILES = "--settings settings.toml --demand demand.csv --costs costs.csv --capacity capacity.csv"
