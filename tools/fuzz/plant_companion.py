@@ -45,47 +45,24 @@ SECONDS, MORE = 900, 100
 # Tests of a line are run as long as these measured seconds together, and one that takes more is run late.
 MOST, DEAR = 90.0, 4.0
 COMPANION = os.path.join(programs.TOP, "companion")
-# The tests of a module, by the beginning of its path; the first that fits counts.
+# The tests of a module, by the beginning of its path; the first that fits counts. The transcripts try each.
 TESTS = {
     "fleet/": "test_fleet test_bounds",
-    "doctor/guard": "test_bounds test_doctor",
-    "doctor/table": "test_doctor_rows test_doctor test_doctor_printed test_doctor_words",
-    "doctor/faults": "test_doctor_rows test_doctor test_doctor_printed test_doctor_words test_doctor_cut_short",
-    "doctor/word": "test_doctor_words test_doctor_parts",
-    "doctor/commands": "test_doctor_words",
-    "doctor/doubts": "test_doctor_doubts test_doctor",
-    "doctor/next": "test_doctor test_plan",
-    "doctor/": "test_doctor test_doctor_parts test_doctor_doubts test_doctor_words test_doctor_random",
+    "doctor/guard": "test_bounds",
+    "doctor/": "test_doctor_rows test_doctor_parts test_doctor_cut_short test_doctor_random",
     "plans/page": "test_page test_text",
-    "plans/charts": "test_whatif test_text",
-    "plans/whatif": "test_whatif",
+    "plans/charts": "test_exact test_whatif test_text",
     "plans/answering": "test_units test_plan",
     "plans/marks": "test_marks test_bounds",
-    "plans/plans": "test_plan test_whatif test_units test_shares",
-    "plans/terminal": "test_plan test_shares test_text",
+    "plans/": "test_exact test_plan test_whatif test_units test_shares test_text",
     "base/bounds": "test_bounds",
-    "base/files": "test_sites test_writes",
-    "base/grammar": "test_doctor_words",
-    "base/signals": "test_writes",
-    "base/spelling": "test_exact test_doctor",
-    "base/text": "test_text test_plan",
-    "base/units": "test_units",
-    "intake/joining": "test_sites test_writes",
-    "intake/records": "test_sites",
+    "base/": "test_exact test_text test_writes test_units test_sites test_plan",
     "intake/site": "test_sites test_bounds test_text",
-    "intake/skeleton": "test_sites",
     "intake/bring": "test_demand test_sites test_writes test_marks test_demand_time",
     "intake/kinds": "test_kinds",
-    "intake/outlook": "test_kinds test_demand",
-    "intake/times": "test_demand_time",
-    "intake/busiest": "test_demand_time",
-    "intake/tally": "test_demand test_bounds",
-    "intake/prefixes": "test_demand test_marks",
-    "intake/queries": "test_demand test_bounds",
-    "intake/logs": "test_demand test_bounds",
-    "intake/forms": "test_demand test_bounds test_demand_time",
-    "intake/regions": "test_demand",
-    "": "test_plan test_sites test_whatif test_doctor test_units",
+    "intake/outlook": "test_exact test_kinds test_demand",
+    "intake/": "test_exact test_demand test_demand_time test_bounds test_marks test_sites test_writes",
+    "": "test_plan test_sites test_whatif test_units",
 }
 SWAPPED: dict[type, type] = {
     ast.Eq: ast.NotEq, ast.NotEq: ast.Eq, ast.Lt: ast.LtE, ast.LtE: ast.Lt, ast.Gt: ast.GtE, ast.GtE: ast.Gt,
@@ -270,7 +247,7 @@ class Reached:
 
 def tests_of(path: str) -> list[str]:
     names = next(tests for begin, tests in TESTS.items() if path.startswith(begin))
-    return [os.path.join("tests", f"{it}.py") for it in names.split()]
+    return [os.path.join("tests", f"{it}.py") for it in [*names.split(), "test_printed"]]
 
 
 def are_passed(room: str, words: list[str], seconds: float) -> bool:
