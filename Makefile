@@ -5,6 +5,7 @@
 # make uninstall   removes what make install put there
 # make prove       proves the program's crates from nothing, and builds the program
 # make release     writes the folder release from what was proved and built
+# make quick       runs the checks that need no built program: documents, examples, completions, types
 # make test        runs the whole gate: the checks of documents and examples, every proof from nothing,
 #                  every test and every must-fail edit
 # make mutants     checks that each wrong body of mutants/ is refused by its test or case; outside the gate
@@ -14,7 +15,7 @@ MAKEFLAGS += --no-print-directory
 PREFIX ?= /usr/local
 DESTDIR ?=
 
-.PHONY: demo try install uninstall prove release test mutants fuzz
+.PHONY: demo try install uninstall prove release quick test mutants fuzz
 
 demo:
 	@tools/demo.py
@@ -34,8 +35,7 @@ prove:
 release:
 	@tools/make_release.py
 
-# The checks that need no built program run before the proofs.
-test:
+quick:
 	tools/gate/packages.py
 	tools/gate/make_examples.py --check
 	tools/pictures/draw.py --check
@@ -48,6 +48,9 @@ test:
 	tools/gate/check_completions.py
 	tools/gate/check_modules.py
 	tools/gate/check_tools.py
+
+# The checks that need no built program run before the proofs.
+test: quick
 	RT_JOBS=$${RT_JOBS:-$$(tools/gate/lanes.py)} rt ci
 	tools/gate/check_docs.py
 	tools/gate/check_examples.py
