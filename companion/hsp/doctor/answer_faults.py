@@ -10,8 +10,9 @@ from hsp.base.grammar import GREATEST_COUNT, GREATEST_UNIT
 from hsp.base.numbers import listed, some
 from hsp.base.paths import shell_word
 from hsp.doctor.findings import Place, Text, Words, found, quoted
-from hsp.doctor.question import Question, Said
+from hsp.doctor.question import ORDER, Question, Said
 from hsp.doctor.table_faults import Explained
+from hsp.plans.service import newer_than
 
 AGAIN = "print it again: hsplan plan .. > plan.txt"
 # The reasons of a no, and the file that they speak of.
@@ -95,23 +96,11 @@ def verdict(question: Question, said: Said) -> Explained:
     """A plan to which the checker says no."""
     means, kinds = REASONS.get(said.word, ("the checker says no", ("demand",)))
     text = question.files["plan"].original
-    changed = newer_than(question, text.path)
+    inputs = [question.files[role].original.path for role in ORDER[:5] if role in question.files]
+    changed = newer_than(inputs, text.path)
     why = f"{means}; likely {listed(changed)} changed since" if changed else f"{means}; look at {listed(kinds)}"
     words = Words("the plan isn't one of these inputs", AGAIN, why)
     return Explained(found(text.path, Place(), words, said.line), [])
-
-
-def newer_than(question: Question, path: str) -> list[str]:
-    """The names of inputs that were written after a file."""
-    if not os.path.isfile(path):
-        return []
-    time = os.stat(path).st_mtime
-    paths = [
-        question.files[role].original.path
-        for role in ("settings", "values", "demand", "costs", "capacity")
-        if role in question.files
-    ]
-    return [os.path.basename(own) for own in paths if os.path.isfile(own) and os.stat(own).st_mtime > time]
 
 
 def wrong_kind(question: Question, said: Said) -> Explained:

@@ -359,7 +359,7 @@ def stale_plan(service: Service, programs: Programs, path: str) -> list[str] | N
     own = {path_in(service.folder, name) for name in (*NAMES.values(), VALUES)}
     if not {inputs.settings, inputs.demand, inputs.costs, inputs.capacity} <= own:
         return None
-    return None if programs.verdict(inputs, path) == "yes" else newer_than(inputs, path)
+    return None if programs.verdict(inputs, path) == "yes" else newer_than(inputs.files(), path)
 
 
 def old_plan(read: Read, programs: Programs) -> None:

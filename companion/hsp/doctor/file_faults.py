@@ -9,8 +9,8 @@ import stat
 from hsp.base.bounds import LARGEST
 from hsp.base.paths import shell_word
 from hsp.doctor.findings import Finding, Place, Words, found
+from hsp.plans.service import NAMES
 
-CONVENTIONS = {"settings": "settings.toml", "demand": "demand.csv", "costs": "costs.csv", "capacity": "capacity.csv"}
 TOO_LARGE = Words(
     f"the file has more than {LARGEST:,} octets",
     "give a smaller file: this is likely another one",
@@ -43,7 +43,7 @@ def unreadable(path: str, role: str) -> Words | None:
 def _of_mode(path: str, role: str, mode: int) -> Words | None:
     """What is wrong with a file that is there: a folder, too large, or closed to this user."""
     if stat.S_ISDIR(mode):
-        name = CONVENTIONS.get(role, "the file")
+        name = NAMES.get(role, "the file")
         return Words(
             "a folder, not a file", f"give the file in it, as {os.path.join(path, name)}", "hsplan reads files"
         )
@@ -71,13 +71,11 @@ def _absent(path: str, role: str) -> Words:
     near = difflib.get_close_matches(own, names, 1, 0.6)
     stem = os.path.splitext(own)[0]
     if near and not difflib.get_close_matches(stem, [os.path.splitext(near[0])[0]], 1, 0.6):
-        near = [name for name in (CONVENTIONS.get(role, ""),) if name in names]
+        near = [name for name in (NAMES.get(role, ""),) if name in names]
     if near:
         remedy = f"did you mean {os.path.join(os.path.dirname(path), near[0])}? Rename it, or give it by --{role}"
         return Words("no such file", remedy, f"{near[0]} is there")
-    remedy = f"give another file by --{role}" + (
-        "; hsp new makes a folder with all of them" if role in CONVENTIONS else ""
-    )
+    remedy = f"give another file by --{role}" + ("; hsp new makes a folder with all of them" if role in NAMES else "")
     return Words("no such file", remedy, f"{folder} has {', '.join(names[:6]) or 'no file'}")
 
 

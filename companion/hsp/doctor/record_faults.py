@@ -4,7 +4,7 @@ from __future__ import annotations
 
 import os
 import re
-from collections.abc import Iterator
+from collections.abc import Iterable, Iterator
 from dataclasses import replace
 
 from hsp.base.grammar import MOST_SERVERS
@@ -19,10 +19,6 @@ from hsp.doctor.table_faults import Explained
 
 # No server has fewer octets: its identifier, its address, and two numbers.
 LEAST_SERVER = 28
-
-
-def is_record(programs: Programs, octets: bytes) -> bool:
-    return run("hsplan", "site", programs.put(octets, ".site")).status == 0
 
 
 def servers_in(programs: Programs, octets: bytes) -> int:
@@ -141,7 +137,8 @@ def no_value(question: Question, said: Said) -> Explained:
     entry = Entry(question, "site", said.numbers.get("site", 0))
     index, name = entry.values.get("index"), entry.values.get("name")
     beside = os.path.join(os.path.dirname(entry.text.path), "sites.values")
-    good = _indices(question)
+    usual = [*range(1, 33), 100, 101, 200, 300, 301] if "values" in question.files else []
+    good = " or ".join(_indices(question.path("values"), usual)[:4]) if usual else ""
     if "values" not in question.files:
         there = "put the value list in sites.values beside the settings"
         there = f"{beside} is there" if os.path.exists(beside) else there
@@ -160,14 +157,9 @@ def no_value(question: Question, said: Said) -> Explained:
     return entry.said(said, entry.place("index"), replace(words, group=group))
 
 
-def _indices(question: Question) -> str:
-    """The indices at which hsplan finds a site in the value list, of those that are usual."""
-    if "values" not in question.files:
-        return ""
-    path = question.path("values")
-    usual = [*range(1, 33), 100, 101, 200, 300, 301]
-    good = [str(index) for index in usual if not run("hsplan", "site", f"--index={index}", path).status]
-    return " or ".join(good[:4])
+def _indices(path: str, indices: Iterable[int]) -> list[str]:
+    """Those of some indices at which hsplan finds a site in a value list."""
+    return [str(index) for index in indices if not run("hsplan", "site", f"--index={index}", path).status]
 
 
 # What is wrong with a record that a reader accepts, by hsplan's word: message, remedy and reason.
@@ -227,7 +219,7 @@ def _bad_list(question: Question, said: Said, role: str) -> Explained:
         "give the value list, octet for octet",
         f"it can't be read from octet {said.numbers.get('at', 0):,} on",
     )
-    if is_record(question.programs, octets):
+    if not run("hsplan", "site", question.programs.put(octets, ".site")).status:
         remedy, why = (
             "write its digits as record in the settings; or give the value list",
             "this is one site's record",
@@ -255,7 +247,7 @@ def value_of_list(question: Question, said: Said) -> Explained:
     draft = question.files["file"]
     path = draft.original.path
     index = next((option.partition("=")[2] for option in question.options if option.startswith("--index")), "")
-    good = [str(number) for number in range(1, 33) if not run("hsplan", "site", f"--index={number}", path).status]
+    good = _indices(path, range(1, 33))
     why = "no value has this index" if said.word == "NoValue" else "the value with this index is no HS_SITE"
     remedy = f"write --index {good[0]}" if good else "look up the index of the site's value"
     return Explained(found(path, Place(), Words(f"no site at index {index}", remedy, why), said.line), [])

@@ -160,7 +160,7 @@ def of_these_files(folder: str, programs: Programs, inputs: Inputs, plan: str) -
     verdict = programs.verdict(inputs, plan)
     if not verdict.startswith("no "):
         return
-    newer = newer_than(inputs, plan)
+    newer = newer_than(inputs.files(), plan)
     why = f"the plan is older than {listed(newer)}" if newer else "the plan isn't one of these files"
     raise Unfit(f"{plan}: {why}: hsp plan {shell_word(folder)}; hsplan check says {verdict}")
 

@@ -9,6 +9,7 @@ import ipaddress
 import os
 import re
 import tomllib
+from collections.abc import Iterable
 from dataclasses import dataclass, field
 from typing import Any
 
@@ -188,11 +189,10 @@ def inputs_in(folder: str, given: dict[str, str | None], unit: int) -> Inputs:
     return Inputs(**files, values=values, unit=unit)
 
 
-def newer_than(inputs: Inputs, plan: str) -> list[str]:
-    """The names of the inputs that changed after a plan was written."""
-    files = [path for path in (inputs.settings, inputs.values, inputs.demand, inputs.costs, inputs.capacity) if path]
-    time = os.stat(plan).st_mtime
-    return [os.path.basename(path) for path in files if os.stat(path).st_mtime > time]
+def newer_than(files: Iterable[str | None], plan: str) -> list[str]:
+    """The names of the files that changed after a plan was written."""
+    there = [path for path in files if path and os.path.isfile(path) and os.path.isfile(plan)]
+    return [os.path.basename(path) for path in there if os.stat(path).st_mtime > os.stat(plan).st_mtime]
 
 
 def table(path: str) -> list[list[str]]:
