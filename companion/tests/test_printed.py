@@ -86,7 +86,7 @@ def written(service: str, folder: str) -> str:
 
 def by_bash(command: str) -> str:
     functions = {f"BASH_FUNC_{name}%%": f"() {{ {body}; }}" for name, body in FUNCTIONS.items()}
-    environment = variables(SHELL="/bin/bash", **functions)
+    environment = variables(SHELL="/bin/bash", LC_ALL="C", **functions)
     done = subprocess.run(["bash", "-ec", command], env=environment, capture_output=True)
     return streams(done.stdout.decode(), done.stderr.decode(), done.returncode)
 
@@ -126,7 +126,8 @@ def _alone(tmp_path: Path, monkeypatch: pytest.MonkeyPatch) -> None:
     (tmp_path / "here").mkdir()
     monkeypatch.chdir(tmp_path / "here")
     monkeypatch.setattr("hsp.cli.shown_findings", with_ends)
-    for name, value in (("SOURCE_DATE_EPOCH", "1795770000"), ("EXAMPLES", str(TOP / "examples")), ("FILES", FILES)):
+    own = {"EXAMPLES": str(TOP / "examples"), "FILES": FILES, "SOURCE_DATE_EPOCH": "1795770000", "COLUMNS": "100"}
+    for name, value in own.items():
         monkeypatch.setenv(name, value)
 
 
