@@ -24,7 +24,7 @@ use Rattle.hsp_dispatch.specs.declared.fault.LogFault.{LogFault}
 use Rattle.hsp_dispatch.specs.declared.fault.LogFault.TheVariants as log_fault
 use Rattle.hsp_faults.specs.FaultText.{fault_of_log}
 use Rattle.hsp_faults.specs.declared.fault.Fault.{Fault}
-use Rattle.hsp_faults.specs.declared.fault.Fault.TheVariants.{BadFronts, Cert, Log, OutOfMemory}
+use Rattle.hsp_faults.specs.declared.fault.Fault.TheVariants.{BadFronts, Log, OutOfMemory}
 use Rattle.hsp_runs.specs.Always.{GivesTheDefinedAlways, ReadsAlways}
 use Rattle.hsp_runs.specs.Counts.{above_none}
 use Rattle.hsp_runs.specs.Dispatch.{AnswersAs, AnswersBy, EndsLog, Refuses, Staff, a_dispatcher, fronts_at, so_many}
@@ -32,6 +32,7 @@ use Rattle.hsp_headline.specs.Headline.{Defines, ShowsOf}
 use Rattle.hsp_headline.specs.Instance.{IsInstanceOf}
 use Rattle.hsp_headline.specs.Laws.{GivesNothingElse}
 use Rattle.hsp_runs.specs.Logs.{IsOkUnlessLog}
+use Rattle.hsp_runs.specs.Parts.{IsNamed}
 use Rattle.hsp_runs.specs.Plan.{IsPlanText, Printed}
 use Rattle.hsp_headline.specs.Shown.{Holds, Shows, Spells}
 use Rattle.hsp_headline.specs.Memory.{OrNoMemory}
@@ -57,25 +58,34 @@ gives_always only inputs (Err e) (inl memory) it page = memory
 gives_always only inputs (Err e) (inr is) it page = let none = only inputs it (Err e) page is in cc (none)
 
 -- what is read of a text whose reading this claim is
-pub reads_always : (octets : List ℕ) (given : Claim)
+reads_always : (octets : List ℕ) (given : Claim)
     → ((other : Result Claim CertFault) → Means octets other → Agrees (Ok given) other) → ReadsAlways octets (Ok given)
 reads_always octets given only claim is text =
     let same : ◌≡◌ {A = Result Claim CertFault} (Ok given) (Ok claim) = only (Ok claim) (is, text) in cc (same)
 
 -- a text with a fault spells no certificate
-pub reads_none : (octets : List ℕ) (fault : CertFault) → fault ≢ cert_fault.OutOfMemory
+reads_none : (octets : List ℕ) (fault : CertFault) (named : Fault) → fault ≢ cert_fault.OutOfMemory
     → ((other : Result Claim CertFault) → Means octets other → Agrees (Err fault) other)
-    → ReadsAlways octets (Err (Cert fault))
-reads_none octets cert_fault.OutOfMemory apart only claim is text = absurd (apart refl)
-reads_none octets (cert_fault.BadLine n) apart only claim is text =
+    → ReadsAlways octets (Err named)
+reads_none octets cert_fault.OutOfMemory named apart only claim is text = absurd (apart refl)
+reads_none octets (cert_fault.BadLine n) named apart only claim is text =
     let none : ◌≡◌ {A = Result Claim CertFault} (Err (cert_fault.BadLine n)) (Ok claim) = only (Ok claim) (is, text) in
     cc (none)
-reads_none octets cert_fault.Ended apart only claim is text =
+reads_none octets cert_fault.Ended named apart only claim is text =
     let none : ◌≡◌ {A = Result Claim CertFault} (Err cert_fault.Ended) (Ok claim) = only (Ok claim) (is, text) in
     cc (none)
-reads_none octets (cert_fault.AfterEnd n) apart only claim is text =
+reads_none octets (cert_fault.AfterEnd n) named apart only claim is text =
     let none : ◌≡◌ {A = Result Claim CertFault} (Err (cert_fault.AfterEnd n)) (Ok claim) = only (Ok claim) (is, text) in
     cc (none)
+
+-- where a text spells a certificate its reading is this one, or memory ran out, and so is what the run answers by it
+pub reads_named : (octets : List ℕ) (Names : CertFault → Fault → Type 0) (read : Result Claim CertFault)
+    (answer : Result Claim Fault) → IsNamed Names cert_fault.OutOfMemory read answer
+    → ((other : Result Claim CertFault) → Means octets other → Agrees read other) → ReadsAlways octets answer
+reads_named octets Names (Ok given) answer is only = rw is (reads_always octets given only)
+reads_named octets Names (Err fault) (Ok given) is only = absurd is
+reads_named octets Names (Err fault) (Err named) (inl (out, is)) only = λ claim spells text. is
+reads_named octets Names (Err fault) (Err named) (inr (apart, is)) only = reads_none octets fault named apart only
 
 -- ---- what is judged
 

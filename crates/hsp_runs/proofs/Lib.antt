@@ -9,3 +9,4 @@ pub mod ShownLog
 pub mod ShownFronts
 pub mod Always
 pub mod Pricing
+pub mod Naming

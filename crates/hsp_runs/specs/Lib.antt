@@ -1,6 +1,7 @@
 pub mod Locate
 pub mod SiteText
 pub mod Always
+pub mod Parts
 pub mod Logs
 pub mod Check
 pub mod Accepted

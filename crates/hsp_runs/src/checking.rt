@@ -10,7 +10,8 @@ ghost use Rattle.hsp_headline.specs.Shown.{Holds, Shows};
 ghost use Rattle.hsp_headline.specs.Memory.{IsOrNoMemory, OrNoMemory};
 
 use crate::instance::instance_in;
-use hsp_cert::{CertFault, Certificate, read_cert};
+use crate::parts::named;
+use hsp_cert::{Certificate, read_cert};
 use hsp_check::{Verdict, check};
 use hsp_faults::Fault;
 use hsp_headline::Inputs;
@@ -23,11 +24,7 @@ pub(crate) fn certificate_in(alloc: Global, octets: &[u8]) -> Result<Certificate
     // Where they spell one it is this one, or memory runs out.
     ensures always { ReadsAlways octets.now result }
 {
-    match read_cert(alloc, octets) {
-        Ok(certificate) => Ok(certificate),
-        Err(CertFault::OutOfMemory) => Err(Fault::OutOfMemory),
-        Err(fault) => Err(Fault::Cert(fault)),
-    }
+    named(read_cert(alloc, octets), Fault::Cert)
 }
 
 /// The verdict on a certificate.

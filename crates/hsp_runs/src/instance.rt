@@ -8,46 +8,33 @@ ghost use Rattle.hsp_headline.specs.Instance.{ReadsValuesOn};
 ghost use Rattle.hsp_headline.specs.Instance.{ReadsDemandOn, ReadsCapacities, ReadsCosts, ReadsDemand};
 ghost use Rattle.hsp_headline.specs.Memory.{OrNoMemory};
 
+use crate::parts::named;
 use crate::readings::{settings_in, values_in};
 use hsp_faults::Fault;
 use hsp_headline::Inputs;
 use hsp_headline::laws::instances_are_defined;
-use hsp_instance::{BuildFault, Instance, build};
+use hsp_instance::{Instance, build};
 use hsp_record::ValueList;
-use hsp_tables::{
-    Capacities, Costs, Demand, Settings, TableFault, read_capacity, read_costs, read_demand,
-};
+use hsp_tables::{Capacities, Costs, Demand, Settings, read_capacity, read_costs, read_demand};
 use std::alloc::Global;
 
 fn demand_in(alloc: Global, octets: &[u8]) -> Result<Demand, Fault>
     ensures { OrNoMemory (ReadsDemand octets.now) result }
 {
-    match read_demand(alloc, octets) {
-        Ok(demand) => Ok(demand),
-        Err(TableFault::OutOfMemory) => Err(Fault::OutOfMemory),
-        Err(fault) => Err(Fault::Demand(fault)),
-    }
+    named(read_demand(alloc, octets), Fault::Demand)
 }
 
 /// The costs that octets spell.
 pub fn costs_in(alloc: Global, octets: &[u8]) -> Result<Costs, Fault>
     ensures { OrNoMemory (ReadsCosts octets.now) result }
 {
-    match read_costs(alloc, octets) {
-        Ok(costs) => Ok(costs),
-        Err(TableFault::OutOfMemory) => Err(Fault::OutOfMemory),
-        Err(fault) => Err(Fault::Costs(fault)),
-    }
+    named(read_costs(alloc, octets), Fault::Costs)
 }
 
 fn capacities_in(alloc: Global, octets: &[u8]) -> Result<Capacities, Fault>
     ensures { OrNoMemory (ReadsCapacities octets.now) result }
 {
-    match read_capacity(alloc, octets) {
-        Ok(capacities) => Ok(capacities),
-        Err(TableFault::OutOfMemory) => Err(Fault::OutOfMemory),
-        Err(fault) => Err(Fault::Capacity(fault)),
-    }
+    named(read_capacity(alloc, octets), Fault::Capacity)
 }
 
 // Where the sites come from: the settings, and the value list that their sites' indices are of, where there is one.
@@ -73,18 +60,9 @@ fn build_read(
       capacities = capacity.now;
     })) result }
 {
-    match build(
-        alloc,
-        sources.settings,
-        sources.values,
-        demand,
-        costs,
-        capacity,
-    ) {
-        Ok(instance) => Ok(instance),
-        Err(BuildFault::OutOfMemory) => Err(Fault::OutOfMemory),
-        Err(fault) => Err(Fault::Build(fault)),
-    }
+    let Sources { settings, values } = sources;
+    let built = build(alloc, settings, values, demand, costs, capacity);
+    named(built, Fault::Build)
 }
 
 // Reads the capacities, and builds the instance.

@@ -9,6 +9,7 @@ mod fronts;
 mod instance;
 pub mod laws;
 mod locate;
+mod parts;
 mod plan;
 mod readings;
 mod report;

@@ -4,32 +4,25 @@ ghost use Rattle.std.specs.Prelude.{option_map};
 ghost use Rattle.hsp_headline.specs.Readings.{AreListed, AreSites, AreSitesIn, ReadsSettings, ReadsValues};
 ghost use Rattle.hsp_headline.specs.Memory.{OrNoMemory};
 
+use crate::parts::named;
 use hsp_faults::Fault;
-use hsp_instance::{BuildFault, Sites, build_sites};
-use hsp_record::{RecordFault, ValueList, decode_values};
-use hsp_tables::{Settings, TableFault, read_settings};
+use hsp_instance::{Sites, build_sites};
+use hsp_record::{ValueList, decode_values};
+use hsp_tables::{Settings, read_settings};
 use std::alloc::Global;
 
 /// The settings.
 pub fn settings_in(alloc: Global, octets: &[u8]) -> Result<Settings, Fault>
     ensures { OrNoMemory (ReadsSettings octets.now) result }
 {
-    match read_settings(alloc, octets) {
-        Ok(settings) => Ok(settings),
-        Err(TableFault::OutOfMemory) => Err(Fault::OutOfMemory),
-        Err(fault) => Err(Fault::Settings(fault)),
-    }
+    named(read_settings(alloc, octets), Fault::Settings)
 }
 
 // A value list.
 fn list_in(alloc: Global, octets: &[u8]) -> Result<ValueList<'_>, Fault>
     ensures { OrNoMemory (AreListed octets.now) result }
 {
-    match decode_values(alloc, octets) {
-        Ok(values) => Ok(values),
-        Err(RecordFault::OutOfMemory) => Err(Fault::OutOfMemory),
-        Err(fault) => Err(Fault::Values(fault)),
-    }
+    named(decode_values(alloc, octets), Fault::Values)
 }
 
 /// The value list, where one is given.
@@ -53,11 +46,7 @@ pub fn sites_of(
 ) -> Result<Sites, Fault>
     ensures { OrNoMemory (AreSites settings.now (option_map (λ v. v.now) values.entry)) result }
 {
-    match build_sites(alloc, settings, values) {
-        Ok(sites) => Ok(sites),
-        Err(BuildFault::OutOfMemory) => Err(Fault::OutOfMemory),
-        Err(fault) => Err(Fault::Build(fault)),
-    }
+    named(build_sites(alloc, settings, values), Fault::Build)
 }
 
 /// The sites that settings define, with the value list, where one is given.

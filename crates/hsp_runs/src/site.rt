@@ -7,8 +7,9 @@ ghost use Rattle.hsp_text.specs.Writing.{numbered};
 ghost use Rattle.hsp_runs.specs.SiteText.{IsRecordRun, IsSiteRun, IsValueRun, counts_text, numbers_text, server_line};
 ghost use Rattle.hsp_runs.specs.SiteText.{server_lines, site_text};
 
+use crate::parts::named;
 use hsp_faults::Fault;
-use hsp_record::{RecordFault, ServerRecord, SiteRecord, decode_site, decode_values};
+use hsp_record::{ServerRecord, SiteRecord, decode_site, decode_values};
 use hsp_text::{push_line, push_whole, read_whole};
 use std::alloc::{AllocError, Global};
 
@@ -99,22 +100,15 @@ fn site_text(alloc: Global, site: &SiteRecord) -> Result<Vec<u8>, AllocError>
 fn record_run(alloc: Global, octets: &[u8]) -> Result<Vec<u8>, Fault>
     ensures { IsRecordRun octets.now result }
 {
-    match decode_site(alloc, octets) {
-        Ok(site) => Ok(site_text(alloc, &site)?),
-        Err(RecordFault::OutOfMemory) => Err(Fault::OutOfMemory),
-        Err(fault) => Err(Fault::Site(fault)),
-    }
+    let site = named(decode_site(alloc, octets), Fault::Site)?;
+    Ok(site_text(alloc, &site)?)
 }
 
 // The text of the record that is the data of the value with this index.
 fn value_run(alloc: Global, octets: &[u8], index: u32) -> Result<Vec<u8>, Fault>
     ensures { IsValueRun octets.now index result }
 {
-    let values = match decode_values(alloc, octets) {
-        Ok(values) => values,
-        Err(RecordFault::OutOfMemory) => return Err(Fault::OutOfMemory),
-        Err(fault) => return Err(Fault::Values(fault)),
-    };
+    let values = named(decode_values(alloc, octets), Fault::Values)?;
     let Some(value) = values.find(index) else {
         return Err(Fault::NoValue);
     };
