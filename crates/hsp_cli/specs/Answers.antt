@@ -44,11 +44,15 @@ abbrev pub IsShownVerdict : Inputs → List ℕ → Result Verdict Fault → Typ
 IsShownVerdict inputs octets checked =
     IsChecked inputs octets checked × IfOk checked (λ verdict. verdict ≡ Yes → ShowsOf inputs octets)
 
+-- an answer, or why there is none
+abbrev pub Answered : Type 0
+Answered = Result Answer (Failure Fault)
+
 abbrev pub IsReply : Reply → Answer → Type 0
 IsReply reply answer = (answer.text.items ≡ reply.text) × (answer.status ≡ reply.status)
 
 -- the result of a run is one that stands, and answered so; or its fault is answered; or memory ran out
-abbrev pub IsAnswered : {X : Type 0} → (X → Reply) → (Result X Fault → Type 0) → Result Answer Failure → Type 0
+abbrev pub IsAnswered : {X : Type 0} → (X → Reply) → (Result X Fault → Type 0) → Answered → Type 0
 IsAnswered {X} reply Is (Ok answer) = (x : X) × Is (Ok x) × IsReply (reply x) answer
 IsAnswered reply Is (Err (Refused fault)) = (fault ≡ OutOfMemory) ⊎ Is (Err fault)
 IsAnswered reply Is (Err Memory) = ⊤

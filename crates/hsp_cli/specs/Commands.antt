@@ -1,5 +1,5 @@
 -- What a command answers: to which words, and from which files.
-use Rattle.std.specs.Prelude.{◌≡◌, ◌⊎◌, ⊤, ℕ, List, [], Option, Some, None, Result, Ok, Err, IsErrAnd, option_map}
+use Rattle.std.specs.Prelude.{◌≡◌, ◌⊎◌, ⊤, ℕ, List, [], Option, Some, None, Result, Ok, Err, option_map}
 use Rattle.hsp_cli_options.specs.Commands.{hsplan_app}
 use Rattle.clap.specs.Words.{fault_of, subcommand_of}
 use Rattle.hsp_cli_orders.specs.Orders.{IsOrderOf, IsUsage}
@@ -16,15 +16,12 @@ use Rattle.hsp_runs.specs.Report.{IsReported}
 use Rattle.hsp_runs.specs.declared.report.ReportKind.{ReportKind}
 use Rattle.hsp_runs.specs.declared.report.ReportKind.TheVariants.{Load, Region, Shortage}
 use Rattle.hsp_headline.specs.declared.inputs.Inputs.{Inputs}
-use Rattle.hsp_cli.specs.declared.answer.Answer.{Answer}
-use Rattle.hsp_cli.specs.declared.answer.Completed.{Completed}
-use Rattle.hsp_cli.specs.declared.failure.Failure.{Failure}
-use Rattle.hsp_cli.specs.Answers.{IsAnswered, IsShownPlan, IsShownVerdict, fields_reply, plan_reply, text_reply}
-use Rattle.hsp_cli.specs.Answers.{verdict_reply}
+use Rattle.hsp_cli.specs.Answers.{Answered, IsAnswered, IsShownPlan, IsShownVerdict, fields_reply, plan_reply}
+use Rattle.hsp_cli.specs.Answers.{text_reply, verdict_reply}
 use Rattle.hsp_cli.specs.Dispatching.{Dispatches, Opened}
-use Rattle.hsp_cli.specs.Failing.{IsUnread, failure_of}
+use Rattle.hsp_cli.specs.Failing.{LacksFile, failure_of}
 use Rattle.hsp_cli.specs.Files.{Disk, HoldsRest}
-use Rattle.hsp_cli.specs.Printing.{Prints}
+use Rattle.hsp_cli.specs.Printing.{Ended, Prints}
 
 -- the octets of a file that may be named
 abbrev pub HoldsNamed : Disk → Option (List ℕ) → Option (List ℕ) → Type 0
@@ -51,27 +48,23 @@ OneFails disk files =
     disk.fails files.settings ⊎ FailsNamed disk files.values ⊎ disk.fails files.demand ⊎ disk.fails files.costs
     ⊎ disk.fails files.capacity
 
--- a file, which may fail to be read, wasn't read; or memory ran out
-abbrev pub LacksFile : {A : Type 0} → Type 0 → Result A Failure → Type 0
-LacksFile MayFail answer = IsErrAnd answer (IsUnread MayFail)
-
-abbrev pub AnswersSites : Disk → List ℕ → Option (List ℕ) → List ℕ → Result Answer Failure → Type 0
+abbrev pub AnswersSites : Disk → List ℕ → Option (List ℕ) → List ℕ → Answered → Type 0
 AnswersSites disk settings values handle answer =
     LacksFile (disk.fails settings ⊎ FailsNamed disk values) answer
     ⊎ ((s : List ℕ) × (v : Option (List ℕ)) × disk.holds settings s × HoldsNamed disk values v
     × IsAnswered text_reply (AreLocated s v handle) answer)
 
-abbrev pub AnswersSite : Disk → Option (List ℕ) → List ℕ → Result Answer Failure → Type 0
+abbrev pub AnswersSite : Disk → Option (List ℕ) → List ℕ → Answered → Type 0
 AnswersSite disk index file answer =
     LacksFile (disk.fails file) answer
     ⊎ ((octets : List ℕ) × disk.holds file octets × IsAnswered fields_reply (IsSiteRun octets index) answer)
 
-abbrev pub AnswersPlan : Disk → InputFiles → Result Answer Failure → Type 0
+abbrev pub AnswersPlan : Disk → InputFiles → Answered → Type 0
 AnswersPlan disk files answer =
     LacksFile (OneFails disk files) answer
     ⊎ ((inputs : Inputs) × AreHeld disk files inputs × IsAnswered plan_reply (IsShownPlan inputs) answer)
 
-abbrev pub AnswersCheck : Disk → InputFiles → List ℕ → Result Answer Failure → Type 0
+abbrev pub AnswersCheck : Disk → InputFiles → List ℕ → Answered → Type 0
 AnswersCheck disk files plan answer =
     LacksFile (OneFails disk files ⊎ disk.fails plan) answer
     ⊎ ((inputs : Inputs) × (octets : List ℕ) × AreHeld disk files inputs × disk.holds plan octets
@@ -83,14 +76,14 @@ kind_of_report kind.Load = Load
 kind_of_report kind.Region = Region
 kind_of_report kind.Shortage = Shortage
 
-abbrev pub AnswersReport : Disk → InputFiles → List ℕ → AskedReport → Result Answer Failure → Type 0
+abbrev pub AnswersReport : Disk → InputFiles → List ℕ → AskedReport → Answered → Type 0
 AnswersReport disk files plan asked answer =
     LacksFile (OneFails disk files ⊎ disk.fails plan) answer
     ⊎ ((inputs : Inputs) × (octets : List ℕ) × AreHeld disk files inputs × disk.holds plan octets
     × IsAnswered text_reply (IsReported inputs octets (kind_of_report asked)) answer)
 
 -- the answer to an order whose text is printed as one; a log's lines are not
-abbrev pub AnswersTo : Disk → Order → Result Answer Failure → Type 0
+abbrev pub AnswersTo : Disk → Order → Answered → Type 0
 AnswersTo disk (order.LocatePlace option servers handle) answer =
     IsAnswered text_reply (λ text. text ≡ placed option servers handle) answer
 AnswersTo disk (order.LocateSites settings values handle) answer = AnswersSites disk settings values handle answer
@@ -112,18 +105,18 @@ DispatchFails disk files plan log = OneFails disk files ⊎ disk.fails plan ⊎ 
 
 -- a file, which may fail to be read, wasn't read, or memory ran out, and nothing was written; or the log was answered
 abbrev pub DispatchesFrom : Disk → Type 0 → InputFiles → List ℕ → List ℕ → Option (List ℕ) → Option (List ℕ)
-    → Option (List ℕ) → Result Completed Failure → Type 0
+    → Option (List ℕ) → Ended → Type 0
 DispatchesFrom disk MayFail files plan log fronts old new ended =
     ((new ≡ old) × LacksFile (DispatchFails disk files plan log) ended)
     ⊎ ((it : Opened) × AreOpened disk files plan log it × Dispatches MayFail fronts it old new ended)
 
 -- an order is carried out on an output, whose writes may fail or not: a log is answered, or the order's answer is
 -- printed
-abbrev pub CarriesOut : Disk → Type 0 → Order → Option (List ℕ) → Option (List ℕ) → Result Completed Failure → Type 0
+abbrev pub CarriesOut : Disk → Type 0 → Order → Option (List ℕ) → Option (List ℕ) → Ended → Type 0
 CarriesOut disk MayFail (order.Dispatch inputs plan log fronts) old new ended =
     DispatchesFrom disk MayFail inputs plan log fronts old new ended
 CarriesOut disk MayFail order old new ended =
-    (answer : Result Answer Failure) × AnswersTo disk order answer × Prints MayFail answer old new ended
+    (answer : Answered) × AnswersTo disk order answer × Prints MayFail answer old new ended
 
 -- the order that words give, in which clap finds no fault; or that they give none; or that memory ran out
 abbrev pub IsOrdered : List (List ℕ) → Result Order CommandFault → Type 0
@@ -132,12 +125,11 @@ IsOrdered words (Err command_fault.Usage) = IsUsage words
 IsOrdered words (Err command_fault.OutOfMemory) = ⊤
 
 -- it is carried out; where there is none, nothing was written, and the failure is reported
-abbrev pub ActsOn : Disk → Type 0 → Result Order CommandFault → Option (List ℕ) → Option (List ℕ)
-    → Result Completed Failure → Type 0
+abbrev pub ActsOn : Disk → Type 0 → Result Order CommandFault → Option (List ℕ) → Option (List ℕ) → Ended → Type 0
 ActsOn disk MayFail (Ok order) old new ended = CarriesOut disk MayFail order old new ended
 ActsOn disk MayFail (Err fault) old new ended = (new ≡ old) × (ended ≡ Err (failure_of fault))
 
 -- the words are obeyed
-abbrev pub Obeys : Disk → Type 0 → List (List ℕ) → Option (List ℕ) → Option (List ℕ) → Result Completed Failure → Type 0
+abbrev pub Obeys : Disk → Type 0 → List (List ℕ) → Option (List ℕ) → Option (List ℕ) → Ended → Type 0
 Obeys disk MayFail words old new ended =
     (order : Result Order CommandFault) × IsOrdered words order × ActsOn disk MayFail order old new ended

@@ -12,7 +12,7 @@ use crate::failure::Failure;
 use crate::output::Output;
 use hsp_dispatch::LogSums;
 use hsp_runs::{
-    Inputs, Locate, ReportKind, check_run, locate_run, plan_run, report_run, site_run,
+    Fault, Inputs, Locate, ReportKind, check_run, locate_run, plan_run, report_run, site_run,
     verdict_line, verdict_status,
 };
 use std::alloc::Global;
@@ -24,15 +24,23 @@ pub struct Answer {
     pub status: u8,
 }
 
-/// What a command ends with: a status and, where it answered a log, the log's sums.
+/// What a command ends with that was carried out: a status and, where it answered a log, the log's sums. `S` has the
+/// sums of a program's runs.
 #[derive(Debug, Drop)]
-pub struct Completed {
+pub struct Completed<S> {
     pub status: u8,
-    pub sums: Option<LogSums>,
+    pub sums: Option<S>,
 }
 
+/// How a command of `hsplan` ends.
+pub type Ended = Result<Completed<LogSums>, Failure<Fault>>;
+
 /// Where the handle is served.
-pub fn locate_answer(alloc: Global, locate: &Locate, handle: &[u8]) -> Result<Answer, Failure>
+pub fn locate_answer(
+    alloc: Global,
+    locate: &Locate,
+    handle: &[u8],
+) -> Result<Answer, Failure<Fault>>
     ensures { IsAnswered text_reply (IsLocated locate.now handle.now) result }
 {
     let text = locate_run(alloc, locate, handle)?;
@@ -40,7 +48,11 @@ pub fn locate_answer(alloc: Global, locate: &Locate, handle: &[u8]) -> Result<An
 }
 
 /// The fields of a site record or, with an index, of the record in the value with that index.
-pub fn site_answer(alloc: Global, octets: &[u8], index: Option<&[u8]>) -> Result<Answer, Failure>
+pub fn site_answer(
+    alloc: Global,
+    octets: &[u8],
+    index: Option<&[u8]>,
+) -> Result<Answer, Failure<Fault>>
     ensures { IsAnswered fields_reply
         (IsSiteRun octets.now (option_map (λ digits. digits.now) index.entry)) result }
 {
@@ -56,7 +68,7 @@ fn plan_status(is_short: bool) -> u8
 }
 
 /// The text of a plan, or of a shortage with status 3.
-pub fn plan_answer(alloc: Global, inputs: &Inputs) -> Result<Answer, Failure>
+pub fn plan_answer(alloc: Global, inputs: &Inputs) -> Result<Answer, Failure<Fault>>
     ensures { IsAnswered plan_reply (IsShownPlan inputs.now) result }
 {
     let plan = plan_run(alloc, inputs)?;
@@ -68,7 +80,7 @@ pub fn plan_answer(alloc: Global, inputs: &Inputs) -> Result<Answer, Failure>
 }
 
 /// The line of a verdict. A No has status 3.
-pub fn check_answer(alloc: Global, inputs: &Inputs, plan: &[u8]) -> Result<Answer, Failure>
+pub fn check_answer(alloc: Global, inputs: &Inputs, plan: &[u8]) -> Result<Answer, Failure<Fault>>
     ensures { IsAnswered verdict_reply (IsShownVerdict inputs.now plan.now) result }
 {
     let verdict = check_run(alloc, inputs, plan)?;
@@ -84,7 +96,7 @@ pub fn report_answer(
     inputs: &Inputs,
     plan: &[u8],
     kind: ReportKind,
-) -> Result<Answer, Failure>
+) -> Result<Answer, Failure<Fault>>
     ensures { IsAnswered text_reply (IsReported inputs.now plan.now kind) result }
 {
     let text = report_run(alloc, inputs, plan, kind)?;
@@ -92,10 +104,7 @@ pub fn report_answer(
 }
 
 /// Writes the text of an answer, hands it on, and returns its status.
-pub fn print<O: Output>(
-    out: &mut O,
-    answered: Result<Answer, Failure>,
-) -> Result<Completed, Failure>
+pub fn print<O: Output>(out: &mut O, answered: Result<Answer, Failure<Fault>>) -> Ended
     ensures prints { Prints O.may_fail answered (O.contents out.old) (O.contents out.new) result }
     ensures handed { IsHandedOn out.old out.new (O.contents out.new) (O.handed out.new) result }
 {

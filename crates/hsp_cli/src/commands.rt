@@ -8,7 +8,7 @@ ghost use Rattle.hsp_cli.specs.Commands.{CarriesOut, Obeys, kind_of_report};
 ghost use Rattle.hsp_cli.specs.Printing.{IsHandedOn};
 
 use crate::answer::{
-    Answer, Completed, check_answer, locate_answer, plan_answer, print, report_answer, site_answer,
+    Answer, Ended, check_answer, locate_answer, plan_answer, print, report_answer, site_answer,
 };
 use crate::dispatch::{dispatch, open_log};
 use crate::failure::Failure;
@@ -16,7 +16,7 @@ use crate::files::{FileSource, read_whole};
 use crate::inputs::{read_inputs, read_named};
 use crate::output::Output;
 use hsp_cli_orders::{AskedReport, InputFiles, Order, Word, read_command};
-use hsp_runs::{Locate, ReportKind};
+use hsp_runs::{Fault, Locate, ReportKind};
 use std::alloc::Global;
 
 // Carries out `locate` by a hash option and a number of servers.
@@ -25,7 +25,7 @@ fn locate_place(
     option: &Word<'_>,
     servers: &Word<'_>,
     handle: &Word<'_>,
-) -> Result<Answer, Failure>
+) -> Result<Answer, Failure<Fault>>
     ensures { IsAnswered text_reply (λ text.
         text ≡ placed option.now servers.now handle.now) result }
 {
@@ -41,7 +41,7 @@ fn locate_sites<S: FileSource>(
     settings: &Word<'_>,
     values: &Option<Word<'_>>,
     handle: &Word<'_>,
-) -> Result<Answer, Failure>
+) -> Result<Answer, Failure<Fault>>
     ensures { AnswersSites (S.disk files.now) settings.now values.now handle.now result }
 {
     let settings = read_whole(alloc, files, settings)?;
@@ -59,7 +59,7 @@ fn site<S: FileSource>(
     files: &S,
     index: &Option<Word<'_>>,
     file: &Word<'_>,
-) -> Result<Answer, Failure>
+) -> Result<Answer, Failure<Fault>>
     ensures { AnswersSite (S.disk files.now) index.now file.now result }
 {
     let octets = read_whole(alloc, files, file)?;
@@ -70,7 +70,11 @@ fn site<S: FileSource>(
 }
 
 // Carries out `plan`.
-fn plan<S: FileSource>(alloc: Global, files: &S, named: &InputFiles<'_>) -> Result<Answer, Failure>
+fn plan<S: FileSource>(
+    alloc: Global,
+    files: &S,
+    named: &InputFiles<'_>,
+) -> Result<Answer, Failure<Fault>>
     ensures { AnswersPlan (S.disk files.now) named.now result }
 {
     let inputs = read_inputs(alloc, files, named)?;
@@ -83,7 +87,7 @@ fn check<S: FileSource>(
     files: &S,
     named: &InputFiles<'_>,
     plan: &Word<'_>,
-) -> Result<Answer, Failure>
+) -> Result<Answer, Failure<Fault>>
     ensures { AnswersCheck (S.disk files.now) named.now plan.now result }
 {
     let inputs = read_inputs(alloc, files, named)?;
@@ -109,7 +113,7 @@ fn report<S: FileSource>(
     named: &InputFiles<'_>,
     plan: &Word<'_>,
     kind: AskedReport,
-) -> Result<Answer, Failure>
+) -> Result<Answer, Failure<Fault>>
     ensures { AnswersReport (S.disk files.now) named.now plan.now kind result }
 {
     let inputs = read_inputs(alloc, files, named)?;
@@ -123,7 +127,7 @@ fn carry_out<S: FileSource, O: Output>(
     files: &S,
     order: &Order<'_>,
     out: &mut O,
-) -> Result<Completed, Failure>
+) -> Ended
     ensures carries_out { CarriesOut (S.disk files.now) O.may_fail order.now (O.contents out.old)
         (O.contents out.new) result }
     ensures handed { IsHandedOn out.old out.new (O.contents out.new) (O.handed out.new) result }
@@ -163,7 +167,7 @@ pub fn obey<S: FileSource, O: Output>(
     files: &S,
     words: &[String],
     out: &mut O,
-) -> Result<Completed, Failure>
+) -> Ended
     ensures obeys { Obeys (S.disk files.now) O.may_fail (map string_bytes words.now)
         (O.contents out.old) (O.contents out.new) result }
     // Nothing that was written waits in a buffer of the output, unless a write failed.

@@ -8,8 +8,8 @@ ghost use Rattle.hsp_cli.specs.Failing.{IsUnread};
 ghost use Rattle.hsp_cli.specs.Printing.{IsFailedWrite, IsHandedOn};
 ghost use Rattle.hsp_runs.specs.Dispatch.{IsBeforeLog};
 
-use crate::answer::Completed;
-use crate::failure::Failure;
+use crate::answer::{Completed, Ended};
+use crate::failure::{Failure, Unread};
 use crate::files::{FileSource, OpenFile, read_whole};
 use crate::inputs::read_inputs;
 use crate::output::Output;
@@ -33,7 +33,7 @@ pub fn open_log<S: FileSource>(
     named: &InputFiles<'_>,
     plan: &Word<'_>,
     log: &Word<'_>,
-) -> Result<OpenLog<S::File>, Failure>
+) -> Result<OpenLog<S::File>, Unread>
     ensures opened { IfOk result (λ it. AreOpened (S.disk files.now) named.now plan.now log.now
         (opened_log it.inputs it.certificate.items (S.File.remaining it.log))) }
     ensures reads { IfOk result
@@ -81,7 +81,7 @@ fn handed_on<O: Output>(out: &mut O, fault: Fault) -> Fault
 }
 
 // Hands on the last lines, and ends with the sums and status 0 or, where that fails, with a failed write.
-fn complete<O: Output>(out: &mut O, sums: Option<LogSums>) -> Result<Completed, Failure>
+fn complete<O: Output>(out: &mut O, sums: Option<LogSums>) -> Ended
     ensures completes { Completes O.may_fail sums (O.contents out.old) (O.contents out.new) result }
     ensures handed { IsHandedOn out.old out.new (O.contents out.new) (O.handed out.new) result }
 {
@@ -98,7 +98,7 @@ pub fn dispatch<F: OpenFile, O: Output>(
     opened: OpenLog<F>,
     fronts: &Option<Word<'_>>,
     out: &mut O,
-) -> Result<Completed, Failure>
+) -> Ended
     ensures dispatches { Dispatches O.may_fail fronts.now
         (opened_log opened.inputs opened.certificate.items (F.remaining opened.log))
         (O.contents out.old) (O.contents out.new) result }
@@ -111,11 +111,7 @@ pub fn dispatch<F: OpenFile, O: Output>(
 }
 
 // Answers the log's entries, and returns their sums.
-fn dispatch_entries<F: OpenFile, O: Output>(
-    alloc: Global,
-    opened: OpenLog<F>,
-    out: &mut O,
-) -> Result<Completed, Failure>
+fn dispatch_entries<F: OpenFile, O: Output>(alloc: Global, opened: OpenLog<F>, out: &mut O) -> Ended
     ensures answers { AnswersEntries O.may_fail
         (opened_log opened.inputs opened.certificate.items (F.remaining opened.log))
         (O.contents out.old) (O.contents out.new) result }
@@ -138,7 +134,7 @@ fn dispatch_events<F: OpenFile, O: Output>(
     opened: OpenLog<F>,
     fronts: &Word<'_>,
     out: &mut O,
-) -> Result<Completed, Failure>
+) -> Ended
     ensures answers { AnswersEvents O.may_fail fronts.now
         (opened_log opened.inputs opened.certificate.items (F.remaining opened.log))
         (O.contents out.old) (O.contents out.new) result }

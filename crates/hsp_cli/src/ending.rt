@@ -1,30 +1,33 @@
-// How the program ends.
+// How a program ends.
 
 ghost use Rattle.std.specs.Prelude.{◌≡◌, ◌⊎◌, IfOk};
-ghost use Rattle.hsp_cli.specs.Ending.{Ends, IsHandedWith, Reports, ReportsBy, ReportsLine, last_text};
+ghost use Rattle.hsp_cli.specs.Ending.{Ends, IsHandedWith, Reports, ReportsBy, ReportsLine, failure_status, last_text};
 
 use crate::answer::Completed;
 use crate::failure::Failure;
 use crate::output::Output;
-use hsp_runs::{fault_line, status_of, sums_line};
+use crate::program::Program;
 use std::alloc::{AllocError, Global};
 
-/// The line that is printed at the end: that of a refused input, or that of the sums of a log, and otherwise no octets.
-pub fn last_line(alloc: Global, ended: &Result<Completed, Failure>) -> Result<Vec<u8>, AllocError>
-    ensures { IfOk result (λ line. line.items ≡ last_text ended.now) }
+/// The line that is printed at the end: that of a fault, or that of the sums of a log, and otherwise no octets.
+pub fn last_line<P: Program>(
+    alloc: Global,
+    ended: &Result<Completed<P::Sums>, Failure<P::Fault>>,
+) -> Result<Vec<u8>, AllocError>
+    ensures { IfOk result (λ line. line.items ≡ last_text P.fault_text P.sums_text ended.now) }
 {
     match ended {
         Ok(completed) => match &completed.sums {
-            Some(sums) => sums_line(alloc, sums),
+            Some(sums) => P::sums_line(alloc, sums),
             None => Ok(Vec::new(alloc)),
         },
-        Err(Failure::Refused(fault)) => fault_line(alloc, fault),
+        Err(Failure::Refused(fault)) => P::fault_line(alloc, fault),
         Err(_) => Ok(Vec::new(alloc)),
     }
 }
 
-/// Writes a text, and returns the status, which becomes 5 where the write failed.
-pub fn write_line<E: Output>(errors: &mut E, line: &[u8], status: u8) -> u8
+// Writes a text, and returns the status, which becomes 5 where the write failed.
+fn write_line<E: Output>(errors: &mut E, line: &[u8], status: u8) -> u8
     ensures reports { ReportsBy E.may_fail line.now status (E.contents errors.old)
         (E.contents errors.new) result }
     ensures handed { IsHandedWith E.may_fail (E.contents errors.new) (E.handed errors.new) result }
@@ -36,54 +39,70 @@ pub fn write_line<E: Output>(errors: &mut E, line: &[u8], status: u8) -> u8
 }
 
 // Writes the line or, where memory ran out for it, that it ran out, and returns the status to end with.
-fn report_line<E: Output>(errors: &mut E, line: &Result<Vec<u8>, AllocError>, status: u8) -> u8
-    ensures reports { ReportsLine E.may_fail line.now status (E.contents errors.old)
+fn report_line<P: Program, E: Output>(
+    errors: &mut E,
+    line: &Result<Vec<u8>, AllocError>,
+    status: u8,
+) -> u8
+    ensures reports { ReportsLine E.may_fail P.name line.now status (E.contents errors.old)
         (E.contents errors.new) result }
     ensures handed { IsHandedWith E.may_fail (E.contents errors.new) (E.handed errors.new) result }
 {
     match line {
         Ok(line) => write_line(errors, line.as_slice(), status),
-        Err(_) => write_line(errors, b"hsplan: OutOfMemory\n", 4),
+        Err(_) => write_line(errors, P::own_line(&Failure::Memory), 4),
     }
 }
 
-// Reports the failure, of a refused input by the line, and returns the status to end with.
-fn report_failure<E: Output>(
-    errors: &mut E,
-    failure: &Failure,
-    line: &Result<Vec<u8>, AllocError>,
-) -> u8
-    ensures reports { Reports E.may_fail failure.now line.now (E.contents errors.old)
-        (E.contents errors.new) result }
-    ensures handed { IsHandedWith E.may_fail (E.contents errors.new) (E.handed errors.new) result }
+// The status that goes with a failure.
+fn failure_status<P: Program>(failure: &Failure<P::Fault>) -> u8
+    ensures { result ≡ failure_status P.fault_status failure.now }
 {
     match failure {
-        Failure::Usage => write_line(errors, b"hsplan: Usage\n", 2),
-        Failure::Memory => write_line(errors, b"hsplan: OutOfMemory\n", 4),
-        Failure::Read => write_line(errors, b"hsplan: read failed\n", 5),
-        Failure::Write => write_line(errors, b"hsplan: write failed\n", 5),
-        Failure::Refused(fault) => report_line(errors, line, status_of(fault)),
+        Failure::Usage => 2,
+        Failure::Memory => 4,
+        Failure::Read | Failure::Write => 5,
+        Failure::Refused(fault) => P::fault_status(fault),
+    }
+}
+
+// Reports the failure, a fault by the line, and returns the status to end with.
+fn report_failure<P: Program, E: Output>(
+    errors: &mut E,
+    failure: &Failure<P::Fault>,
+    line: &Result<Vec<u8>, AllocError>,
+) -> u8
+    ensures reports { Reports E.may_fail P.name P.fault_status failure.now line.now
+        (E.contents errors.old) (E.contents errors.new) result }
+    ensures handed { IsHandedWith E.may_fail (E.contents errors.new) (E.handed errors.new) result }
+{
+    let status = failure_status::<P>(failure);
+    match failure {
+        Failure::Refused(_) => report_line::<P, E>(errors, line, status),
+        _ => write_line(errors, P::own_line(failure), status),
     }
 }
 
 /// Returns the status that the program ends with.
 ///
-/// Before that it writes on `errors`. By `line` it reports the sums of a log or a refused input, and any other failure
-/// by its own text. Where memory ran out for the line, it reports that.
-pub fn end_with<E: Output>(
+/// Before that it writes on `errors`. By `line` it reports the sums of a log or a fault, and any other failure by its
+/// own text. Where memory ran out for the line, it reports that.
+pub fn end_with<P: Program, E: Output>(
     errors: &mut E,
-    ended: &Result<Completed, Failure>,
+    ended: &Result<Completed<P::Sums>, Failure<P::Fault>>,
     line: &Result<Vec<u8>, AllocError>,
 ) -> u8
-    ensures ends { Ends E.may_fail ended.now line.now (E.contents errors.old)
-        (E.contents errors.new) result }
+    ensures ends { Ends E.may_fail P.name P.fault_status ended.now line.now
+        (E.contents errors.old) (E.contents errors.new) result }
     // Nothing was written, or what was written is handed on, unless a write failed.
     ensures handed { (errors.new ≡ errors.old)
         ⊎ IsHandedWith E.may_fail (E.contents errors.new) (E.handed errors.new) result }
 {
     match ended {
-        Ok(completed) if completed.sums.is_some() => report_line(errors, line, completed.status),
+        Ok(completed) if completed.sums.is_some() => {
+            report_line::<P, E>(errors, line, completed.status)
+        }
         Ok(completed) => completed.status,
-        Err(failure) => report_failure(errors, failure, line),
+        Err(failure) => report_failure::<P, E>(errors, failure, line),
     }
 }

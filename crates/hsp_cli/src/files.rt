@@ -4,7 +4,7 @@ ghost use Rattle.std.specs.Prelude.{⊤, IfErr, IfOk};
 ghost use Rattle.hsp_cli.specs.Failing.{IsUnread};
 ghost use Rattle.hsp_cli.specs.Files.{Disk, HoldsRest, MayRead};
 
-use crate::failure::Failure;
+use crate::failure::Unread;
 use hsp_cli_orders::Word;
 use hsp_talk::Source;
 use hsp_text::read_file;
@@ -19,7 +19,7 @@ pub trait OpenFile: Source + Drop {
     ghost may_fail: { Self → Type 0 };
 
     /// Every octet.
-    fn read_rest(self, alloc: Global) -> Result<Vec<u8>, Failure>
+    fn read_rest(self, alloc: Global) -> Result<Vec<u8>, Unread>
         ensures octets { IfOk result (λ octets. MayRead (Self.remaining self) octets.items) }
         ensures unread { IfErr result (IsUnread (may_fail self)) };
 }
@@ -28,10 +28,10 @@ pub trait OpenFile: Source + Drop {
 impl<R: Read + Drop> OpenFile for R {
     ghost may_fail = { λ _. ⊤ };
 
-    fn read_rest(self, alloc: Global) -> Result<Vec<u8>, Failure> {
+    fn read_rest(self, alloc: Global) -> Result<Vec<u8>, Unread> {
         match read_file(alloc, self)? {
             Some(octets) => Ok(octets),
-            None => Err(Failure::Read),
+            None => Err(Unread::Read),
         }
     }
 }
@@ -44,7 +44,7 @@ pub trait FileSource {
     ghost disk: { Self → Disk };
 
     /// The file at this path, to be read.
-    fn open(&self, path: &Word<'_>) -> Result<Self::File, Failure>
+    fn open(&self, path: &Word<'_>) -> Result<Self::File, Unread>
         ensures held { IfOk result
             (λ file. HoldsRest (disk self.now) path.now (Self.File.remaining file)) }
         ensures stops { IfOk result
@@ -60,11 +60,11 @@ impl<R: Files + AllocGlobal> FileSource for R {
 
     ghost disk = { λ _. record { holds = λ _ _. ⊤; fails = λ _. ⊤ } };
 
-    fn open(&self, path: &Word<'_>) -> Result<R::File, Failure> {
+    fn open(&self, path: &Word<'_>) -> Result<R::File, Unread> {
         match fs::open(self, path.as_str()) {
             Ok(file) => Ok(file),
-            Err(error) if error.kind() == io::ErrorKind::OutOfMemory => Err(Failure::Memory),
-            Err(_) => Err(Failure::Read),
+            Err(error) if error.kind() == io::ErrorKind::OutOfMemory => Err(Unread::Memory),
+            Err(_) => Err(Unread::Read),
         }
     }
 }
@@ -74,7 +74,7 @@ pub fn read_whole<S: FileSource>(
     alloc: Global,
     files: &S,
     path: &Word<'_>,
-) -> Result<Vec<u8>, Failure>
+) -> Result<Vec<u8>, Unread>
     ensures octets { IfOk result (λ octets. (S.disk files.now).holds path.now octets.items) }
     ensures unread { IfErr result (IsUnread ((S.disk files.now).fails path.now)) }
 {

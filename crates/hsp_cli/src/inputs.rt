@@ -4,7 +4,7 @@ ghost use Rattle.std.specs.Prelude.{IfErr, IfOk, option_map};
 ghost use Rattle.hsp_cli.specs.Commands.{AreHeld, FailsNamed, HoldsNamed, OneFails};
 ghost use Rattle.hsp_cli.specs.Failing.{IsUnread};
 
-use crate::failure::Failure;
+use crate::failure::Unread;
 use crate::files::{FileSource, read_whole};
 use hsp_cli_orders::{InputFiles, Word};
 use hsp_runs::Inputs;
@@ -15,7 +15,7 @@ pub fn read_named<S: FileSource>(
     alloc: Global,
     files: &S,
     path: &Option<Word<'_>>,
-) -> Result<Option<Vec<u8>>, Failure>
+) -> Result<Option<Vec<u8>>, Unread>
     ensures octets { IfOk result
         (λ octets. HoldsNamed (S.disk files.now) path.now (option_map (λ v. v.items) octets)) }
     ensures unread { IfErr result (IsUnread (FailsNamed (S.disk files.now) path.now)) }
@@ -31,7 +31,7 @@ pub fn read_inputs<S: FileSource>(
     alloc: Global,
     files: &S,
     named: &InputFiles<'_>,
-) -> Result<Inputs, Failure>
+) -> Result<Inputs, Unread>
     ensures held { IfOk result (λ inputs. AreHeld (S.disk files.now) named.now inputs) }
     ensures unread { IfErr result (IsUnread (OneFails (S.disk files.now) named.now)) }
 {

@@ -1,5 +1,5 @@
 // The edge of the program: its words, the files behind their paths, answers and the lines of logs on standard output,
-// and how it ends.
+// and how it ends. Words, files, outputs and how a program ends serve both programs.
 #![tactic(auto)]
 
 mod answer;
@@ -10,14 +10,16 @@ mod failure;
 mod files;
 mod inputs;
 mod output;
+mod program;
 mod words;
 
-pub use answer::{Answer, Completed};
+pub use answer::{Answer, Completed, Ended};
 pub use commands::obey;
 pub use dispatch::{OpenLog, open_log};
-pub use ending::{end_with, last_line, write_line};
-pub use failure::Failure;
+pub use ending::{end_with, last_line};
+pub use failure::{Failure, Unread};
 pub use files::{FileSource, OpenFile, read_whole};
 pub use inputs::{read_inputs, read_named};
 pub use output::Output;
+pub use program::{Hsplan, Program};
 pub use words::take_words;

@@ -3,8 +3,7 @@
 ghost use Rattle.std.specs.Prelude.{◌≡◌, drop, map, option_map, string_bytes};
 ghost use Rattle.hsp_cli.specs.Words.{AreOfLine, AreWords, seen};
 
-use crate::failure::Failure;
-use hsp_cli_orders::split_words;
+use hsp_cli_orders::{CommandFault, split_words};
 use hsp_text::first_line;
 use std::alloc::Global;
 use std::rt::Env;
@@ -22,27 +21,29 @@ fn behind_name(words: Vec<String>) -> Vec<String>
 }
 
 // The arguments.
-fn arguments<R: Env + AllocGlobal>(rt: &R) -> Result<Vec<String>, Failure> {
+fn arguments<R: Env + AllocGlobal>(rt: &R) -> Result<Vec<String>, CommandFault> {
     let all = match env::args(rt) {
         Ok(all) => all,
-        Err(error) if error.kind() == io::ErrorKind::OutOfMemory => return Err(Failure::Memory),
-        Err(_) => return Err(Failure::Usage),
+        Err(error) if error.kind() == io::ErrorKind::OutOfMemory => {
+            return Err(CommandFault::OutOfMemory);
+        }
+        Err(_) => return Err(CommandFault::Usage),
     };
     let words: Vec<String> = all.collect(rt.alloc())?;
     Ok(behind_name(words))
 }
 
 // The words of the line that was found.
-fn words_of_line(alloc: Global, line: Option<Vec<u8>>) -> Result<Vec<String>, Failure>
+fn words_of_line(alloc: Global, line: Option<Vec<u8>>) -> Result<Vec<String>, CommandFault>
     ensures { AreOfLine (option_map (λ line. line.items) line)
         (seen (λ words. map string_bytes words.items) result) }
 {
     let Some(line) = line else {
-        return Err(Failure::Usage);
+        return Err(CommandFault::Usage);
     };
     match split_words(alloc, line.as_slice())? {
         Some(words) => Ok(words),
-        None => Err(Failure::Usage),
+        None => Err(CommandFault::Usage),
     }
 }
 
@@ -51,7 +52,7 @@ fn words_from(
     alloc: Global,
     arguments: Vec<String>,
     line: Option<Vec<u8>>,
-) -> Result<Vec<String>, Failure>
+) -> Result<Vec<String>, CommandFault>
     ensures { AreWords (map string_bytes arguments.items) (option_map (λ line. line.items) line)
         (seen (λ words. map string_bytes words.items) result) }
 {
@@ -64,7 +65,7 @@ fn words_from(
 
 /// The words of the command: the arguments or, without any, those of the first line of standard input. Standard input
 /// isn't read otherwise.
-pub fn take_words<R: Env + Input + AllocGlobal>(rt: &R) -> Result<Vec<String>, Failure> {
+pub fn take_words<R: Env + Input + AllocGlobal>(rt: &R) -> Result<Vec<String>, CommandFault> {
     let arguments = arguments(rt)?;
     let line = if arguments.is_empty() {
         first_line(rt.alloc(), rt.reader())?

@@ -1,19 +1,19 @@
 -- Lists of faulty rows that are handed on.
-use Rattle.std.proofs.Common.{◌≡◌, ◌≢◌, ◌⊎◌, ◌∙◌, inl, inr, ℕ, Bool, true, false, List, []}
+use Rattle.std.proofs.Common.{◌≡◌, ◌≢◌, ◌⊎◌, ◌∙◌, inl, inr, ℕ, Bool, List, []}
 use Rattle.std.proofs.Common.{Option, Some, None, Err, option_map, refl, sym}
 use Rattle.std.proofs.lemmas.List.{append-nil}
 use Rattle.std.specs.Io.KnownBytes.{Appends, Keeps}
 use Rattle.hsp_csv.specs.Places.{Placed, placed_of}
 use Rattle.hsp_cli.specs.Files.{Disk}
+use Rattle.hsp_cli.specs.declared.failure.Failure.TheVariants.{Write}
 use Rattle.hsp_cli_orders.specs.declared.stream_order.FaultsOf.{FaultsOf}
 use Rattle.hsp_cli_orders.specs.declared.stream_order.FaultsOf.TheVariants as of
 use Rattle.hsp_faulty.specs.Lines.{text_of}
 use Rattle.hsp_faulty.specs.Runs.{AreAll, AreFirst, IsListBegun, IsListed}
 use Rattle.hsp_faulty.specs.declared.checker.Asked.{Asked}
 use Rattle.hsp_faulty.proofs.Listing.{begun_whole}
-use Rattle.hsp_stream_cli.specs.Ending.{Ended}
 use Rattle.hsp_stream_cli.specs.Faults.{EndsList, HoldsText, ended_with}
-use Rattle.hsp_stream_cli.specs.declared.failure.StreamFailure.TheVariants.{Write}
+use Rattle.hsp_stream_cli.specs.Printing.{Ended}
 
 -- what was written is kept
 appends_kept : (old middle new : Option (List ℕ)) (text : List ℕ) → Appends old middle text → Keeps middle new
@@ -38,10 +38,8 @@ begun_list asked left old new some (records, whole, all, are, wrote, tells) =
 pub list_ends : (asked : Asked) (text old middle new : Option (List ℕ)) (some : Bool) (ended : Ended)
     → IsListed asked (option_map placed_of text) old middle some → Keeps middle new
     → (ended ≡ ended_with some) ⊎ (ended ≡ Err Write) → EndsList asked text old new ended
-list_ends asked text old middle new true ended (records, whole, all, are, wrote, tells) kept (inl is) =
-    rw is (records, whole, all, are, appends_kept old middle new (text_of all) wrote kept, tells)
-list_ends asked text old middle new false ended (records, whole, all, are, wrote, tells) kept (inl is) =
-    rw is (records, whole, all, are, appends_kept old middle new (text_of all) wrote kept, tells)
+list_ends asked text old middle new some ended (records, whole, all, are, wrote, tells) kept (inl is) =
+    rw is (some, refl, (records, whole, all, are, appends_kept old middle new (text_of all) wrote kept, tells))
 list_ends asked text old middle new some ended (records, whole, all, are, wrote, tells) kept (inr is) =
     let listed : IsListed asked (option_map placed_of text) old new some =
     (records, whole, all, are, appends_kept old middle new (text_of all) wrote kept, tells) in

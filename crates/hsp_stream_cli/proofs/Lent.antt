@@ -1,6 +1,7 @@
 -- A run gives back the writer that it was lent.
 use Rattle.std.proofs.Common.{◌≡◌, ◌⊎◌, inl, inr, ℕ, List, None, Option, Some, Result, Ok, Err, ap, subst, sym}
 use Rattle.std.specs.Borrow.{GName}
+use Rattle.hsp_cli.specs.declared.failure.Failure.TheVariants.{Usage, Memory, Read, Write, Refused}
 use Rattle.hsp_cert.specs.Certificate.{Claim}
 use Rattle.hsp_cert.specs.Certificate.Claim.{best, short}
 use Rattle.hsp_dispatch.specs.declared.portion.Portion.{Portion}
@@ -18,10 +19,8 @@ use Rattle.hsp_stream.specs.declared.fault.RowFault.TheVariants as row
 use Rattle.hsp_stream.specs.declared.fault.StreamFault.{StreamFault}
 use Rattle.hsp_stream.specs.declared.fault.StreamFault.TheVariants as fault
 use Rattle.hsp_stream.specs.declared.portions.PortionWords.{PortionWords}
-use Rattle.hsp_stream_cli.specs.Ending.{Ended}
-use Rattle.hsp_stream_cli.specs.Printing.{IsFailedWrite, IsHandedOn}
+use Rattle.hsp_stream_cli.specs.Printing.{Ended, IsFailedWrite, IsHandedOn}
 use Rattle.hsp_stream_cli.specs.Talking.{EndsAnswers, EndsPlaces, MayEnd, TalksOver}
-use Rattle.hsp_stream_cli.specs.declared.failure.StreamFailure.TheVariants.{Faulty, Usage, Memory, Read, Write, Refused}
 use Rattle.hsp_stream_cli.specs.declared.files.Sources.{Sources}
 
 abbrev IsKept : Known → Known → Type 0
@@ -48,14 +47,12 @@ until settings values old new fault.BadFront so = absurd so
 -- places that were stated keep the peer
 pub places_keep : (sources : Sources) (ended : Ended) (old new : Known) → EndsPlaces sources ended old new
     → IsKept old new
-places_keep sources (Ok None) old new (sites, read, (events, goes, so)) = goes.same
-places_keep sources (Ok (Some sums)) old new so = absurd so
+places_keep sources (Ok completed) old new (is, (sites, read, (events, goes, so))) = goes.same
 places_keep sources (Err (Refused by)) old new so = until _ _ old new by so
 places_keep sources (Err Usage) old new so = absurd so
 places_keep sources (Err Memory) old new so = absurd so
 places_keep sources (Err Read) old new so = absurd so
 places_keep sources (Err Write) old new so = absurd so
-places_keep sources (Err Faulty) old new so = absurd so
 
 -- ---- answers
 
@@ -88,14 +85,13 @@ by_portion inputs octets run (Ok portion) so = elim so [
 -- answers keep the peer
 pub answers_keep : (inputs : Inputs) (octets : List ℕ) (words : PortionWords) (ended : Ended) (old new : Known)
     → EndsAnswers inputs octets words ended old new → IsKept old new
-answers_keep inputs octets words (Ok (Some sums)) old new so = by_portion inputs octets _ (portion_at words) so
-answers_keep inputs octets words (Ok None) old new so = absurd so
+answers_keep inputs octets words (Ok completed) old new (sums, is, so) =
+    by_portion inputs octets _ (portion_at words) so
 answers_keep inputs octets words (Err (Refused by)) old new so = by_portion inputs octets _ (portion_at words) so
 answers_keep inputs octets words (Err Usage) old new so = absurd so
 answers_keep inputs octets words (Err Memory) old new so = absurd so
 answers_keep inputs octets words (Err Read) old new so = absurd so
 answers_keep inputs octets words (Err Write) old new so = absurd so
-answers_keep inputs octets words (Err Faulty) old new so = absurd so
 
 -- ---- names
 

@@ -9,25 +9,22 @@ use Rattle.hsp_cli_orders.specs.declared.stream_order.StreamOrder.{StreamOrder}
 use Rattle.hsp_cli_orders.specs.declared.stream_order.StreamOrder.TheVariants as order
 use Rattle.hsp_cli.specs.Commands.{AreOpened, DispatchFails}
 use Rattle.hsp_cli.specs.Dispatching.{Opened}
-use Rattle.hsp_cli.specs.Failing.{IsUnread}
+use Rattle.hsp_cli.specs.Failing as failing
+use Rattle.hsp_cli.specs.Failing.{failure_of}
 use Rattle.hsp_cli.specs.Files.{Disk, HoldsRest}
-use Rattle.hsp_cli.specs.declared.failure.Failure.{Failure}
+use Rattle.hsp_cli.specs.declared.failure.Failure.TheVariants.{Memory}
 use Rattle.hsp_stream.specs.declared.kinds_files.KindsInputs.{KindsInputs}
 use Rattle.hsp_stream.specs.declared.portions.PortionWords.{PortionWords}
-use Rattle.hsp_stream_cli.specs.Ending.{Ended}
-use Rattle.hsp_stream_cli.specs.Failing.{command_failure, file_failure}
 use Rattle.hsp_stream_cli.specs.Faults.{EndsList, HoldsText, asked_for}
 use Rattle.hsp_stream_cli.specs.Files.{AreKindsHeld, AreSourcesHeld, KindsFail, SourcesFail}
-use Rattle.hsp_stream_cli.specs.Printing.{PrintsTable, PrintsText}
+use Rattle.hsp_stream_cli.specs.Printing.{Ended, PrintsTable, PrintsText}
 use Rattle.hsp_stream_cli.specs.Talking.{EndsAnswers, EndsPlaces, IsPortion, TalksOver}
 use Rattle.hsp_stream_cli.specs.declared.files.Sources.{Sources}
-use Rattle.hsp_stream_cli.specs.declared.failure.StreamFailure.TheVariants.{Memory}
 use Rattle.hsp_stream_cli.specs.declared.texts.TheConstants.{HELP, VERSION}
 
 -- a file, which may fail to be read, wasn't read, or memory ran out; nothing was written
 abbrev pub LacksFile : Type 0 → Option (List ℕ) → Option (List ℕ) → Ended → Type 0
-LacksFile MayFail old new ended =
-    (new ≡ old) × ((failure : Failure) × IsUnread MayFail failure × (ended ≡ Err (file_failure failure)))
+LacksFile MayFail old new ended = (new ≡ old) × failing.LacksFile MayFail ended
 
 -- the table of a log is printed
 abbrev pub PrintsKinds : Disk → Type 0 → List ℕ → Option (List ℕ) → List ℕ → Option (List ℕ) → List ℕ
@@ -76,7 +73,7 @@ CarriesOut disk MayFail (order.Faults of file) old new ended = ListsFaults disk 
 -- the order is carried out; where there is none, nothing was written, and the failure is reported
 abbrev pub ActsOn : Disk → Type 0 → Result StreamOrder CommandFault → Option (List ℕ) → Option (List ℕ) → Ended → Type 0
 ActsOn disk MayFail (Ok order) old new ended = CarriesOut disk MayFail order old new ended
-ActsOn disk MayFail (Err fault) old new ended = (new ≡ old) × (ended ≡ Err (command_failure fault))
+ActsOn disk MayFail (Err fault) old new ended = (new ≡ old) × (ended ≡ Err (failure_of fault))
 
 -- the words are obeyed
 abbrev pub Obeys : Disk → Type 0 → List (List ℕ) → Option (List ℕ) → Option (List ℕ) → Ended → Type 0

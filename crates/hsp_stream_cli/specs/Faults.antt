@@ -1,20 +1,21 @@
 -- Faulty rows on an output.
-use Rattle.std.specs.Prelude.{Bool, true, false, ℕ, List, Option, None, Some, Ok, Err, option_map}
+use Rattle.std.specs.Prelude.{◌≡◌, Bool, true, false, ℕ, List, Option, None, Some, Ok, Err, option_map}
 use Rattle.hsp_csv.specs.Places.{placed_of}
 use Rattle.hsp_tables.specs.declared.table_check.TableKind.TheVariants as kind
 use Rattle.hsp_cli.specs.Files.{Disk, HoldsRest}
+use Rattle.hsp_cli.specs.declared.failure.Failure.{Failure}
+use Rattle.hsp_cli.specs.declared.failure.Failure.TheVariants.{Memory, Refused, Write}
 use Rattle.hsp_cli_orders.specs.declared.stream_order.FaultsOf.{FaultsOf}
 use Rattle.hsp_cli_orders.specs.declared.stream_order.FaultsOf.TheVariants as of
 use Rattle.hsp_stream.specs.declared.fault.RowFault.TheVariants.{ReadFailed}
+use Rattle.hsp_stream.specs.declared.fault.StreamFault.{StreamFault}
 use Rattle.hsp_stream.specs.declared.fault.StreamFault.TheVariants.{Log}
 use Rattle.hsp_faulty.specs.Runs.{IsListBegun, IsListed}
 use Rattle.hsp_faulty.specs.declared.checker.Asked.{Asked}
 use Rattle.hsp_faulty.specs.declared.checker.Asked.TheVariants as asked
 use Rattle.hsp_faulty.specs.declared.run.FaultsStop.{FaultsStop}
 use Rattle.hsp_faulty.specs.declared.run.FaultsStop.TheVariants as stop
-use Rattle.hsp_stream_cli.specs.Ending.{Ended}
-use Rattle.hsp_stream_cli.specs.declared.failure.StreamFailure.{StreamFailure}
-use Rattle.hsp_stream_cli.specs.declared.failure.StreamFailure.TheVariants.{Faulty, Memory, Refused, Write}
+use Rattle.hsp_stream_cli.specs.Printing.{Ended}
 
 -- what is looked at, by the order
 abbrev pub asked_for : FaultsOf → Asked
@@ -24,21 +25,25 @@ asked_for of.Capacity = asked.Table kind.Capacity
 asked_for of.Log = asked.Log
 
 -- the failure by which a list stops
-abbrev pub stopped_by : FaultsStop → StreamFailure
+abbrev pub stopped_by : FaultsStop → Failure StreamFault
 stopped_by stop.ReadFailed = Refused (Log ReadFailed)
 stopped_by stop.WriteFailed = Write
 stopped_by stop.OutOfMemory = Memory
 
--- how a list ends that was written whole
-abbrev pub ended_with : Bool → Ended
-ended_with true = Err Faulty
-ended_with false = Ok None
+-- the status after a list that was written whole: whether there is a faulty row
+abbrev pub list_status : Bool → ℕ
+list_status true = 1
+list_status false = 0
 
--- the whole list was written, and it is told whether there is a faulty row; or a beginning of it was written
+-- how such a list ends
+abbrev pub ended_with : Bool → Ended
+ended_with some = Ok (record { status = list_status some; sums = None })
+
+-- the whole list was written, and the status tells whether there is a faulty row; or a beginning of it was written
 abbrev pub EndsList : Asked → Option (List ℕ) → Option (List ℕ) → Option (List ℕ) → Ended → Type 0
-EndsList which text old new (Ok None) = IsListed which (option_map placed_of text) old new false
-EndsList which text old new (Ok (Some sums)) = ⊥
-EndsList which text old new (Err Faulty) = IsListed which (option_map placed_of text) old new true
+EndsList which text old new (Ok completed) =
+    (some : Bool) × (completed ≡ record { status = list_status some; sums = None })
+    × IsListed which (option_map placed_of text) old new some
 EndsList which text old new (Err Write) = IsListBegun which (option_map placed_of text) old new
 EndsList which text old new (Err Memory) = IsListBegun which (option_map placed_of text) old new
 EndsList which text old new (Err (Refused (Log ReadFailed))) = IsListBegun which (option_map placed_of text) old new

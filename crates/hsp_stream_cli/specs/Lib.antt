@@ -1,5 +1,3 @@
-pub mod Failing
-pub mod Ending
 pub mod Faults
 pub mod Files
 pub mod Printing

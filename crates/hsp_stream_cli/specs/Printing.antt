@@ -1,19 +1,26 @@
 -- Texts and tables on an output.
-use Rattle.std.specs.Prelude.{◌≡◌, ◌⊎◌, ⊤, ℕ, List, Option, None, Ok, Err}
+use Rattle.std.specs.Prelude.{◌≡◌, ◌⊎◌, ⊤, ℕ, List, Option, None, Result, Ok, Err}
 use Rattle.std.specs.Io.KnownBytes.{Appends}
+use Rattle.hsp_cli.specs.declared.answer.Completed.{Completed}
+use Rattle.hsp_cli.specs.declared.failure.Failure.{Failure}
+use Rattle.hsp_cli.specs.declared.failure.Failure.TheVariants.{Refused, Write}
 use Rattle.hsp_talk.specs.Writing.{IsBegun}
 use Rattle.hsp_stream.specs.KindsLog.{IsReadFault}
 use Rattle.hsp_stream.specs.KindsRun.{IsKindsOf}
 use Rattle.hsp_stream.specs.declared.fault.RowFault.TheVariants.{WriteFailed}
 use Rattle.hsp_stream.specs.declared.fault.StreamFault.{StreamFault}
 use Rattle.hsp_stream.specs.declared.fault.StreamFault.TheVariants.{Log}
+use Rattle.hsp_stream.specs.declared.given.StreamSums.{StreamSums}
 use Rattle.hsp_stream.specs.declared.kinds_files.KindsInputs.{KindsInputs}
-use Rattle.hsp_stream_cli.specs.Ending.{Ended}
-use Rattle.hsp_stream_cli.specs.declared.failure.StreamFailure.TheVariants.{Refused, Write}
+
+-- how a command ended: as it was carried out, or by a failure
+abbrev pub Ended : Type 0
+Ended = Result (Completed StreamSums) (Failure StreamFault)
 
 -- the text was written; or a write failed, as it may, and a beginning of the text was written
 abbrev pub PrintsText : Type 0 → List ℕ → Option (List ℕ) → Option (List ℕ) → Ended → Type 0
-PrintsText MayFail text old new (Ok sums) = Appends old new text × (sums ≡ None)
+PrintsText MayFail text old new (Ok completed) =
+    Appends old new text × (completed ≡ record { status = 0; sums = None })
 PrintsText MayFail text old new (Err Write) = MayFail × IsBegun old new text
 PrintsText MayFail text old new (Err failure) = ⊥
 

@@ -1,5 +1,6 @@
 -- Logs that are answered in a talk.
 use Rattle.std.specs.Prelude.{◌≡◌, ⊤, ℕ, List, Option, None, Some, Ok, Err, option_map}
+use Rattle.hsp_cli.specs.declared.failure.Failure.TheVariants.{Refused}
 use Rattle.hsp_cli_orders.specs.declared.stream_order.FrontWords.{FrontWords}
 use Rattle.hsp_headline.specs.declared.inputs.Inputs.{Inputs}
 use Rattle.hsp_talk.specs.Known.{Known}
@@ -7,8 +8,8 @@ use Rattle.hsp_stream.specs.AnswerRun.{IsAnswered, run_of}
 use Rattle.hsp_stream.specs.PlacesRun.{ArePlaced, ArePlacedUntil}
 use Rattle.hsp_stream.specs.TalkFaults.{MayStopBy}
 use Rattle.hsp_stream.specs.declared.portions.PortionWords.{PortionWords}
-use Rattle.hsp_stream_cli.specs.Ending.{Ended}
-use Rattle.hsp_stream_cli.specs.declared.failure.StreamFailure.TheVariants.{Refused}
+use Rattle.hsp_stream.specs.declared.given.StreamSums.{StreamSums}
+use Rattle.hsp_stream_cli.specs.Printing.{Ended}
 use Rattle.hsp_stream_cli.specs.declared.files.Sources.{Sources}
 
 -- the words of a portion are these
@@ -36,17 +37,18 @@ pub record TalksOver (MayReadFail MayFail : Type 0) (left old new : Option (List
 
 -- places were stated, or the run's fault is returned
 abbrev pub EndsPlaces : Sources → Ended → Known → Known → Type 0
-EndsPlaces sources (Ok None) old new =
-    ArePlaced sources.settings.items (option_map (λ v. v.items) sources.values) old new
-EndsPlaces sources (Ok (Some sums)) old new = ⊥
+EndsPlaces sources (Ok completed) old new =
+    (completed ≡ record { status = 0; sums = None })
+    × ArePlaced sources.settings.items (option_map (λ v. v.items) sources.values) old new
 EndsPlaces sources (Err (Refused fault)) old new =
     ArePlacedUntil sources.settings.items (option_map (λ v. v.items) sources.values) old new fault
 EndsPlaces sources (Err failure) old new = ⊥
 
 -- a log was answered, and its sums are returned, or the run's fault
 abbrev pub EndsAnswers : Inputs → List ℕ → PortionWords → Ended → Known → Known → Type 0
-EndsAnswers inputs octets words (Ok (Some sums)) old new = IsAnswered words inputs octets (run_of old new (Ok sums))
-EndsAnswers inputs octets words (Ok None) old new = ⊥
+EndsAnswers inputs octets words (Ok completed) old new =
+    (sums : StreamSums) × (completed ≡ record { status = 0; sums = Some sums })
+    × IsAnswered words inputs octets (run_of old new (Ok sums))
 EndsAnswers inputs octets words (Err (Refused fault)) old new =
     IsAnswered words inputs octets (run_of old new (Err fault))
 EndsAnswers inputs octets words (Err failure) old new = ⊥

@@ -4,25 +4,23 @@ ghost use Rattle.std.specs.Prelude.{map, string_bytes};
 ghost use Rattle.hsp_stream_cli.specs.Commands.{CarriesOut, Obeys};
 ghost use Rattle.hsp_stream_cli.specs.Printing.{IsHandedOn};
 
-use crate::failure::StreamFailure;
 use crate::faults::list_faults;
 use crate::files::{read_kinds, read_sources};
 use crate::printing::{print, print_table};
+use crate::program::Ended;
 use crate::talking::{answer_log, portion_words, state_places};
 use crate::texts::{HELP, VERSION};
 use hsp_cli::{FileSource, Output, open_log};
 use hsp_cli_orders::{StreamOrder, read_stream_command};
-use hsp_stream::StreamSums;
 use std::alloc::Global;
 
-// Carries out the order: prints a text or a table on `out`, or answers a log there. Returns the sums of a log that was
-// answered.
+// Carries out the order: prints a text or a table on `out`, or answers a log there, and returns what to end with.
 fn carry_out<S: FileSource, O: Output>(
     alloc: Global,
     files: &S,
     order: &StreamOrder<'_>,
     out: &mut O,
-) -> Result<Option<StreamSums>, StreamFailure>
+) -> Ended
     ensures carries_out { CarriesOut (S.disk files.now) O.may_fail order.now (O.contents out.old)
         (O.contents out.new) result }
     ensures handed { IsHandedOn (O.contents out.old) (O.handed out.old) (O.contents out.new)
@@ -66,13 +64,13 @@ fn carry_out<S: FileSource, O: Output>(
     }
 }
 
-/// Obeys the command that the words give: writes its answer on `out`, and returns the sums of a log that was answered.
+/// Obeys the command that the words give: writes its answer on `out`, and returns what to end with.
 pub fn obey<S: FileSource, O: Output>(
     alloc: Global,
     files: &S,
     words: &[String],
     out: &mut O,
-) -> Result<Option<StreamSums>, StreamFailure>
+) -> Ended
     ensures obeys { Obeys (S.disk files.now) O.may_fail (map string_bytes words.now)
         (O.contents out.old) (O.contents out.new) result }
     // Nothing that was written waits in a buffer of the output, unless a write failed.

@@ -2,68 +2,67 @@
 
 ghost use Rattle.std.specs.Prelude.{◌≡◌, ◌≢◌, ◌⊎◌, Err};
 ghost use Rattle.std.specs.Io.KnownBytes.{Keeps};
+ghost use Rattle.hsp_cli.specs.declared.failure.Failure.TheVariants.{Write};
 ghost use Rattle.hsp_stream_cli.specs.Commands.{ListsFaults};
-ghost use Rattle.hsp_stream_cli.specs.Faults.{EndsList, asked_for, ended_with, stopped_by};
+ghost use Rattle.hsp_stream_cli.specs.Faults.{EndsList, asked_for, ended_with, list_status, stopped_by};
 ghost use Rattle.hsp_stream_cli.specs.Printing.{IsHandedOn};
-ghost use Rattle.hsp_stream_cli.specs.declared.failure.StreamFailure.TheVariants.{Write};
 
-use crate::failure::StreamFailure;
-use hsp_cli::{FileSource, Output, read_whole};
+use crate::program::Ended;
+use hsp_cli::{Completed, Failure, FileSource, Output, read_whole};
 use hsp_cli_orders::{FaultsOf, Word};
 use hsp_faulty::{Asked, FaultsStop, faults_run};
-use hsp_stream::{RowFault, StreamFault, StreamSums};
+use hsp_stream::{RowFault, StreamFault};
 use hsp_tables::TableKind;
 use std::alloc::Global;
 use std::io::Read;
 
 // The failure by which a list stops.
-fn stopped_by(stop: FaultsStop) -> StreamFailure
+fn stopped_by(stop: FaultsStop) -> Failure<StreamFault>
     ensures { result ≡ stopped_by stop }
 {
     match stop {
-        FaultsStop::ReadFailed => { StreamFailure::Refused(StreamFault::Log(RowFault::ReadFailed)) }
-        FaultsStop::WriteFailed => StreamFailure::Write,
-        FaultsStop::OutOfMemory => StreamFailure::Memory,
+        FaultsStop::ReadFailed => Failure::Refused(StreamFault::Log(RowFault::ReadFailed)),
+        FaultsStop::WriteFailed => Failure::Write,
+        FaultsStop::OutOfMemory => Failure::Memory,
     }
 }
 
 // Hands on what was listed, and ends with a failure or, where that fails, with a failed write.
-fn hand_on_failed<O: Output>(
-    out: &mut O,
-    failure: StreamFailure,
-) -> Result<Option<StreamSums>, StreamFailure>
+fn hand_on_failed<O: Output>(out: &mut O, failure: Failure<StreamFault>) -> Ended
     ensures kept { Keeps (O.contents out.old) (O.contents out.new) }
     ensures ended { (result ≡ Err failure) ⊎ (result ≡ Err Write) }
     ensures handed { (O.handed out.new ≡ O.contents out.new) ⊎ (result ≡ Err Write) }
 {
     match out.hand_on() {
         Ok(()) => Err(failure),
-        Err(_) => Err(StreamFailure::Write),
+        Err(_) => Err(Failure::Write),
     }
 }
 
+// The status after a list that was written whole: whether there are faulty rows.
+fn list_status(some: bool) -> u8
+    ensures { result ≡ list_status some }
+{
+    if some { 1 } else { 0 }
+}
+
 // Hands on a list that was written whole.
-fn hand_on_list<O: Output>(out: &mut O, some: bool) -> Result<Option<StreamSums>, StreamFailure>
+fn hand_on_list<O: Output>(out: &mut O, some: bool) -> Ended
     ensures kept { Keeps (O.contents out.old) (O.contents out.new) }
     ensures ended { (result ≡ ended_with some) ⊎ (result ≡ Err Write) }
     ensures handed { (O.handed out.new ≡ O.contents out.new) ⊎ (result ≡ Err Write) }
 {
-    if some {
-        return hand_on_failed(out, StreamFailure::Faulty);
-    }
     match out.hand_on() {
-        Ok(()) => Ok(None),
-        Err(_) => Err(StreamFailure::Write),
+        Ok(()) => Ok(Completed {
+            status: list_status(some),
+            sums: None,
+        }),
+        Err(_) => Err(Failure::Write),
     }
 }
 
 // Lists the faulty rows of a text.
-fn list<R: Read + Drop, O: Output>(
-    alloc: Global,
-    asked: Asked,
-    text: R,
-    out: &mut O,
-) -> Result<Option<StreamSums>, StreamFailure>
+fn list<R: Read + Drop, O: Output>(alloc: Global, asked: Asked, text: R, out: &mut O) -> Ended
     ensures ends { EndsList asked (R.remaining text) (O.contents out.old) (O.contents out.new)
         result }
     ensures handed { IsHandedOn (O.contents out.old) (O.handed out.old) (O.contents out.new)
@@ -93,7 +92,7 @@ fn list_log<S: FileSource, O: Output>(
     files: &S,
     file: &Word<'_>,
     out: &mut O,
-) -> Result<Option<StreamSums>, StreamFailure>
+) -> Ended
     ensures lists { ListsFaults (S.disk files.now) FaultsOf.Log file.now (O.contents out.old)
         (O.contents out.new) result }
     ensures handed { IsHandedOn (O.contents out.old) (O.handed out.old) (O.contents out.new)
@@ -110,7 +109,7 @@ fn list_table<S: FileSource, O: Output>(
     of: FaultsOf,
     file: &Word<'_>,
     out: &mut O,
-) -> Result<Option<StreamSums>, StreamFailure>
+) -> Ended
     requires { of ≢ FaultsOf.Log }
     ensures lists { ListsFaults (S.disk files.now) of file.now (O.contents out.old)
         (O.contents out.new) result }
@@ -128,7 +127,7 @@ pub(crate) fn list_faults<S: FileSource, O: Output>(
     of: FaultsOf,
     file: &Word<'_>,
     out: &mut O,
-) -> Result<Option<StreamSums>, StreamFailure>
+) -> Ended
     ensures lists { ListsFaults (S.disk files.now) of file.now (O.contents out.old)
         (O.contents out.new) result }
     ensures handed { IsHandedOn (O.contents out.old) (O.handed out.old) (O.contents out.new)

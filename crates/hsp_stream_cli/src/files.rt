@@ -4,7 +4,7 @@ ghost use Rattle.std.specs.Prelude.{IfErr, IfOk};
 ghost use Rattle.hsp_cli.specs.Failing.{IsUnread};
 ghost use Rattle.hsp_stream_cli.specs.Files.{AreKindsHeld, AreSourcesHeld, KindsFail, SourcesFail};
 
-use hsp_cli::{Failure, FileSource, read_named, read_whole};
+use hsp_cli::{FileSource, Unread, read_named, read_whole};
 use hsp_cli_orders::Word;
 use hsp_stream::KindsInputs;
 use std::alloc::Global;
@@ -22,7 +22,7 @@ pub(crate) fn read_sources<S: FileSource>(
     files: &S,
     settings: &Word<'_>,
     values: &Option<Word<'_>>,
-) -> Result<Sources, Failure>
+) -> Result<Sources, Unread>
     ensures held { IfOk result
         (λ sources. AreSourcesHeld (S.disk files.now) settings.now values.now sources) }
     ensures unread { IfErr result
@@ -41,7 +41,7 @@ pub(crate) fn read_kinds<S: FileSource>(
     settings: &Word<'_>,
     values: &Option<Word<'_>>,
     costs: &Word<'_>,
-) -> Result<KindsInputs, Failure>
+) -> Result<KindsInputs, Unread>
     ensures held { IfOk result
         (λ inputs. AreKindsHeld (S.disk files.now) settings.now values.now costs.now inputs) }
     ensures unread { IfErr result

@@ -3,14 +3,12 @@
 #![tactic(auto)]
 
 mod commands;
-mod ending;
-mod failure;
 mod faults;
 mod files;
 mod printing;
+mod program;
 mod talking;
 mod texts;
 
 pub use commands::obey;
-pub use ending::{end_with, last_line, status_after};
-pub use failure::StreamFailure;
+pub use program::{Ended, HsplanStream};

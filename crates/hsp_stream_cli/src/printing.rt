@@ -3,25 +3,25 @@
 ghost use Rattle.std.specs.Prelude.{IfErr, IfOk, option_map};
 ghost use Rattle.hsp_stream_cli.specs.Printing.{IsHandedOn, IsTable, IsTableFault, PrintsTable, PrintsText};
 
-use crate::failure::StreamFailure;
-use hsp_cli::{OpenFile, Output};
+use crate::program::Ended;
+use hsp_cli::{Completed, Failure, OpenFile, Output};
 use hsp_cli_orders::Word;
-use hsp_stream::{KindsInputs, StreamFault, StreamSums, kinds_run};
+use hsp_stream::{KindsInputs, StreamFault, kinds_run};
 use std::alloc::Global;
 
 /// Writes a text, and hands it on.
-pub(crate) fn print<O: Output>(
-    out: &mut O,
-    text: &[u8],
-) -> Result<Option<StreamSums>, StreamFailure>
+pub(crate) fn print<O: Output>(out: &mut O, text: &[u8]) -> Ended
     ensures prints { PrintsText O.may_fail text.now (O.contents out.old) (O.contents out.new)
         result }
     ensures handed { IsHandedOn (O.contents out.old) (O.handed out.old) (O.contents out.new)
         (O.handed out.new) result }
 {
     match out.put(text) {
-        Ok(()) => Ok(None),
-        Err(_) => Err(StreamFailure::Write),
+        Ok(()) => Ok(Completed {
+            status: 0,
+            sums: None,
+        }),
+        Err(_) => Err(Failure::Write),
     }
 }
 
@@ -49,7 +49,7 @@ pub(crate) fn print_table<F: OpenFile, O: Output>(
     unit: &Option<Word<'_>>,
     log: F,
     out: &mut O,
-) -> Result<Option<StreamSums>, StreamFailure>
+) -> Ended
     ensures prints { PrintsTable O.may_fail inputs.now unit.now (F.remaining log)
         (O.contents out.old) (O.contents out.new) result }
     ensures handed { IsHandedOn (O.contents out.old) (O.handed out.old) (O.contents out.new)
@@ -57,6 +57,6 @@ pub(crate) fn print_table<F: OpenFile, O: Output>(
 {
     match table_of(alloc, inputs, unit, log) {
         Ok(text) => print(out, &text),
-        Err(fault) => Err(StreamFailure::Refused(fault)),
+        Err(fault) => Err(Failure::Refused(fault)),
     }
 }

@@ -5,29 +5,28 @@ ghost use Rattle.hsp_talk.specs.Known.{IsHandedOn as IsKnownHanded};
 ghost use Rattle.hsp_stream_cli.specs.Printing.{IsFailedWrite, IsHandedOn};
 ghost use Rattle.hsp_stream_cli.specs.Talking.{EndsAnswers, EndsPlaces, IsPortion, MayEnd, TalksOver};
 
-use crate::failure::StreamFailure;
 use crate::files::Sources;
-use hsp_cli::{OpenFile, OpenLog, Output};
+use crate::program::Ended;
+use hsp_cli::{Completed, Failure, OpenFile, OpenLog, Output};
 use hsp_cli_orders::{FrontWords, Word};
 use hsp_runs::Inputs;
-use hsp_stream::{PortionWords, StreamSums, answer_run, places_run};
+use hsp_stream::{PortionWords, answer_run, places_run};
 use hsp_talk::{Joined, Peer};
 use std::alloc::{AllocError, Global};
 
 // States the places of the handles that a peer asks for.
-fn state_to<P: Peer>(
-    alloc: Global,
-    sources: &Sources,
-    peer: &mut P,
-) -> Result<Option<StreamSums>, StreamFailure>
+fn state_to<P: Peer>(alloc: Global, sources: &Sources, peer: &mut P) -> Ended
     ensures ends { EndsPlaces sources.now result (P.known peer.old) (P.known peer.new) }
     ensures handed { IsKnownHanded (P.known peer.old) (P.known peer.new) ⊎ IsFailedWrite result }
     ensures may_end { MayEnd (P.may_read_fail peer.old) P.may_send_fail result
         (P.known peer.old) (P.known peer.new) }
 {
     match places_run(alloc, &sources.settings, sources.values.as_deref(), peer) {
-        Ok(()) => Ok(None),
-        Err(fault) => Err(StreamFailure::Refused(fault)),
+        Ok(()) => Ok(Completed {
+            status: 0,
+            sums: None,
+        }),
+        Err(fault) => Err(Failure::Refused(fault)),
     }
 }
 
@@ -36,7 +35,7 @@ fn state_joined<F: OpenFile, O: Output>(
     alloc: Global,
     sources: &Sources,
     peer: &mut Joined<'_, F, O>,
-) -> Result<Option<StreamSums>, StreamFailure>
+) -> Ended
     ensures same_reference { peer.new.writer.ghost_name ≡ peer.old.writer.ghost_name }
     ensures ends { TalksOver (F.may_read_fail peer.old.reader) O.may_fail
         (F.remaining peer.old.reader) (O.contents peer.old.writer.now)
@@ -53,7 +52,7 @@ pub(crate) fn state_places<F: OpenFile, O: Output>(
     sources: &Sources,
     log: F,
     out: &mut O,
-) -> Result<Option<StreamSums>, StreamFailure>
+) -> Ended
     ensures talks { TalksOver (F.may_read_fail log) O.may_fail (F.remaining log)
         (O.contents out.old) (O.contents out.new) result (EndsPlaces sources.now result) }
     ensures handed { IsHandedOn (O.contents out.old) (O.handed out.old) (O.contents out.new)
@@ -112,7 +111,7 @@ fn answer_to<P: Peer>(
     certificate: &[u8],
     portion: &PortionWords,
     peer: &mut P,
-) -> Result<Option<StreamSums>, StreamFailure>
+) -> Ended
     ensures ends { EndsAnswers inputs.now certificate.now portion.now result
         (P.known peer.old) (P.known peer.new) }
     ensures handed { IsKnownHanded (P.known peer.old) (P.known peer.new) ⊎ IsFailedWrite result }
@@ -120,8 +119,11 @@ fn answer_to<P: Peer>(
         (P.known peer.old) (P.known peer.new) }
 {
     match answer_run(alloc, inputs, certificate, portion, peer) {
-        Ok(sums) => Ok(Some(sums)),
-        Err(fault) => Err(StreamFailure::Refused(fault)),
+        Ok(sums) => Ok(Completed {
+            status: 0,
+            sums: Some(sums),
+        }),
+        Err(fault) => Err(Failure::Refused(fault)),
     }
 }
 
@@ -132,7 +134,7 @@ fn answer_joined<F: OpenFile, O: Output>(
     certificate: &[u8],
     portion: &PortionWords,
     peer: &mut Joined<'_, F, O>,
-) -> Result<Option<StreamSums>, StreamFailure>
+) -> Ended
     ensures same_reference { peer.new.writer.ghost_name ≡ peer.old.writer.ghost_name }
     ensures ends { TalksOver (F.may_read_fail peer.old.reader) O.may_fail
         (F.remaining peer.old.reader) (O.contents peer.old.writer.now)
@@ -150,7 +152,7 @@ pub(crate) fn answer_log<F: OpenFile, O: Output>(
     opened: OpenLog<F>,
     portion: &PortionWords,
     out: &mut O,
-) -> Result<Option<StreamSums>, StreamFailure>
+) -> Ended
     ensures talks { TalksOver (F.may_read_fail opened.log) O.may_fail (F.remaining opened.log)
         (O.contents out.old) (O.contents out.new) result
         (EndsAnswers opened.inputs opened.certificate.items portion.now result) }

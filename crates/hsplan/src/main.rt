@@ -1,7 +1,7 @@
 // The program: one command for each run, from its arguments or, without any, from the first line of standard input.
 #![tactic(auto)]
 
-use hsp_cli::{Completed, Failure, Output, end_with, last_line, obey, take_words};
+use hsp_cli::{Ended, Failure, Hsplan, Output, end_with, last_line, obey, take_words};
 use std::io::{self, BufWriter};
 use std::process::ExitCode;
 use std::rt::{Env, Files};
@@ -10,10 +10,7 @@ use std::rt::{Env, Files};
 const PIECE: usize = 65_536;
 
 // Obeys the command that the words give.
-fn run<R: Env + Files + Input + AllocGlobal, O: Output>(
-    rt: &R,
-    out: &mut O,
-) -> Result<Completed, Failure> {
+fn run<R: Env + Files + Input + AllocGlobal, O: Output>(rt: &R, out: &mut O) -> Ended {
     let words = take_words(rt)?;
     obey(rt.alloc(), rt, words.as_slice(), out)
 }
@@ -28,8 +25,8 @@ fn main(rt: HostRuntime) -> ExitCode {
         }
         Err(_) => Err(Failure::Memory),
     };
-    let line = last_line(rt.alloc(), &ended);
+    let line = last_line::<Hsplan>(rt.alloc(), &ended);
     let errors = rt.stderr();
-    let status = end_with(&mut io::writer(&errors), &ended, &line);
+    let status = end_with::<Hsplan, _>(&mut io::writer(&errors), &ended, &line);
     ExitCode::from(status)
 }

@@ -2,26 +2,22 @@
 // of standard input.
 #![tactic(auto)]
 
-use hsp_cli::{Output, take_words};
-use hsp_stream::StreamSums;
-use hsp_stream_cli::{StreamFailure, end_with, last_line, obey, status_after};
+use hsp_cli::{Output, end_with, last_line, take_words};
+use hsp_stream_cli::{Ended, HsplanStream, obey};
 use std::io;
 use std::process::ExitCode;
 use std::rt::{Env, Files};
 
 // Obeys the command that the words give.
-fn run<R: Env + Files + Input + AllocGlobal, O: Output>(
-    rt: &R,
-    out: &mut O,
-) -> Result<Option<StreamSums>, StreamFailure> {
+fn run<R: Env + Files + Input + AllocGlobal, O: Output>(rt: &R, out: &mut O) -> Ended {
     let words = take_words(rt)?;
     obey(rt.alloc(), rt, words.as_slice(), out)
 }
 
 fn main(rt: HostRuntime) -> ExitCode {
     let ended = run(&rt, &mut io::writer(&rt));
-    let line = last_line(rt.alloc(), &ended);
+    let line = last_line::<HsplanStream>(rt.alloc(), &ended);
     let errors = rt.stderr();
-    let status = end_with(&mut io::writer(&errors), &line, status_after(&ended));
+    let status = end_with::<HsplanStream, _>(&mut io::writer(&errors), &ended, &line);
     ExitCode::from(status)
 }

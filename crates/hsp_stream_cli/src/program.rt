@@ -1,0 +1,50 @@
+// What `hsplan-stream` prints where it ends.
+
+ghost use Rattle.std.specs.Prelude.{codes};
+ghost use Rattle.hsp_stream.specs.Lines as lines;
+
+use hsp_cli::{Completed, Failure, Program};
+use hsp_stream::{StreamFault, StreamSums, stream_fault_line, stream_status, stream_sums_line};
+use std::alloc::{AllocError, Global};
+
+/// The program `hsplan-stream`.
+pub struct HsplanStream;
+
+/// How a command of `hsplan-stream` ends.
+pub type Ended = Result<Completed<StreamSums>, Failure<StreamFault>>;
+
+impl Program for HsplanStream {
+    type Fault = StreamFault;
+
+    type Sums = StreamSums;
+
+    ghost name = { codes "hsplan-stream" };
+
+    ghost fault_text = { lines.fault_text };
+
+    ghost fault_status = { lines.status_in };
+
+    ghost sums_text = { lines.sums_text };
+
+    fn own_line(failure: &Failure<StreamFault>) -> &'static [u8] {
+        match failure {
+            Failure::Usage => b"hsplan-stream: Usage\n",
+            Failure::Memory => b"hsplan-stream: OutOfMemory\n",
+            Failure::Read => b"hsplan-stream: read failed\n",
+            Failure::Write => b"hsplan-stream: write failed\n",
+            Failure::Refused(_) => b"",
+        }
+    }
+
+    fn fault_line(alloc: Global, fault: &StreamFault) -> Result<Vec<u8>, AllocError> {
+        stream_fault_line(alloc, fault)
+    }
+
+    fn fault_status(fault: &StreamFault) -> u8 {
+        stream_status(fault)
+    }
+
+    fn sums_line(alloc: Global, sums: &StreamSums) -> Result<Vec<u8>, AllocError> {
+        stream_sums_line(alloc, sums)
+    }
+}
