@@ -1,5 +1,5 @@
 -- A run gives back the writer that it was lent.
-use Rattle.std.proofs.Common.{◌≡◌, ◌⊎◌, inl, inr, ℕ, List, None, Option, Some, Result, Ok, Err, ap, subst, sym}
+use Rattle.std.proofs.Common.{◌≡◌, ◌⊎◌, inl, inr, ℕ, List, Option, Some, Result, Ok, Err, ap, subst, sym}
 use Rattle.std.specs.Borrow.{GName}
 use Rattle.hsp_cli.specs.declared.failure.Failure.TheVariants.{Usage, Memory, Read, Write, Refused}
 use Rattle.hsp_cert.specs.Certificate.{Claim}
