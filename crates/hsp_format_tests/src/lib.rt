@@ -13,6 +13,8 @@ mod names_tests;
 #[cfg(test)]
 mod pair_map_tests;
 #[cfg(test)]
+mod price_text_tests;
+#[cfg(test)]
 mod record_tests;
 #[cfg(test)]
 mod same;

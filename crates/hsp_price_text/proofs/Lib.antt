@@ -1,1 +1,7 @@
+pub mod Parts
 pub mod LineReading
+pub mod Grammar
+pub mod DraftSteps
+pub mod Taking
+pub mod Whole
+pub mod Appended

@@ -8,18 +8,18 @@ use Rattle.std.proofs.lemmas.Bool.{eqb-true}
 use Rattle.hsp_text.specs.Lines.{IsUnbroken}
 use Rattle.hsp_text.proofs.Lists.{all_append}
 use Rattle.hsp_cert.specs.Text.{unlines}
-use Rattle.hsp_cert.specs.Drafts.{Took}
 use Rattle.hsp_cert.specs.declared.fault.CertFault.TheVariants as fault
 use Rattle.hsp_cert.proofs.LineCuts.{GoesOn, Unbroken, by_recursion, first_line, fronts, no_line, same_line}
 use Rattle.hsp_price_text.specs.Language.{Agrees, HasEnded, HasNoEnd, IsAfterEnd, IsBadLine, IsEnd, Language}
-use Rattle.hsp_price_text.specs.Language.{LinesStand, Machine, MeansIn, run, stepped, text_in}
+use Rattle.hsp_price_text.specs.Language.{LinesStand, Machine, MeansIn, Stepped, run, stepped, text_in}
 
 -- The machine takes exactly the lines of claims.
 pub record Takes {Draft Claim : Type 0} (language : Language Claim) (machine : Machine Draft Claim) : Type 0 where
   -- no line of a claim holds an LF
   pub unbroken : (c : Claim) → language.Is c → AllByRecursion Unbroken (language.lines_of c)
   -- all lines of a claim are taken, and then the draft claims it
-  pub whole : (c : Claim) → language.Is c → (d : Draft) × (run machine (Some machine.start) (language.lines_of c) ≡ Some d)
+  pub whole : (c : Claim) → language.Is c
+      → (d : Draft) × (run machine (Some machine.start) (language.lines_of c) ≡ Some d)
       × (machine.has_ended d ≡ true) × (machine.claimed d ≡ c)
   -- lines that were taken stand
   pub stand : (ls : List (List ℕ)) (d : Draft) → run machine (Some machine.start) ls ≡ Some d → LinesStand language ls
@@ -37,7 +37,8 @@ pub record Takes {Draft Claim : Type 0} (language : Language Claim) (machine : M
 
 module _ {Draft Claim : Type 0} (machine : Machine Draft Claim) where
   -- lines in two runs are taken one after the other
-  pub run-append : (o : Option Draft) (xs ys : List (List ℕ)) → run machine o (xs ++ ys) ≡ run machine (run machine o xs) ys
+  pub run-append : (o : Option Draft) (xs ys : List (List ℕ))
+      → run machine o (xs ++ ys) ≡ run machine (run machine o xs) ys
   run-append o [] ys = refl
   run-append o (x ∷ xs) ys = run-append (stepped machine o x) xs ys
 
@@ -47,7 +48,7 @@ module _ {Draft Claim : Type 0} (machine : Machine Draft Claim) where
   run-none (x ∷ xs) = run-none xs
 
 -- the texts of two lists of lines stand one after the other
-unlines-append : (xs ys : List (List ℕ)) → unlines (xs ++ ys) ≡ unlines xs ++ unlines ys
+pub unlines-append : (xs ys : List (List ℕ)) → unlines (xs ++ ys) ≡ unlines xs ++ unlines ys
 unlines-append [] ys = refl
 unlines-append (x ∷ xs) ys =
     ap (λ (t : List ℕ). x ++ 10 ∷ t) (unlines-append xs ys) ∙ sym (append_assoc x (10 ∷ unlines xs) (unlines ys))
@@ -60,14 +61,14 @@ some_is : {A : Type 0} (x y : A) → some_of x ≡ Some y → x ≡ y
 some_is x y h = cc
 
 -- a step that was taken gave this
-took : {A : Type 0} (o : Option A) (x : A) → Took o true x → o ≡ Some x
-took None x h = absurd h
-took (Some y) x h = ap some_of (sym h)
+took : {A : Type 0} (old : A) (o : Option A) (x : A) → Stepped old o true x → o ≡ Some x
+took old None x h = absurd h
+took old (Some y) x h = ap some_of (sym h)
 
 -- a step that was not taken gave nothing
-refused : {A : Type 0} (o : Option A) (x : A) → Took o false x → o ≡ None
-refused None x h = refl
-refused (Some y) x h = absurd h
+refused : {A : Type 0} (old : A) (o : Option A) (x : A) → Stepped old o false x → o ≡ None
+refused old None x h = refl
+refused old (Some y) x h = absurd h
 
 -- what holds of all of two lists holds of the first
 all_front : {A : Type 0} (P : A → Type 0) (xs ys : List A) → AllByRecursion P (xs ++ ys) → AllByRecursion P xs
@@ -122,11 +123,11 @@ module _ {Draft Claim : Type 0} (language : Language Claim) (machine : Machine D
 
   -- a line more
   pub adds : (text rest line after : List ℕ) (lines : ℕ) (d e : Draft) → Progress text rest lines d
-      → machine.has_ended d ≡ false → rest ≡ line ++ 10 ∷ after → Took (machine.step d line) true e
+      → machine.has_ended d ≡ false → rest ≡ line ++ 10 ∷ after → Stepped d (machine.step d line) true e
       → Progress text after (lines + 1) e
   adds text rest line after lines d e g still cut t =
       let new : List (List ℕ) = line ∷ [] in
-      let step : machine.step d line ≡ Some e = took (machine.step d line) e t in
+      let step : machine.step d line ≡ Some e = took d (machine.step d line) e t in
       record {
         taken = g.taken ++ new;
         made =
@@ -145,7 +146,7 @@ module _ {Draft Claim : Type 0} (language : Language Claim) (machine : Machine D
   -- a line that is refused is a bad one
   pub bad_line : (text rest line after : List ℕ) (lines : ℕ) (d e : Draft) → Progress text rest lines d
       → machine.has_ended d ≡ false → rest ≡ line ++ 10 ∷ after → IsUnbroken line
-      → Took (machine.step d line) false e → IsBadLine language text (lines + 1)
+      → Stepped d (machine.step d line) false e → IsBadLine language text (lines + 1)
   bad_line text rest line after lines d e g still cut unbroken t = record {
     before = g.taken;
     line = line;
@@ -154,7 +155,7 @@ module _ {Draft Claim : Type 0} (language : Language Claim) (machine : Machine D
     unbroken = unbroken;
     stand = takes.stand g.taken d g.made;
     no_end = g.no_end still;
-    bad = untaken g.taken d line g.made (refused (machine.step d line) e t);
+    bad = untaken g.taken d line g.made (refused d (machine.step d line) e t);
     number = omega (arith, g.count);
   }
 
@@ -370,6 +371,12 @@ module _ {Draft Claim : Type 0} (language : Language Claim) (machine : Machine D
   whole_and_ended : (text : List ℕ) (c : Claim) (x : List ℕ) → language.Is c → text ≡ text_in language c ++ x
       → HasEnded language text → ⊥
   whole_and_ended text c x h e p = whole_and_open text c x p.tail p.before h e (ended_to text p) p.no_end
+
+  -- a claim has one text
+  pub one_spelling : (c d : Claim) → language.Is c → language.Is d → text_in language c ≡ text_in language d → c ≡ d
+  one_spelling c d hc hd e =
+      (whole_and_whole (text_in language c) c d [] [] hc hd (nothing_behind (text_in language c) c refl)
+      (nothing_behind (text_in language c) d e)).0
 
   -- no two answers are true of one text
   pub one_answer : (text : List ℕ) (a b : _) → MeansIn language text a → MeansIn language text b → Agrees a b

@@ -1,5 +1,5 @@
 -- Languages of texts of lines: each text spells one claim, and its last line is END. What reading answers of a text.
-use Rattle.std.specs.Prelude.{◌≡◌, ◌<◌, ◌+◌, ℕ, Bool, List, [], ◌∷◌, ◌++◌, length, Option, Some, None}
+use Rattle.std.specs.Prelude.{◌≡◌, ◌<◌, ◌+◌, ℕ, Bool, true, false, List, [], ◌∷◌, ◌++◌, length, Option, Some, None}
 use Rattle.std.specs.Prelude.{Result, Ok, Err, codes}
 use Rattle.std.specs.List.{AllByRecursion}
 use Rattle.hsp_text.specs.Lines.{IsUnbroken}
@@ -89,3 +89,10 @@ stepped machine (Some d) line = machine.step d line
 abbrev pub run : {Draft Claim : Type 0} → Machine Draft Claim → Option Draft → List (List ℕ) → Option Draft
 run machine o [] = o
 run machine o (line ∷ lines) = run machine (stepped machine o line) lines
+
+-- whether a line was taken: the draft is then the next one, and otherwise it is as it was
+abbrev pub Stepped : {Draft : Type 0} → Draft → Option Draft → Bool → Draft → Type 0
+Stepped old (Some next) true new = new ≡ next
+Stepped old (Some next) false new = ⊥
+Stepped old None true new = ⊥
+Stepped old None false new = new ≡ old

@@ -1,1 +1,7 @@
 pub mod Language
+pub mod Claim
+pub mod Certificate
+pub mod Text
+pub mod Reading
+pub mod Lines
+pub mod Drafts

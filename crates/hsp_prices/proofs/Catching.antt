@@ -32,6 +32,7 @@ stays rows servers (a ∷ rest) all j e =
 
 -- Of two sets of servers the first is within the second, so it takes no more.
 module _ (n : Network) (f g : ℕ → ℕ) (less : (j : ℕ) → f j ≤ g j) where
+  -- a flag keeps the order
   within : (t : Bool) (j : ℕ) → (if t then f j else 0) ≤ (if t then g j else 0)
   within true j = less j
   within false j = omega arith

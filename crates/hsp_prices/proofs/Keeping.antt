@@ -75,13 +75,16 @@ module _ (n : Network) (keep : Keep) where
         nothing true e = e
         nothing false e = refl
 
+    -- so is a server's load
     pub load_kept : (j : ℕ) → load (kept n keep) x j ≡ load n x j
     load_kept j = by_test (λ a. a.server == j)
 
+    -- and a host's
     pub host_kept : (h : ℕ) → host_load (kept n keep) x h ≡ host_load n x h
     host_kept h =
         sum_below_same (length n.capacities) _ _ (λ j l. ap (λ v. if is_on (n.host_of j) h then v else 0) (load_kept j))
 
+    -- and the cost
     pub cost_kept : total (kept n keep) x ≡ total n x
     cost_kept =
         sum_kept keeps (λ a. a.cost * planned x a) (λ a e. ap (λ v. a.cost * v) (out a e) ∙ mul-zero a.cost) n.arcs

@@ -1,0 +1,52 @@
+// Reading a certificate by prices from its text, line by line.
+
+ghost use Rattle.std.specs.Prelude.{Result};
+ghost use Rattle.hsp_cert.specs.declared.fault.CertFault.{CertFault};
+ghost use Rattle.hsp_price_text.specs.declared.certificate.PriceCertificate.{PriceCertificate};
+ghost use Rattle.hsp_price_text.specs.Language.{Agrees};
+ghost use Rattle.hsp_price_text.specs.Reading.{Means};
+
+use crate::certificate::PriceCertificate;
+use crate::draft::Draft;
+use hsp_cert::CertFault;
+use hsp_text::next_line;
+use std::alloc::Global;
+
+// Reads line by line up to the end line, behind which nothing may follow.
+fn read_lines(alloc: Global, text: &[u8]) -> Result<PriceCertificate, CertFault>
+    ensures { Means text.now result }
+{
+    let mut draft = Draft::new(alloc);
+    let mut rest = text;
+    let mut lines: u64 = 0;
+    'lines: while !draft.has_ended() {
+        let Some((line, after)) = next_line(rest) else {
+            return Err(CertFault::Ended);
+        };
+        lines += 1;
+        let Ok(taken) = draft.take(alloc, line) else {
+            return Err(CertFault::OutOfMemory);
+        };
+        if !taken {
+            return Err(CertFault::BadLine { line: lines });
+        }
+        rest = after;
+    }
+    if !rest.is_empty() {
+        return Err(CertFault::AfterEnd { line: lines + 1 });
+    }
+    Ok(draft.finished())
+}
+
+/// The certificate that the text spells.
+///
+/// A text that spells no certificate has one fault: the first line that can't stand in its place, an end before the
+/// line `END` and its LF, or something after them.
+pub fn read_prices(alloc: Global, text: &[u8]) -> Result<PriceCertificate, CertFault>
+    // What is returned is true of the text,
+    ensures means { Means text.now result }
+    // and whatever is true of it is returned, unless memory runs out.
+    ensures only { (other : Result PriceCertificate CertFault) → Means text.now other → Agrees result other }
+{
+    read_lines(alloc, text)
+}
