@@ -4,10 +4,11 @@
     tools/fuzz/plant_companion.py [--reached FILE] [--number N] [--seed S] [--jobs J] [--only MODULE] [--list]
 
 A change is drawn by the seed: a comparison turned, an operator or a constant exchanged, a condition negated, arguments
-swapped, a statement left out. Tests are run until one fails. `FILE` is what `tools/measure/cover_companion.py --data FILE`
-keeps: with it these are the tests that reach the changed line, those of its module first and dear ones last, as long
-as they take a minute and a half together. Of a value that a module names, these reach a line that uses the name; of a
-default, a line of the function. Without `FILE` the tests are those that `TESTS` names for the module.
+swapped, a statement left out. The arguments of `max` and `min` and `frozen` of dataclasses stay: nobody sees a change.
+Tests are run until one fails. `FILE` is what `tools/measure/cover_companion.py --data FILE` keeps: with it these are
+the tests that reach the changed line, those of its module first and dear ones last, as long as they take a minute and
+a half together. Of a value that a module names, these reach a line that uses the name; of a default, a line of the
+function. Without `FILE` the tests are those that `TESTS` names for the module.
 
 Printed are the changes that no test refused, and how many there were. Some of these change nothing that anybody sees:
 a person judges that. `--list` prints the changes and runs nothing. The gate doesn't run this script.
@@ -107,7 +108,7 @@ def _ways(node: ast.AST) -> Iterator[tuple[str, ast.AST]]:
     elif isinstance(other, (ast.IfExp, ast.If)):
         other.test = ast.UnaryOp(ast.Not(), other.test)
         yield "condition", other
-    elif isinstance(other, ast.Call) and len(other.args) == 2 and not other.keywords:
+    elif isinstance(other, ast.Call) and len(other.args) == 2 and not other.keywords and not _is_of_any_order(other):
         other.args = other.args[::-1]
         yield "arguments", other
     elif isinstance(other, (ast.Raise, ast.AugAssign)) or isinstance(other, ast.Expr) and _is_call(other):
@@ -116,6 +117,10 @@ def _ways(node: ast.AST) -> Iterator[tuple[str, ast.AST]]:
 
 def _is_call(node: ast.Expr) -> bool:
     return isinstance(node.value, ast.Call)
+
+
+def _is_of_any_order(node: ast.Call) -> bool:
+    return isinstance(node.func, ast.Name) and node.func.id in ("max", "min")
 
 
 class _Put(ast.NodeTransformer):
@@ -130,7 +135,8 @@ class _Put(ast.NodeTransformer):
 
 def _all_of(tree: ast.AST) -> list[tuple[ast.AST, str, ast.AST]]:
     """The nodes of a module that may be changed, with the kind of the change and what then stands there."""
-    return [(node, what, new) for node in ast.walk(tree) for what, new in _ways(node)]
+    kept = [it.value for it in ast.walk(tree) if isinstance(it, ast.keyword) and it.arg == "frozen"]
+    return [(node, what, new) for node in ast.walk(tree) if node not in kept for what, new in _ways(node)]
 
 
 def _parsed(path: str) -> ast.Module:
