@@ -5,9 +5,11 @@ from __future__ import annotations
 import gzip
 import json
 import lzma
+import os
 import random
 import re
 import resource
+import signal
 import subprocess
 import sys
 import time
@@ -194,6 +196,7 @@ def test_tables_of_a_fleet_are_joined_by_their_octets(monkeypatch: pytest.Monkey
 
 
 def test_pieces_are_small_and_lose_nothing(monkeypatch: pytest.MonkeyPatch) -> None:
+    assert [len(it) for it in pieces([(b"eu", bytes(1 << 20))] * 6)] == [5, 1]  # the last one is above 4 MiB
     monkeypatch.setattr(bounds, "OCTETS_AT_ONCE", 1000)
     monkeypatch.setattr(bounds, "MOST_AT_ONCE", 7)
     queries = [(b"eu", b"x" * (number % 500)) for number in range(900)]
@@ -224,7 +227,7 @@ def test_what_is_remembered_is_bounded(monkeypatch: pytest.MonkeyPatch) -> None:
 
 def test_an_xz_file_may_have_streams_and_no_great_memory(tmp_path: Path) -> None:
     path, text = tmp_path / "log.xz", b"".join(b"line %d\n" % it for it in range(100_000))
-    path.write_bytes(lzma.compress(text) + bytes(8) + lzma.compress(b"more\n") + lzma.compress(b"") + bytes(4))
+    path.write_bytes(lzma.compress(text) + bytes(40_000) + lzma.compress(b"more\n") + lzma.compress(b"") + bytes(4))
     with opened(str(path)) as file:
         assert file.read() == text + b"more\n"
     for octets, why in ((path.read_bytes()[:9000], "the file ends"), (b"\xfd7zXZ\x00" + bytes(40), "Corrupt|format")):
@@ -335,3 +338,19 @@ def test_a_key_of_titles_has_few_parts(example: Example) -> None:
     assert invoke("plan", folder).stdout.startswith("." * 200)
     (folder / "hsp.toml").write_text("a." * 101 + "a = 1\n")
     assert invoke("plan", folder, status=1).stderr == f"hsp: {folder}/hsp.toml: a key of more than 100 parts\n"
+
+
+def test_an_explanation_is_quiet_and_would_end_by_itself(capfd: pytest.CaptureFixture[str]) -> None:
+    result = guard.guarded(lambda _: (os.write(2, b"noise"), signal.alarm(0)))
+    assert result.end == (5, 2 * guard.SECONDS) and capfd.readouterr().err == ""
+
+
+def test_what_an_explanation_has_started_ends_with_it(tmp_path: Path, monkeypatch: pytest.MonkeyPatch) -> None:
+    monkeypatch.setattr(guard, "SECONDS", 0.5)
+    words = ["sh", "-c", f"echo $$ > {tmp_path}/own; mv {tmp_path}/own {tmp_path}/pid; exec sleep 60"]
+    assert guard.guarded(lambda _: subprocess.run(words)).is_ended
+    status = Path(f"/proc/{int((tmp_path / 'pid').read_text())}/status")
+    until = time.monotonic() + 10
+    while status.exists() and "State:\tZ" not in status.read_text():
+        assert time.monotonic() < until
+        time.sleep(0.01)

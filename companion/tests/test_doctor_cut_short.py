@@ -3,12 +3,13 @@
 from __future__ import annotations
 
 import json
+import re
 from collections.abc import Callable
 from pathlib import Path
 
 import pytest
 
-from hsp.doctor import faults, guard
+from hsp.doctor import faults, guard, word_doubts
 from hsp.doctor.cut_short import cut_short, likely
 from hsp.doctor.findings import NOTE, WARNING, Finding
 
@@ -53,11 +54,31 @@ def test_the_findings_of_all_rows_are_estimated_by_those_that_were_read(
     assert objects[-1] == {"severity": NOTE, "message": note, "remedy": AGAIN, **empty}
 
 
+def words_of(command: str, folder: Path, *names: str) -> list[str | Path]:
+    return ["--", command, *(it for name in names for it in (f"--{name.partition('.')[0]}", folder / name))]
+
+
 def test_faults_of_words_are_estimated_too(example: Example, few: None) -> None:
     folder = example("two-sites")
     (folder / "costs.csv").write_text(rows(1, 1, 500))
-    words = [it for name in FILES for it in (f"--{name.partition('.')[0]}", folder / name)]
-    assert f"the first 12 of some 500 findings: {AGAIN}\n" in invoke("doctor", "--", "plan", *words, status=1).stdout
+    said = invoke("doctor", *words_of("plan", folder, *FILES), status=1).stdout
+    assert f"the first 12 of some 500 findings: {AGAIN}\n" in said
+
+
+@pytest.mark.parametrize(
+    "most, octets, of", [(40, 40, "2 rows"), (40, 39, "2 rows"), (40, 53, "2 rows"), (39, 53, "1 row")]
+)
+def test_a_log_is_looked_at_as_far_as_a_bound(
+    example: Example, monkeypatch: pytest.MonkeyPatch, most: int, octets: int, of: str
+) -> None:
+    """Whole rows within the bound count. The last row of a short log needs no line end."""
+    monkeypatch.setattr(word_doubts, "LOOKED_AT", most)
+    folder = example("two-sites")
+    invoke("plan", folder)
+    (folder / "log.csv").write_text(("region,handle\n" + "mars,20.1/aa\n" * 3)[:octets])
+    said = invoke("doctor", *words_of("dispatch", folder, *FILES, "plan.txt", "log.csv")).stdout
+    found = re.findall(r"^warning: the demand has no region 'mars'\n(?: .*\n|\d.*\n)*?  why  (.*)", said, re.M)
+    assert found == [f"{of[0]} of the first {of} can only be answered 'unknown'"]
 
 
 def test_only_lines_behind_the_last_finding_are_estimated(tmp_path: Path) -> None:

@@ -12,7 +12,7 @@ from hsp.doctor.findings import Text
 from hsp.doctor.numbers_advice import advice
 from hsp.doctor.printing import lines
 from hsp.doctor.question import Draft, Mend, Question, Said
-from hsp.doctor.table_faults import numbered_row, open_quote
+from hsp.doctor.table_faults import Faulty, numbered_row, open_quote
 
 from printed import assert_kept
 
@@ -23,6 +23,11 @@ def text_of(lines: str, path: str = "demand.csv") -> Text:
 
 def question_of(kind: str, lines: str) -> Question:
     return Question(Programs(), "plan", {kind: Draft(text_of(lines))})
+
+
+def row_of(text: str, number: int = 0) -> Faulty | None:
+    question = question_of("demand", f"region,handle,count\n{text}\n")
+    return numbered_row(question, "demand", Said(1, "", numbers={"row": number}))
 
 
 def test_a_line_below_those_that_were_put_in_has_its_own_number() -> None:

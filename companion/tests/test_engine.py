@@ -3,8 +3,10 @@
 from __future__ import annotations
 
 import asyncio
+import contextlib
 import errno
 import json
+import os
 import socket
 import subprocess
 import sys
@@ -117,12 +119,14 @@ def test_a_part_that_is_lost_or_whose_worker_has_gone() -> None:
             made(away)._reply(future)
 
 
-def test_replies_come_in_the_order_of_their_parts() -> None:
+def test_replies_come_in_the_order_of_their_parts(monkeypatch: pytest.MonkeyPatch) -> None:
     shown: list[int] = []
+    pauses: list[float] = []
+    monkeypatch.setattr(engine.time, "sleep", pauses.append)
     futures = [Future({"n": 1}, looks=3), Future({"n": 2}), Future({"n": 3}, looks=1)]
     replies = made(Client()).outcomes(futures, lambda done: shown.append(len(done)))
     assert replies == [{"n": 1}, {"n": 2}, {"n": 3}] and shown[0] == 1 and shown[-1] == 3 and shown == sorted(shown)
-    assert made(Client()).outcomes([]) == []
+    assert made(Client()).outcomes([]) == [] and pauses == [0.02] * 4
 
 
 def test_the_first_fault_in_the_order_of_parts_is_reported() -> None:
@@ -201,7 +205,9 @@ def test_whether_something_listens() -> None:
     assert not engine.refuses("tcp://127.0.0.1:x") and not engine.refuses("tcp://no.such.host.example.:1")
 
 
-def test_workers_of_another_python_get_no_part() -> None:
+def test_workers_of_another_python_get_no_part(monkeypatch: pytest.MonkeyPatch) -> None:
+    pauses: list[float] = []
+    monkeypatch.setattr(engine.time, "sleep", pauses.append)
     own = ".".join(map(str, sys.version_info[:2]))
     versions = {
         "a": {"host": {"python": f"{own}.9.final.0"}},
@@ -226,7 +232,7 @@ def test_workers_of_another_python_get_no_part() -> None:
     client.register_worker_plugin = register  # type: ignore[attr-defined]
     client.run = lambda seek, workers: {it: None for it in workers}  # type: ignore[attr-defined]
     mark = SimpleNamespace(name="mark")
-    assert made(client)._refusals(mark) == {**others, "a": None} and tries == ["mark"] * 3
+    assert made(client)._refusals(mark) == {**others, "a": None} and (tries, pauses) == (["mark"] * 3, [0.5] * 2)
     tries[:] = [""] * -9
     client.register_worker_plugin = lambda plugin, name: (_ for _ in ()).throw(OSError("never"))  # type: ignore[attr-defined]
     with pytest.raises(Gone, match="^the scheduler has gone away: never$"):
@@ -455,6 +461,44 @@ def test_what_a_part_prints_and_how_it_ends() -> None:
             remote._reply(run, worker_of(state))
         assert run.returncode == -9
     assert remote.head({"table": 1, "asked": 2}) == {"asked": 2}
+
+
+def test_a_part_stages_its_files_and_leaves_none_behind_a_fault(
+    tmp_path: Path, monkeypatch: pytest.MonkeyPatch
+) -> None:
+    """No part is done where a file of the run differs, or where an earlier part has a fault."""
+    seal, target = remote.Seal({"plan": remote.sum_of(b"a plan")}, False), str(tmp_path / "a.answers")
+    worker = SimpleNamespace(local_directory=str(tmp_path), address="tcp://there")
+    monkeypatch.setattr(remote.distributed, "get_worker", lambda: worker)
+    request, plan = {"run": "run", "targets": [target]}, tmp_path / seal.mark / "plan"
+    end: Any = {"sums": {"spent": 2}}
+
+    def ran(whole: dict[str, Any], folder: str, _: Any) -> dict[str, Any]:
+        assert whole["files"] == {"plan": str(plan)} and whole["before"] == ({"n": 1},) and whole["run"] == "run"
+        assert os.path.dirname(folder) == str(tmp_path) and os.path.isdir(folder)
+        Path(*whole["staged"]).write_text("spent")
+        if isinstance(end, BaseException):
+            raise end
+        return dict(end)
+
+    def left() -> list[Path]:
+        return list(tmp_path.glob(".a.answers.fleet-*"))
+
+    monkeypatch.setattr(remote, "_ran", ran)
+    with pytest.raises(OSError, match=f"^worker tcp://there: {plan}: No such file or directory$"):
+        remote.part(seal, request, {"n": 1})
+    plan.parent.mkdir()
+    plan.write_bytes(b"a plan")
+    fault = {"fault": "odd", "status": 1}
+    assert remote.part(seal, request, {"n": 1}, fault, {"fault": "later"}) is fault
+    reply = remote.part(seal, request, {"n": 1})
+    (own,) = left()
+    assert own == Path(remote.staged(target, "run", reply["attempt"])) and len(reply["attempt"]) == 12
+    assert reply == {**end, "attempt": reply["attempt"], "inodes": [own.stat().st_ino]}
+    for end in (fault, OSError("no room")):
+        with pytest.raises(OSError, match="^no room$") if end is not fault else contextlib.nullcontext():
+            assert remote.part(seal, request, {"n": 1}) == fault
+        assert left() == [own]
 
 
 @pytest.mark.parametrize(

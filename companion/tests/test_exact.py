@@ -181,6 +181,7 @@ def test_what_brings_most_kinds(tmp_path: Path, monkeypatch: pytest.MonkeyPatch)
     monkeypatch.setattr(outlook, "MOST_KINDS", 10)
     apart = {"eu": {"a": 1}, "us": {"b": 1}}
     assert list(outlook.fewer(sites, apart)) == ["7 remain without region us, which brings most"]
+    monkeypatch.setattr(outlook, "MOST_KINDS", 7)
     assert list(outlook.fewer(sites, {"eu": {"a": 1, "b": 2}})) == [
         "7 remain without costs to b, the site that brings most",
         "7 remain with costs to only the 1 cheapest sites of each region",

@@ -2,6 +2,7 @@
 
 from __future__ import annotations
 
+import contextlib
 import csv
 import errno
 import os
@@ -134,6 +135,29 @@ def test_progress_of_plans_at_a_terminal(monkeypatch: pytest.MonkeyPatch) -> Non
         for _ in range(number):
             done()
     assert lines == [f"planning: {at} of 8" for at in range(1, 8)] + [""]
+
+
+@pytest.mark.parametrize("words", ["plan --no-save", "view", "whatif", "whatif --server paris:2"])
+def test_as_many_plans_are_counted_as_are_made(example: Example, monkeypatch: pytest.MonkeyPatch, words: str) -> None:
+    said: list[int] = []
+    monkeypatch.setattr(cli, "progress", lambda number: said.append(number) or (lambda: said.append(-1)))
+    command, *options = words.split()
+    invoke(command, example("two-sites"), *options)
+    assert said[0] > 0 == sum(said) and said.count(-1) == len(said) - 1
+
+
+def test_a_run_of_one_query_has_a_table_and_one_of_none_is_refused(
+    tmp_path: Path, monkeypatch: pytest.MonkeyPatch
+) -> None:
+    (tmp_path / "n.csv").write_text("network,region\n192.0.2.0/24,eu\n")
+    whole = {"skipped": [], "asked": 1, "table": "region,handle,count\neu,20.1/a,1\n", "is_joined": False}
+    engine = SimpleNamespace(ship=lambda *_: None, publish=lambda _: None)
+    monkeypatch.setattr(demand, "session", lambda *_: contextlib.nullcontext(engine))
+    monkeypatch.setattr(demand, "counted", lambda *_: ([{}], whole))
+    assert invoke("fleet", "demand", "a.csv", "--regions", tmp_path / "n.csv").stdout == whole["table"]
+    whole["asked"] = 0
+    said = invoke("fleet", "demand", "a.csv", "--regions", tmp_path / "n.csv", status=1).stderr
+    assert said == "hsp: no query is in a.csv: it has no line\n"
 
 
 def test_signals_of_several_steps(monkeypatch: pytest.MonkeyPatch) -> None:

@@ -2,6 +2,7 @@
 
 from __future__ import annotations
 
+import contextlib
 import csv
 import fcntl
 import os
@@ -15,7 +16,7 @@ from pathlib import Path
 
 import pytest
 
-from hsp.base import files
+from hsp.base import files, signals
 from hsp.base.programs import Missing, Programs
 from hsp.base.unfit import Unfit
 
@@ -188,6 +189,39 @@ def test_a_stopped_command_leaves_nothing(
     assert (sorted(os.listdir(folder)), os.listdir(room)) == (before, [])
 
 
+def test_a_signal_within_a_step_counts_after_it() -> None:
+    came: list[int] = []
+    before = signal.getsignal(signal.SIGTERM)
+    with signals.stopping(came.append):
+        with signals.uncut():
+            with signals.uncut():
+                signal.raise_signal(signal.SIGTERM)
+            assert came == []
+        assert came == [signal.SIGTERM]
+    assert signal.getsignal(signal.SIGTERM) == before
+
+
+def test_no_second_signal_cuts_what_is_tidied_up() -> None:
+    with pytest.raises(signals.Stopped) as stopped:
+        with signals.stopping():
+            try:
+                signal.raise_signal(signal.SIGINT)
+            finally:
+                assert [signal.getsignal(it) for it in STOPS] == [signal.SIG_IGN] * 3
+    assert stopped.value.status == 130
+
+
+def writing_end(pipe: Path, run: subprocess.Popen[str]) -> int:
+    """A pipe that a process has opened to read it. Nobody waits for one that ended before."""
+    until = time.monotonic() + 20
+    while run.poll() is None and time.monotonic() < until:
+        with contextlib.suppress(OSError):
+            return os.open(pipe, os.O_WRONLY | os.O_NONBLOCK)
+        time.sleep(0.02)
+    run.kill()
+    pytest.fail(f"the pipe isn't opened: {run.communicate()}")
+
+
 def test_a_signal_that_the_caller_ignores_stays_ignored(tmp_path: Path, regions: Path) -> None:
     """As nohup has it."""
     pipe = tmp_path / "pipe"
@@ -197,7 +231,7 @@ def test_a_signal_that_the_caller_ignores_stays_ignored(tmp_path: Path, regions:
     run = subprocess.Popen(
         ["sh", "-c", script, "sh", *words], env=variables(), stdout=subprocess.PIPE, stderr=subprocess.PIPE, text=True
     )
-    with pipe.open("w") as file:
+    with open(writing_end(pipe, run), "w") as file:
         run.send_signal(signal.SIGHUP)
         file.write("client,handle\n192.0.2.1,20.500.1234/a\n")
     assert (run.communicate(timeout=20)[0], run.returncode) == ("region,handle,count\neu,20.500.1234/a,1\n", 0)

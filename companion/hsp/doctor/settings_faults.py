@@ -137,7 +137,7 @@ def _unknown(question: Question, said: Said, where: tuple[str, int], key: str) -
     words = Words(f"the key {quoted(key)} means nothing here", remedy, where_words, mark, f"UnknownKey {key}")
     line = place.text[: place.column - 1] + meant + place.text[place.end - 1 :]
     ways = [question.with_line("settings", place.line, line)] if meant else []
-    if not block and not meant and "above" in remedy:
+    if "above" in remedy:
         head = f"[[{'host' if key in KEYS['host'] else 'site'}]]"
         above = question.files["settings"].with_text("\n".join([head, *text.lines]), 1)
         ways.append(question.with_file("settings", above))

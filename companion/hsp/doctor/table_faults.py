@@ -370,7 +370,7 @@ def _place_of_fields(faulty: Faulty) -> Place:
     line, want, number = faulty.line, len(faulty.header), faulty.draft.number(faulty.row.first)
     spans = spans_of(line)
     is_as_it_was = faulty.draft.original.line(number) == line
-    if is_as_it_was and len(spans) == len(faulty.fields) > want and spans[want - 1][0] < len(line):
+    if is_as_it_was and len(spans) == len(faulty.fields) > want:
         start = spans[want - 1][0]
         return faulty.draft.original.part(number, start, len(line) - start)
     return faulty.whole()

@@ -55,7 +55,8 @@ def of_log(question: Question, service: Service | None, mark: Mark) -> Iterator[
     if question.command not in ("dispatch", "answer") or not {"log", "demand"} <= set(question.files):
         return
     demand, text = table_of(question.text("demand")), question.text("log")
-    log = Table(Text(text.path, text.octets[:LOOKED_AT].rpartition(b"\n")[0] or text.octets))
+    is_long = len(text.octets) > LOOKED_AT
+    log = Table(Text(text.path, text.octets[:LOOKED_AT].rpartition(b"\n")[0]) if is_long else text)
     if "region" in log.header:
         yield from _of_regions(log, log.header.index("region"), set(demand.column("region")))
     if "handle" in log.header and question.command == "dispatch" and not mark.is_joined:

@@ -42,7 +42,7 @@ def _verdict(plan: Planned, reference: Reference) -> str:
     return f"left alone, {too_full(too_many, hosts)}; {kept}"
 
 
-def plan_lines(plan: Planned, reference: Reference | None, every: bool = False) -> Iterator[str]:
+def plan_lines(plan: Planned, reference: Reference | None, every: bool) -> Iterator[str]:
     """The verdict, the cost, the full servers with what room there saves, machines, and where regions go."""
     service, unit = plan.service, _unit(plan.service)
     if reference:
@@ -58,7 +58,7 @@ def plan_lines(plan: Planned, reference: Reference | None, every: bool = False) 
     yield f"by shares of regions alone  {by_shares(plan).words}"
 
 
-def full_lines(plan: Planned, every: bool = False) -> Iterator[str]:
+def full_lines(plan: Planned, every: bool) -> Iterator[str]:
     """The full servers at which room saves something."""
     unit = _unit(plan.service)
     worth = [gain for gain in plan.gains if gain.all > 0]
@@ -90,7 +90,7 @@ def added_by(plan: Planned, reference: Reference | None, region: str) -> int:
     return plan.regions[region][1] - before
 
 
-def region_lines(plan: Planned, reference: Reference | None, every: bool = False) -> Iterator[str]:
+def region_lines(plan: Planned, reference: Reference | None, every: bool) -> Iterator[str]:
     """The cost of each region's queries, and where they go; those first that pay most for the limits."""
     regions = sorted(plan.regions, key=lambda name: (-added_by(plan, reference, name), name))
     shown = regions if every else regions[:SHOWN]
