@@ -66,7 +66,8 @@ def test_faults_of_words_are_estimated_too(example: Example, few: None) -> None:
 
 
 @pytest.mark.parametrize(
-    "most, octets, of", [(40, 40, "2 rows"), (40, 39, "2 rows"), (40, 53, "2 rows"), (39, 53, "1 row")]
+    "most, octets, of",
+    [(40, 40, "2 rows"), (40, 39, "2 rows"), (40, 53, "2 rows"), (39, 53, "1 row"), (39, 39, "2 rows")],
 )
 def test_a_log_is_looked_at_as_far_as_a_bound(
     example: Example, monkeypatch: pytest.MonkeyPatch, most: int, octets: int, of: str
