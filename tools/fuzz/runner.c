@@ -1,64 +1,61 @@
 /* Preloaded before a program, it runs the program again and again in one process: each time on words, files and a
  * standard input that are held in memory.
  *
- * A request comes through the descriptor FUZZ_ASK: whether the words are arguments, the most octets that a read gives
- * and a write takes, the octets of the log behind which a read is noted, and how many texts follow. These are the words,
- * and then the name and the octets of each file. A text is its length, in 4 octets, and its octets. The answer goes to
- * FUZZ_SAY: the numbers of `struct answer`, and both texts that the program printed. */
+ * A request comes through the process's own standard input: `struct request`, and then its texts, each as its length,
+ * in 8 octets, its octets, and a zero. They are the words, and then the name and the octets of each file. The answer
+ * goes to the process's own standard output: `struct answer`, and both texts that the program printed. */
 #define _GNU_SOURCE
 #include <dlfcn.h>
 #include <errno.h>
 #include <fcntl.h>
-#include <link.h>
 #include <malloc.h>
+#include <setjmp.h>
 #include <stdint.h>
 #include <stdlib.h>
 #include <string.h>
-#include <sys/mman.h>
 #include <sys/syscall.h>
 #include <time.h>
 #include <unistd.h>
 
-enum { FIRST_DESCRIPTOR = 1000, MOST_FILES = 48, MOST_WORDS = 64, MOST_TEXT = 1 << 26 };
+/* A run that takes longer, in seconds, is one without an end. */
+enum { MOST_SECONDS = 60, FIRST_DESCRIPTOR = 1000, MOST_FILES = 48, MOST_WORDS = 64, MOST_TEXT = 1 << 26 };
 
 struct text {
     char *octets;
-    size_t length;
+    size_t length, at;
 };
+
+/* Whether the words are arguments, how many files there are, the most octets that a read gives and a write takes, the
+ * octets of the log behind which a read is noted, and the length of all texts. */
+static struct request {
+    uint64_t has_arguments, count, piece, watched, length;
+} asked;
 
 /* The status of a run, the most octets of memory that it held at once, those that it held at its end, its nanoseconds,
- * and of the first read of the log behind the watched octets: whether there was one, and how many octets were given
- * and printed before it. */
-struct answer {
+ * of the first read of the log behind the watched octets whether there was one, and how many octets were given and
+ * printed before it, and the lengths of both texts. */
+static struct answer {
     int64_t status;
-    uint64_t most, held, spent, is_noted, given, printed;
-};
+    uint64_t most, held, spent, is_noted, given, before, printed, reported;
+} answer;
 
-struct request {
-    uint32_t has_arguments, count;
-    uint64_t piece, watched;
-};
+static int is_running;
+static char texts[MOST_TEXT], printed[MOST_TEXT], reported[MOST_TEXT];
+static const char *names[MOST_FILES];
+static struct text files[MOST_FILES], input;
 
-static int is_running, asking, saying;
-static struct request asked;
-static struct answer answer;
-static struct text names[MOST_FILES], files[MOST_FILES], input, printed, reported;
-static size_t input_at, file_at[MOST_FILES];
+void *__libc_malloc(size_t);
+void *__libc_realloc(void *, size_t);
+void __libc_free(void *);
 
-static void *(*real_malloc)(size_t);
-static void *(*real_realloc)(void *, size_t);
-static void (*real_free)(void *);
-
-static void find_real(void)
+static size_t size_of(void *place)
 {
-    real_malloc = dlsym(RTLD_NEXT, "malloc");
-    real_realloc = dlsym(RTLD_NEXT, "realloc");
-    real_free = dlsym(RTLD_NEXT, "free");
+    return place && is_running ? malloc_usable_size(place) : 0;
 }
 
 static void *counted(void *place)
 {
-    answer.held += place && is_running ? malloc_usable_size(place) : 0;
+    answer.held += size_of(place);
     if (answer.held > answer.most)
         answer.most = answer.held;
     return place;
@@ -66,36 +63,30 @@ static void *counted(void *place)
 
 void *malloc(size_t size)
 {
-    if (!real_malloc)
-        find_real();
-    return counted(real_malloc(size));
+    return counted(__libc_malloc(size));
 }
 
 void *realloc(void *old, size_t size)
 {
-    if (!real_realloc)
-        find_real();
-    size_t before = old && is_running ? malloc_usable_size(old) : 0;
-    void *place = real_realloc(old, size);
+    size_t before = size_of(old);
+    void *place = __libc_realloc(old, size);
     answer.held -= place ? before : 0;
     return counted(place);
 }
 
 void free(void *place)
 {
-    if (!real_free)
-        find_real();
-    answer.held -= place && is_running ? malloc_usable_size(place) : 0;
-    real_free(place);
+    answer.held -= size_of(place);
+    __libc_free(place);
 }
 
 int open(const char *path, int flags, ...)
 {
     if (!is_running)
         return syscall(SYS_openat, AT_FDCWD, path, flags, 0);
-    for (uint32_t at = 0; at < asked.count; at++)
-        if (names[at].length == strlen(path) && !memcmp(names[at].octets, path, names[at].length)) {
-            file_at[at] = 0;
+    for (uint64_t at = 0; at < asked.count; at++)
+        if (!strcmp(names[at], path)) {
+            files[at].at = 0;
             return FIRST_DESCRIPTOR + at;
         }
     errno = ENOENT;
@@ -107,46 +98,33 @@ static size_t least(size_t one, size_t other)
     return one < other ? one : other;
 }
 
-static ssize_t give(struct text text, size_t *at, char *octets, size_t length)
-{
-    size_t count = least(least(length, asked.piece), text.length - *at);
-    memcpy(octets, text.octets + *at, count);
-    *at += count;
-    return count;
-}
-
-static void note_read(int at)
-{
-    static const char log[] = "log.csv";
-    int is_log = names[at].length == strlen(log) && !memcmp(names[at].octets, log, strlen(log));
-    if (answer.is_noted || !is_log || file_at[at] < asked.watched)
-        return;
-    answer.is_noted = 1;
-    answer.given = file_at[at];
-    answer.printed = printed.length;
-}
-
 ssize_t read(int descriptor, void *octets, size_t length)
 {
     int at = descriptor - FIRST_DESCRIPTOR;
+    struct text *from = at < 0 ? &input : &files[at];
     if (!is_running)
         return syscall(SYS_read, descriptor, octets, length);
-    if (at < 0)
-        return give(input, &input_at, octets, length);
-    note_read(at);
-    return give(files[at], &file_at[at], octets, length);
+    if (at >= 0 && !answer.is_noted && !strcmp(names[at], "log.csv") && from->at >= asked.watched) {
+        answer.is_noted = 1;
+        answer.given = from->at;
+        answer.before = answer.printed;
+    }
+    size_t count = least(least(length, asked.piece), from->length - from->at);
+    memcpy(octets, from->octets + from->at, count);
+    from->at += count;
+    return count;
 }
 
 ssize_t write(int descriptor, const void *octets, size_t length)
 {
-    struct text *stream = descriptor == 1 ? &printed : &reported;
+    uint64_t *end = descriptor == 1 ? &answer.printed : &answer.reported;
     if (!is_running)
         return syscall(SYS_write, descriptor, octets, length);
-    if (length > MOST_TEXT - stream->length)
+    if (length > MOST_TEXT - *end)
         abort();
     length = least(length, asked.piece);
-    memcpy(stream->octets + stream->length, octets, length);
-    stream->length += length;
+    memcpy((descriptor == 1 ? printed : reported) + *end, octets, length);
+    *end += length;
     return length;
 }
 
@@ -162,124 +140,81 @@ static uint64_t now(void)
     return time.tv_sec * 1000000000ull + time.tv_nsec;
 }
 
-/* Takes octets of a request. Ends the process where no further request comes. */
-static void take(void *octets, size_t length)
+/* Reads a part of a request, or writes one of an answer. Ends the process where nobody asks or listens further. */
+static void carry(long call, int descriptor, void *octets, size_t length)
 {
-    for (char *to = octets; length;) {
-        ssize_t count = syscall(SYS_read, asking, to, length);
+    for (char *at = octets; length;) {
+        ssize_t count = syscall(call, descriptor, at, length);
         if (count <= 0)
             _exit(0);
-        to += count;
+        at += count;
         length -= count;
     }
 }
 
-static void say(const void *octets, size_t length)
+static struct text next_text(char **from)
 {
-    for (const char *from = octets; length;) {
-        ssize_t count = syscall(SYS_write, saying, from, length);
-        if (count <= 0)
-            _exit(1);
-        from += count;
-        length -= count;
-    }
+    struct text text = {*from + sizeof(uint64_t), 0, 0};
+    memcpy(&text.length, *from, sizeof text.length);
+    *from = text.octets + text.length + 1;
+    return text;
 }
 
-static void take_text(struct text *text)
+/* Takes a request. Returns its words. */
+static struct text take(void)
 {
-    uint32_t length;
-    take(&length, sizeof length);
-    real_free(text->octets);
-    *text = (struct text){real_malloc(length + 1), length};
-    if (!text->octets)
+    carry(SYS_read, 0, &asked, sizeof asked);
+    if (asked.count > MOST_FILES || asked.length > MOST_TEXT)
         abort();
-    take(text->octets, length);
-    text->octets[length] = '\0';
-}
-
-static void say_text(struct text text)
-{
-    uint32_t length = text.length;
-    say(&length, sizeof length);
-    say(text.octets, text.length);
+    carry(SYS_read, 0, texts, asked.length);
+    char *from = texts;
+    struct text words = next_text(&from);
+    for (uint64_t at = 0; at < asked.count; at++) {
+        names[at] = next_text(&from).octets;
+        files[at] = next_text(&from);
+    }
+    return words;
 }
 
 typedef int main_function(int, char **, char **);
-typedef void first_function(int, char **, char **);
-typedef void end_function(void);
+typedef int start_function(main_function *, int, char **, void *, void *, void *, void *);
 
 static main_function *program;
-static const char *name;
-/* The functions that the C library calls before `main`. They get the arguments too, and one of the program keeps them
- * for later. */
-static first_function **first_functions;
-static size_t first_count;
+static jmp_buf back;
 
-static void find_first_functions(void)
+static int run(int count, char **arguments, char **means)
 {
-    const struct link_map *map = dlopen(NULL, RTLD_LAZY);
-    for (const ElfW(Dyn) *entry = map->l_ld; entry->d_tag != DT_NULL; entry++)
-        if (entry->d_tag == DT_INIT_ARRAY)
-            first_functions = (first_function **)(map->l_addr + entry->d_un.d_ptr);
-        else if (entry->d_tag == DT_INIT_ARRAYSZ)
-            first_count = entry->d_un.d_val / sizeof *first_functions;
-}
-
-static void run(struct text *words)
-{
-    char *arguments[MOST_WORDS + 1] = {(char *)name, NULL};
-    int count = 1;
-    input = asked.has_arguments ? (struct text){NULL, 0} : *words;
-    for (char *word = asked.has_arguments ? strtok(words->octets, " ") : NULL; word && count < MOST_WORDS;
-         word = strtok(NULL, " "))
-        arguments[count++] = word;
-    arguments[count] = NULL;
-    memset(&answer, 0, sizeof answer);
-    input_at = printed.length = reported.length = 0;
-    for (size_t at = 0; at < first_count; at++)
-        first_functions[at](count, arguments, arguments + count);
     uint64_t begun = now();
+    alarm(MOST_SECONDS);
     is_running = 1;
-    answer.status = program(count, arguments, arguments + count);
+    answer.status = program(count, arguments, means);
     is_running = 0;
+    alarm(0);
     answer.spent = now() - begun;
+    longjmp(back, 1);
 }
 
-static int run_all(int count, char **arguments, char **means)
+/* Starts the program for each request anew, as some of its functions are called before `main`, with the arguments. */
+int __libc_start_main(main_function *main, int count, char **given, void *first, void *last, void *unload, void *stack)
 {
-    static struct text words;
-    (void)count, (void)means;
-    find_real();
-    name = arguments[0];
-    printed.octets = real_malloc(MOST_TEXT);
-    reported.octets = real_malloc(MOST_TEXT);
-    find_first_functions();
-    for (;;) {
-        take(&asked, sizeof asked);
-        if (asked.count > MOST_FILES)
-            abort();
-        take_text(&words);
-        for (uint32_t at = 0; at < asked.count; at++) {
-            take_text(&names[at]);
-            take_text(&files[at]);
-        }
-        run(&words);
-        say(&answer, sizeof answer);
-        say_text(printed);
-        say_text(reported);
-    }
-}
-
-int __libc_start_main(main_function *main, int count, char **words, end_function *first, end_function *last,
-    end_function *unload, void *stack)
-{
-    int (*start)(main_function *, int, char **, end_function *, end_function *, end_function *, void *) =
-        dlsym(RTLD_NEXT, "__libc_start_main");
-    const char *ask = getenv("FUZZ_ASK"), *answers = getenv("FUZZ_SAY");
+    static char *arguments[MOST_WORDS + 2];
+    start_function *const start = (start_function *)dlsym(RTLD_NEXT, "__libc_start_main");
+    (void)count, (void)last, (void)unload;
     program = main;
-    if (ask && answers) {
-        asking = atoi(ask);
-        saying = atoi(answers);
+    arguments[0] = given[0];
+    for (;;) {
+        struct text words = take();
+        int at = 1;
+        input = asked.has_arguments ? (struct text){NULL, 0, 0} : words;
+        for (char *word = asked.has_arguments ? strtok(words.octets, " ") : NULL; word && at < MOST_WORDS;
+             word = strtok(NULL, " "))
+            arguments[at++] = word;
+        arguments[at] = arguments[at + 1] = NULL;
+        answer = (struct answer){0};
+        if (!setjmp(back))
+            start(run, at, arguments, first, NULL, NULL, stack);
+        carry(SYS_write, 1, &answer, sizeof answer);
+        carry(SYS_write, 1, printed, answer.printed);
+        carry(SYS_write, 1, reported, answer.reported);
     }
-    return start(ask && answers ? run_all : main, count, words, first, last, unload, stack);
 }

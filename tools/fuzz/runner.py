@@ -2,7 +2,6 @@
 from __future__ import annotations
 
 import os
-import select
 import struct
 import subprocess
 from collections.abc import Mapping
@@ -10,10 +9,9 @@ from typing import NamedTuple
 
 from lib import programs
 
-REQUEST, ANSWER = struct.Struct("=IIQQ"), struct.Struct("=qQQQQQQ")
+# The structures of runner.c.
+REQUEST, ANSWER = struct.Struct("=5Q"), struct.Struct("=q8Q")
 WHOLE = 2**62
-# A run that takes longer, in seconds, is one without an end.
-SECONDS = 60
 
 
 class Answer(NamedTuple):
@@ -34,15 +32,14 @@ class Answer(NamedTuple):
 
 
 class Died(AssertionError):
-    """The program ended its process, or gave no answer."""
+    """The program ended its process, or was ended after a minute."""
 
 
 def built(folder: str) -> str:
     """The library that is preloaded before a program, compiled into a folder."""
     made = os.path.join(folder, "runner.so")
     source = os.path.join(programs.TOP, "tools", "fuzz", "runner.c")
-    words = ["cc", "-O2", "-Wall", "-Wextra", "-shared", "-fPIC", "-o", made, source, "-ldl"]
-    subprocess.run(words, check=True)
+    subprocess.run(["cc", "-O2", "-Wall", "-Wextra", "-shared", "-fPIC", "-o", made, source, "-ldl"], check=True)
     return made
 
 
@@ -50,42 +47,33 @@ class Runner:
     """A program, by its path and its name, in a process that begins with the first run and anew where it died."""
 
     def __init__(self, name: str, path: str, preloaded: str) -> None:
-        self.name, self.path, self.preloaded = name, path, preloaded
+        self.name, self.path, self.means = name, path, dict(os.environ, LD_PRELOAD=preloaded)
         self.runs = 0
         self._process: subprocess.Popen[bytes] | None = None
 
-    def _begin(self) -> None:
-        taken, self._asking = os.pipe()
-        self._saying, said = os.pipe()
-        means = dict(os.environ, LD_PRELOAD=self.preloaded, FUZZ_ASK=str(taken), FUZZ_SAY=str(said))
-        self._process = subprocess.Popen(
-            [self.name], executable=self.path, env=means, stdin=subprocess.DEVNULL, pass_fds=(taken, said)
-        )
-        os.close(taken)
-        os.close(said)
+    def end(self) -> int | None:
+        """Ends the process. Returns the status that it had by then."""
+        process, self._process = self._process, None
+        if not process:
+            return None
+        status = process.poll()
+        process.kill()
+        process.communicate()
+        return status
 
-    def end(self) -> None:
-        if self._process:
-            os.close(self._asking)
-            os.close(self._saying)
-            self._process.kill()
-            self._process.wait()
-            self._process = None
-
-    def _taken(self, length: int) -> bytes:
-        parts = []
-        while length:
-            if not select.select([self._saying], [], [], SECONDS)[0]:
-                raise Died("no answer")
-            part = os.read(self._saying, length)
-            if not part:
-                raise Died("the program ended its process")
-            parts.append(part)
-            length -= len(part)
-        return b"".join(parts)
-
-    def _text(self) -> bytes:
-        return self._taken(int.from_bytes(self._taken(4), "little"))
+    def _asked(self, request: bytes) -> tuple[tuple[int, ...], bytes, bytes]:
+        """What the program answers: the numbers, and both texts."""
+        if not self._process:
+            pipe = subprocess.PIPE
+            self._process = subprocess.Popen(
+                [self.name], executable=self.path, env=self.means, stdin=pipe, stdout=pipe
+            )
+        asking, saying = self._process.stdin, self._process.stdout
+        assert asking and saying
+        asking.write(request)
+        asking.flush()
+        numbers = ANSWER.unpack(saying.read(ANSWER.size))
+        return numbers, saying.read(numbers[-2]), saying.read(numbers[-1])
 
     def run(
         self,
@@ -97,23 +85,12 @@ class Runner:
     ) -> Answer:
         """Runs the program on these files. The words stand on its standard input, or are its arguments."""
         self.runs += 1
-        if not self._process:
-            self._begin()
         texts = [words if by_words else words + b"\n", *(it for name in files for it in (name.encode(), files[name]))]
-        request = [REQUEST.pack(by_words, len(files), piece, watched)]
-        request += [part for text in texts for part in (len(text).to_bytes(4, "little"), text)]
+        octets = b"".join(len(text).to_bytes(8, "little") + text + b"\0" for text in texts)
         try:
-            self._send(b"".join(request))
-            numbers = ANSWER.unpack(self._taken(ANSWER.size))
-            printed, reported = self._text(), self._text()
-        except (Died, OSError) as fault:
-            self.end()
-            raise Died(f"{fault}: {words[:300]!r}") from fault
-        status, most, held, spent, is_noted, given, before = numbers
-        noted = (given, before) if is_noted else None
-        return Answer(printed, reported, status, most, held, spent / 1e9, noted)
-
-    def _send(self, request: bytes) -> None:
-        left = memoryview(request)
-        while left:
-            left = left[os.write(self._asking, left) :]
+            request = REQUEST.pack(by_words, len(files), piece, watched, len(octets)) + octets
+            numbers, printed, reported = self._asked(request)
+        except (OSError, struct.error) as fault:
+            raise Died(f"the program ended its process ({self.end()}): {words[:300]!r}") from fault
+        status, most, held, spent, is_noted, *noted = numbers[:7]
+        return Answer(printed, reported, status, most, held, spent / 1e9, (noted[0], noted[1]) if is_noted else None)
