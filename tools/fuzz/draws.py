@@ -2,7 +2,8 @@
 from __future__ import annotations
 
 import re
-from collections.abc import Callable, Sequence
+from collections.abc import Callable, Iterable, Mapping, Sequence
+from itertools import accumulate, chain
 from typing import Any, NamedTuple, TypeVar
 
 from hypothesis import strategies as st
@@ -23,21 +24,19 @@ WORDS: list[bytes] = [
     *(b"server ;host ;demand ;capacity ;--values list.values;--kind load;--fronts 2; ;\0".split(b";")),
 ]
 NUMBERS = [0, 1, 2, 7, 255, 1023, 1024, 1025, 65535, 2**31, 2**31 - 1, 2**32 - 1]
-LIMITS = [10**6, 10**12, 10**16]
 
 
 def pick(options: Sequence[Drawn]) -> st.SearchStrategy[Drawn]:
     return st.sampled_from(options)
 
 
-# Numbers of 32 bits, of which those at the ends come often.
+# Strategies that are made once: to make one takes longer than to draw. Numbers at the ends of 32 bits come often.
 NUMBER = st.one_of(pick(NUMBERS), pick(NUMBERS), st.integers(0, 2**32 - 1))
-# Strategies that are made once: to make one takes longer than to draw.
-OCTET, FEW, BOOLEAN, TEN = st.binary(min_size=1, max_size=1), st.integers(0, 3), st.booleans(), st.integers(0, 9)
-WORD, FOUR, FORTY, TIMES = pick(WORDS), st.binary(max_size=4), st.integers(1, 40), pick([0, 2, 3, 50])
+OCTET, FOUR, SIX = st.binary(min_size=1, max_size=1), st.binary(max_size=4), st.binary(max_size=6)
+FEW, TEN, BOOLEAN, OFTEN = st.integers(0, 3), st.integers(0, 9), st.booleans(), pick([True, True, False])
+WORD, FORTY, PART, TIMES = pick(WORDS), st.integers(1, 40), st.integers(0, 2**16 - 1), pick([0, 2, 3, 50])
 LENGTH, CHANGES = pick([0, 0, 1, 1, 2, 4, 8, 40]), pick([1, 1, 1, 2, 3, 4])
-SIX, SIXTEEN, SERVERS = st.binary(max_size=6), st.binary(max_size=16), pick([0, 1, 1, 2, 3, 5, 20])
-PART, LIMIT, SMALL = st.integers(0, 2**16 - 1), pick(LIMITS), st.integers(0, 2000)
+OTHER = st.one_of(st.integers(0, 2000), pick([10**6, 10**12, 10**16]))
 
 
 def at_random(draw: Draw, most: int) -> int:
@@ -54,7 +53,7 @@ def _another_number(draw: Draw, text: bytes) -> bytes:
     if not found:
         return text
     number, way = int(found[0][:18]), draw(FEW)
-    other = draw(SMALL) if way == 0 else draw(LIMIT) if way == 1 else number + 1 if way == 2 else max(0, number - 1)
+    other = number + 1 if way == 2 else max(0, number - 1) if way == 3 else draw(OTHER)
     return text[: found.start()] + b"%d" % other + text[found.end() :]
 
 
@@ -66,33 +65,22 @@ def _moved_line(draw: Draw, text: bytes) -> bytes:
     return b"".join([*rest[:to], lines[at], *rest[to:]])
 
 
+def _cut(draw: Draw, text: bytes) -> bytes:
+    return text[: at_random(draw, len(text))]
+
+
 def _replaced(draw: Draw, text: bytes) -> bytes:
-    """Something else stands in place of a few octets."""
-    at = at_random(draw, len(text))
+    """Something else stands in place of a few octets: a word, a number, octets, the same again, or another part."""
+    at, other = at_random(draw, len(text)), at_random(draw, len(text))
     end, way = at + draw(LENGTH), draw(TEN)
-    if way < 3:
-        new = draw(WORD)
-    elif way < 5:
-        new = draw(NUMBER).to_bytes(4, "big")
-    elif way < 6:
-        new = draw(FOUR)
-    elif way < 8:
-        new = text[at:end] * draw(TIMES)
+    if way < 6:
+        new = draw(WORD) if way < 3 else draw(NUMBER).to_bytes(4, "big") if way < 5 else draw(FOUR)
     else:
-        other = at_random(draw, len(text))
-        new = text[other : other + draw(FORTY)]
+        new = text[at:end] * draw(TIMES) if way < 8 else text[other : other + draw(FORTY)]
     return bytes(text[:at] + new + text[end:])
 
 
-def _once(draw: Draw, text: bytes) -> bytes:
-    way = draw(TEN)
-    if way < 3:
-        return _another_number(draw, text)
-    if way == 3:
-        return _moved_line(draw, text)
-    if way == 4:
-        return text[: at_random(draw, len(text))]
-    return _replaced(draw, text)
+CHANGE = pick([_another_number] * 3 + [_moved_line, _cut] + [_replaced] * 5)
 
 
 @st.composite
@@ -100,7 +88,7 @@ def changed(draw: Draw, texts: st.SearchStrategy[bytes]) -> bytes:
     """A text with one to four changes."""
     text: bytes = draw(texts)
     for _ in range(draw(CHANGES)):
-        text = _once(draw, text)[:LONGEST]
+        text = draw(CHANGE)(draw, text)[:LONGEST]
     return text
 
 
@@ -124,150 +112,99 @@ class Where(NamedTuple):
     def continued(self, text: bytes) -> bytes:
         return text + self.more + self.cut(text)
 
-    def rows(self, text: bytes) -> bytes:
-        """A beginning up to an end of a line."""
-        return text[: self.cut(text).rfind(b"\n") + 1]
+    def ordered(self, parts: Sequence[Drawn]) -> list[Drawn]:
+        """The parts in another order."""
+        places = sorted(range(len(parts)), key=lambda at: hash((self.order, at)))
+        return [parts[at] for at in places]
 
-    def reordered(self, table: bytes) -> bytes:
-        """The table with its rows in another order."""
-        header, *rows = table.splitlines(keepends=True)
-        ordered = sorted(enumerate(rows), key=lambda it: hash((self.order, it[0])))
-        return header + b"".join(row for _, row in ordered)
-
-
-def wheres() -> st.SearchStrategy[Where]:
-    more = [b"x", b"0\n", b"\n", b"a,b,c\n", b"r1,E,1\n", b"row 1 1\n", bytes(4)]
-    return st.builds(Where, PART, pick(more), PART, pick([1, 2, 3, 7, 64, 1000]))
+    def reordered(self, files: Mapping[str, bytes], *names: str) -> dict[str, bytes]:
+        """These tables with their rows in another order."""
+        tables = {name: files[name].splitlines(keepends=True) for name in names}
+        return {name: b"".join([lines[0], *self.ordered(lines[1:])]) for name, lines in tables.items()}
 
 
-# ---- records, values and bodies (RFC 3651, section 3; RFC 3652, section 3)
+MORE = [b"x", b"0\n", b"\n", b"a,b,c\n", b"r1,E,1\n", b"row 1 1\n", bytes(4)]
+WHERE = st.builds(Where, PART, pick(MORE), PART, pick([1, 2, 3, 7, 64, 1000]))
 
 
-class Spelling:
-    """Octets that are written field by field, and where each field with octets begins."""
-
-    def __init__(self) -> None:
-        self.octets, self.begins = b"", [0]
-
-    def put(self, octets: bytes) -> None:
-        if octets:
-            self.begins.append(len(self.octets))
-            self.octets += octets
-
-    def number(self, number: int, width: int = 4) -> None:
-        self.put(number.to_bytes(width, "big"))
-
-    def run(self, octets: bytes) -> None:
-        self.number(len(octets))
-        self.put(octets)
-
-    def field_at(self, place: int) -> int:
-        """Where the field with the octet at this place begins."""
-        return max(begin for begin in self.begins if begin <= place)
-
-    def __repr__(self) -> str:
-        return f"Spelling of {self.octets.hex()}"
+# ---- records, values and bodies (RFC 3651, section 3; RFC 3652, section 3): each a list of its fields
 
 
-def put_record(draw: Draw, to: Spelling) -> bytes:
-    """Writes a record. Returns the lines that `site` has to print for it."""
-    version, serial = draw(PART), draw(PART)
-    major, minor, mask, option = (draw(OCTET)[0] for _ in range(4))
-    filtered, attributes = draw(FOUR), draw(FEW)
-    for number, width in ((version, 2), (major << 8 | minor, 2), (serial, 2), (mask, 1), (option, 1)):
-        to.number(number, width)
-    to.run(filtered)
-    to.number(attributes)
-    for _ in range(2 * attributes):
-        to.run(draw(SIX))
-    servers = draw(SERVERS)
-    to.number(servers)
-    lines = [
-        f"version {version}",
-        f"protocol {major} {minor}",
-        f"serial {serial}",
-        f"mask {mask}",
-        f"option {option}",
-    ]
-    lines += [f"filter {len(filtered)}", f"attributes {attributes}", f"servers {servers}"]
-    return "".join(f"{line}\n" for line in lines + [_put_server(draw, to, at) for at in range(servers)]).encode()
+def number(value: int, width: int = 4) -> bytes:
+    return value.to_bytes(width, "big")
 
 
-def _put_server(draw: Draw, to: Spelling, place: int) -> str:
-    own, address, key = draw(NUMBER), draw(SIXTEEN).ljust(16, b"\0"), draw(SIX)
-    interfaces = draw(FEW)
-    to.number(own)
-    to.put(address)
-    to.run(key)
-    to.number(interfaces)
-    for _ in range(interfaces):
-        to.put(draw(OCTET))
-        to.put(draw(OCTET))
-        to.number(draw(NUMBER))
-    return f"server {place} {own} {address.hex()} {len(key)} {interfaces}"
+def run(octets: bytes) -> list[bytes]:
+    return [number(len(octets)), octets]
 
 
-def put_value(draw: Draw, to: Spelling, index: int, kind: bytes, data: bytes) -> None:
-    """Writes a value of this index, type and data."""
-    to.number(index)
-    to.run(kind)
-    to.run(data)
-    to.put(draw(OCTET))
-    to.put(draw(OCTET))
-    to.number(draw(NUMBER))
-    to.number(draw(NUMBER) << 32 | draw(NUMBER), 8)
-    references = draw(FEW)
-    to.number(references)
-    for _ in range(references):
-        to.run(draw(SIX))
-        to.number(draw(NUMBER))
+def several(parts: Sequence[Iterable[bytes]]) -> list[bytes]:
+    """A count, and the fields of so many parts."""
+    return [number(len(parts)), *chain(*parts)]
 
 
-FIRST, TYPE = pick([0, 3, 9, 2**32 - 16]), pick([b"HS_SITE", b"HS_SITE", b"HS_SITES", b"hs_site", b""])
+def field_at(fields: Iterable[bytes], place: int) -> int:
+    """Where the field with the octet at this place begins."""
+    return max(begin for begin in accumulate(map(len, fields), initial=0) if begin <= place)
 
 
 class Written(NamedTuple):
-    """A record or a list that is written: its spelling, the words, and what has to be printed on both streams."""
+    """A record or a list that is written: its fields, and what `site` has to print of it on both streams, by words
+    that name the index."""
 
-    spelling: Spelling
-    words: bytes
+    fields: list[bytes]
     printed: bytes
     reported: bytes = b""
+    sought: int = 0
 
 
-@st.composite
-def written_records(draw: Draw) -> Written:
-    to = Spelling()
-    lines = put_record(draw, to)
-    return Written(to, b"site two_servers.site", lines)
+def _record(numbers: list[int], filtered: bytes, attributes: list[Any], servers: list[Any]) -> Written:
+    version, major, minor, serial, mask, option = numbers
+    fields = [number(version, 2), bytes([major, minor]), number(serial, 2), bytes([mask]), bytes([option])]
+    fields += [*run(filtered), *several([run(name) + run(value) for name, value in attributes])]
+    fields += several([[number(own), address, *run(key), *several(faces)] for own, address, key, faces in servers])
+    lines = [f"version {version}", f"protocol {major} {minor}", f"serial {serial}", f"mask {mask}"]
+    lines += [f"option {option}", f"filter {len(filtered)}", f"attributes {len(attributes)}"]
+    lines += [f"servers {len(servers)}"]
+    for at, (own, address, key, faces) in enumerate(servers):
+        lines.append(f"server {at} {own} {address.hex()} {len(key)} {len(faces)}")
+    return Written(fields, "".join(f"{line}\n" for line in lines).encode())
 
 
-@st.composite
-def written_lists(draw: Draw) -> Written:
-    """Lists of values of following indices, of which one is sought."""
-    to, count, first = Spelling(), draw(FEW), draw(FIRST)
-    sought, printed, reported = first + draw(FEW), b"", b"hsplan: NoValue\n"
-    to.number(count)
-    for index in range(first, first + count):
-        record = Spelling()
-        lines, kind = put_record(draw, record), draw(TYPE)
-        put_value(draw, to, index, kind, record.octets)
-        if index == sought:
-            printed, reported = (lines, b"") if kind == b"HS_SITE" else (b"", b"hsplan: NotSiteValue\n")
-    return Written(to, b"site --index %d list.values" % sought, printed, reported)
+def _listed(first: int, sought: int, values: list[tuple[Written, bytes, list[bytes], list[Any]]]) -> Written:
+    """A list of values of following indices, of which one is sought."""
+    parts, said = [], (b"", b"hsplan: NoValue\n")
+    for at, (record, kind, tail, references) in enumerate(values):
+        parts.append([number(first + at), *run(kind), *run(b"".join(record.fields)), *tail])
+        parts[-1] += several([[*run(handle), index] for handle, index in references])
+        if at == sought:
+            said = (record.printed, b"") if kind == b"HS_SITE" else (b"", b"hsplan: NotSiteValue\n")
+    return Written(several(parts), *said, first + sought)
 
 
 def body_of(handle: bytes, indices: Sequence[int] = (), kinds: Sequence[bytes] = ()) -> bytes:
     """A request body of a handle."""
-    to = Spelling()
-    to.run(handle)
-    to.number(len(indices))
-    for index in indices:
-        to.number(index)
-    to.number(len(kinds))
-    for kind in kinds:
-        to.run(kind)
-    return to.octets
+    return b"".join([*run(handle), *several([[number(it)] for it in indices]), *several(list(map(run, kinds)))])
+
+
+BYTE, QUAD = st.integers(0, 255), NUMBER.map(number)
+FACES = st.lists(st.tuples(OCTET, OCTET, QUAD), max_size=3)
+SERVER = st.tuples(NUMBER, st.binary(max_size=16).map(lambda it: it.ljust(16, b"\0")), SIX, FACES)
+RECORD = st.builds(
+    _record,
+    st.tuples(PART, BYTE, BYTE, PART, BYTE, BYTE),
+    FOUR,
+    st.lists(st.tuples(SIX, SIX), max_size=3),
+    pick([0, 1, 1, 2, 3, 5, 20]).flatmap(lambda count: st.lists(SERVER, min_size=count, max_size=count)),
+)
+TAIL = st.tuples(OCTET, OCTET, QUAD, st.tuples(QUAD, QUAD).map(b"".join))
+VALUE = st.tuples(
+    RECORD,
+    pick([b"HS_SITE", b"HS_SITE", b"HS_SITES", b"hs_site", b""]),
+    TAIL,
+    st.lists(st.tuples(SIX, QUAD), max_size=3),
+)
+VALUES = st.builds(_listed, pick([0, 3, 9, 2**32 - 16]), FEW, st.lists(VALUE, max_size=3))
 
 
 # ---- services, their demands and plans
@@ -280,31 +217,30 @@ HANDLES = [
     *(f"10.1/H{at}" for at in range(11)),
     *(f"{at}/same" for at in range(20)),
 ]
-OF_LINES = ["10/two\rlines", "10/two\nlines"]
-
-
-FIVE, OPTION, MANY = st.integers(0, 4), st.integers(0, 2), pick([1, 1, 2, 2, 3, 4, 7, 12])
-OFTEN, HOSTS, REGION, HANDLE = pick([True, True, False]), pick([0, 0, 1, 3]), pick(REGIONS), pick(HANDLES)
-NAMES = st.lists(st.tuples(REGION, pick(HANDLES + OF_LINES)), max_size=8, unique=True)
-ANY_HANDLE = pick(HANDLES + OF_LINES)
-MOST = pick([2, 4, 10, oracle.GREATEST_COUNT])
+ANY_HANDLES = [*HANDLES, "10/two\rlines", "10/two\nlines"]
+REGION, HANDLE, ANY_HANDLE = pick(REGIONS), pick(HANDLES), pick(ANY_HANDLES)
+NAMES = st.lists(st.tuples(REGION, ANY_HANDLE), max_size=8, unique=True)
+MOST, HOSTS = pick([2, 4, 10, oracle.GREATEST_COUNT]), pick([0, 0, 1, 3])
+SITE = st.tuples(st.integers(0, 2), PART, pick([1, 1, 2, 2, 3, 4, 7, 12]))
+SOME_SITES = st.lists(SITE, min_size=1, max_size=5)
 
 
 @st.composite
 def services(draw: Draw) -> Service:
-    first, count = draw(FIVE), 1 + draw(FIVE)
-    sites = []
-    for at in range(count):
-        servers, own = draw(MANY), draw(PART)
-        ids = tuple(own + 7 * place for place in range(servers))
-        sites.append(Site(SITES[(first + at) % len(SITES)], draw(OPTION), ids))
+    first = draw(TEN)
+    sites = [
+        Site(SITES[(first + at) % len(SITES)], option, tuple(range(own, own + 7 * count, 7)))
+        for at, (option, own, count) in enumerate(draw(SOME_SITES))
+    ]
     costs = {(region, site.name): draw(FEW) for region in REGIONS[:-1] for site in sites if draw(OFTEN)}
     return Service(tuple(sites), costs, not draw(OFTEN), draw(HOSTS))
 
 
-def least_cost(service: Service, region: str) -> int | None:
-    costs = [service.costs[region, service.sites[at].name] for at in service.sites_of(region)]
-    return min(costs, default=None)
+def cheapest(service: Service, region: str) -> tuple[int, list[int]]:
+    """The least cost of a region, and the sites of that cost."""
+    costs = [(service.costs[region, service.sites[at].name], at) for at in service.sites_of(region)]
+    least = min(costs, default=(0, 0))[0]
+    return least, [at for cost, at in costs if cost == least]
 
 
 class Planned(NamedTuple):
@@ -315,7 +251,7 @@ class Planned(NamedTuple):
 
     def text(self, service: Service) -> bytes:
         """The certificate. No server and no host is full, so their prices are 0, and that of a row is its least cost."""
-        least = [least_cost(service, region) or 0 for region, _, _ in self.rows]
+        least = [cheapest(service, region)[0] for region, _, _ in self.rows]
         servers = sum(len(site.servers) for site in service.sites)
         lines = [f"HSPLAN {2 if service.hosts else 1}", "PLAN"]
         lines.append(f"cost {sum(use.number * least[use.row] for use in self.uses)}")
@@ -325,25 +261,19 @@ class Planned(NamedTuple):
         return "".join(f"{line}\n" for line in [*lines, "END"]).encode()
 
 
-def planned(draw: Draw, service: Service, rows: list[oracle.Row]) -> Planned:
-    """Sends each row to the sites of least cost, in drawn parts."""
-    uses = []
-    for at, (region, _, left) in enumerate(rows):
-        least = least_cost(service, region)
-        cheapest = [it for it in service.sites_of(region) if service.costs[region, service.sites[it].name] == least]
-        for site in cheapest:
-            number = left if site == cheapest[-1] else at_random(draw, left)
-            left -= number
-            uses += [Use(at, site, number)] if number else []
-    return Planned(rows, uses)
-
-
 @st.composite
 def plans(draw: Draw, service: Service) -> Planned:
-    names, most = draw(NAMES), draw(MOST)
-    counts = [0 if least_cost(service, region) is None else at_random(draw, most) for region, _ in names]
-    rows = [(region, handle, count) for (region, handle), count in zip(names, counts)]
-    return planned(draw, service, rows)
+    """Sends each row to the sites of least cost, in drawn parts."""
+    most, made = draw(MOST), Planned([], [])
+    for at, (region, handle) in enumerate(draw(NAMES)):
+        sites = cheapest(service, region)[1]
+        left = at_random(draw, most) if sites else 0
+        made.rows.append((region, handle, left))
+        for site in sites:
+            sent = left if site == sites[-1] else at_random(draw, left)
+            left -= sent
+            made.uses.extend([Use(at, site, sent)] if sent else [])
+    return made
 
 
 # ---- logs
@@ -373,41 +303,34 @@ class Log(NamedTuple):
 
     @property
     def text(self) -> bytes:
-        header = (
-            ["region"] * self.has_regions + ["body" if self.has_bodies else "handle"] + ["count"] * self.has_counts
-        )
-        lines = [",".join(header).encode(), *map(self._row, self.entries)]
+        handle = "body" if self.has_bodies else "handle"
+        lines = [self._line("region", handle, "count"), *map(self._row, self.entries)]
         at = self.blank % len(lines)
-        spaced = [*lines[:at], *([b""] if self.blank and at else []), *lines[at:]]
-        return self.mark + self.end.join(spaced) + (self.end if self.last else b"")
+        lines[at:at] = [b""] * bool(at)
+        return self.mark + self.end.join(lines) + self.end * self.last
+
+    def _line(self, region: str, handle: str, count: str) -> bytes:
+        return ",".join([region] * self.has_regions + [handle] + [count] * self.has_counts).encode()
 
     def _row(self, entry: Entry) -> bytes:
         if entry.refused:
             return entry.refused
         handle = body_of(entry.handle.encode()).hex() if self.has_bodies else field_of(entry.handle)
-        fields = [entry.region] * self.has_regions + [handle] + [str(entry.number)] * self.has_counts
-        return ",".join(fields).encode()
+        return self._line(entry.region, handle, str(entry.number))
 
 
 REFUSED = {
     False: [
-        (b"eu", "Fields"),
-        (b"eu,10/1,", "Fields"),
-        (b"eu,10", "BadHandle NoSlash"),
-        (b"eu,/x", "BadHandle EmptySegment"),
-        (b"eu,10/\xff", "BadHandle NotUtf8"),
-        (b"eu,10/" + b"x" * 4094, "BadHandle TooLong"),
+        *((row, "Fields") for row in (b"eu", b"eu,10/1,")),
+        *((b"eu,10", "BadHandle NoSlash"), (b"eu,/x", "BadHandle EmptySegment")),
+        *((b"eu,10/\xff", "BadHandle NotUtf8"), (b"eu,10/" + b"x" * 4094, "BadHandle TooLong")),
     ],
     True: [
-        (b"eu", "Fields"),
-        (b"eu,00,", "Fields"),
-        (b"eu,zz", "BadBody"),
+        *((row, "Fields") for row in (b"eu", b"eu,00,")),
+        *((row, "BadBody") for row in (b"eu,zz", b"eu,")),
         (b"eu," + body_of(b"10").hex().encode(), "BadHandle NoSlash"),
-        (b"eu,", "BadBody"),
     ],
 }
-
-
 COUNT, END = pick([0, 1, 7, 900, oracle.GREATEST_COUNT, 10**12]), pick([b"\n", b"\n", b"\n", b"\r\n"])
 MARK, BLANK, ROWS = pick([b"", b"", b"", b"\xef\xbb\xbf"]), pick([0, 0, 1, 5]), st.integers(0, 30)
 REFUSED_OF = {has_bodies: pick(rows) for has_bodies, rows in REFUSED.items()}
@@ -434,6 +357,5 @@ def logs(draw: Draw, command: str, rows: Sequence[oracle.Row] = ()) -> Log:
     for _ in range(draw(ROWS)):
         entry = _entry(draw, log, command, named)
         log.entries.append(entry)
-        if not entry.refused:
-            named.append((entry.region, entry.handle))
+        named += [] if entry.refused else [(entry.region, entry.handle)]
     return log

@@ -30,7 +30,7 @@ from lib import growth, packages, programs
 
 
 def kinds() -> dict[str, Any]:
-    """All kinds of cases, by their names."""
+    """All kinds of cases, by their names. Without Hypothesis none can be named."""
     import judges
     import stream_judges
 
@@ -39,25 +39,18 @@ def kinds() -> dict[str, Any]:
 
 def judged(name: str, given: argparse.Namespace, preloaded: str) -> tuple[str, int, str]:
     """The kind of cases, how many runs it took, and the fault that was found, if there is one."""
+    import draws
     import hypothesis
     import runner
-    from draws import wheres
 
-    kind, is_stream = kinds()[name], name in _stream_kinds()
-    program = runner.Runner(
-        *(
-            ("hsplan-stream", os.path.abspath(given.stream))
-            if is_stream
-            else ("hsplan", os.path.abspath(given.program))
-        ),
-        preloaded,
-    )
+    kind = kinds()[name]
+    program = runner.Runner(kind.program, os.path.abspath(getattr(given, kind.program)), preloaded)
 
     @hypothesis.seed(f"{given.seed} {name}")
     @hypothesis.settings(
         max_examples=given.cases, deadline=None, database=None, suppress_health_check=list(hypothesis.HealthCheck)
     )
-    @hypothesis.given(kind.drawn, wheres())
+    @hypothesis.given(kind.drawn, draws.WHERE)
     def case(drawn: Any, where: Any) -> None:
         kind.judge(program, drawn, where)
 
@@ -70,20 +63,14 @@ def judged(name: str, given: argparse.Namespace, preloaded: str) -> tuple[str, i
     return name, program.runs, ""
 
 
-def _stream_kinds() -> set[str]:
-    import stream_judges
-
-    return set(stream_judges.KINDS)
-
-
 def main() -> int:
     words = argparse.ArgumentParser(description="Gives the built programs inputs that are drawn, and judges answers.")
     growth.jobs_of(words)
     words.add_argument("--cases", type=int, default=1000, help="cases of each kind (1,000)")
     words.add_argument("--seed", type=int, default=1)
     words.add_argument("--kinds", default="", help="names with a comma between them")
-    words.add_argument("--program", default=programs.built_path("hsplan"))
-    words.add_argument("--stream", default=programs.built_path("hsplan-stream"))
+    for option, name in (("--program", "hsplan"), ("--stream", "hsplan-stream")):
+        words.add_argument(option, dest=name, metavar="FILE", default=programs.built_path(name))
     given = words.parse_args()
     packages.install(packages.absent(["python3-hypothesis"]))
     import runner

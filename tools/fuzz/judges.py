@@ -1,43 +1,30 @@
 """Judges the answers of `hsplan`, without a second implementation."""
 from __future__ import annotations
 
-import os
 import re
-from collections.abc import Callable, Mapping
-from typing import Any, NamedTuple
+from functools import partial
+from pathlib import Path
 
-from draws import Where, Written, body_of, changed, pick, written_lists, written_records
+import draws
+from draws import Where, Written, body_of, changed, pick
 from hypothesis import strategies as st
-from lines import answered, ends_plainly, fault_of, same
+from lines import Kind, answered, ends_plainly, same
 from runner import Answer, Runner
 
-from lib import cases, programs
+from lib import cases, oracle, programs
 
-INPUTS = b"--settings settings.toml --demand demand.csv --costs costs.csv --capacity capacity.csv"
-PLANNED = INPUTS + b" --plan plan.txt"
-PLAN, CHECK, DISPATCH = b"plan " + INPUTS, b"check " + PLANNED, b"dispatch " + PLANNED + b" --log log.csv"
+PLANNED = oracle.INPUTS.encode() + b" --plan plan.txt"
+PLAN, CHECK, DISPATCH = b"plan " + oracle.INPUTS.encode(), b"check " + PLANNED, b"dispatch " + PLANNED + b" --log "
 LOCATE = b"locate --settings settings.toml --values list.values 10/3"
-Files = Mapping[str, bytes]
-
-
-def base() -> dict[str, bytes]:
-    """The files that hsplan may open."""
-    folder = os.path.join(programs.TOP, "examples", "base")
-    found = {}
-    for name in sorted(os.listdir(folder)):
-        with open(os.path.join(folder, name), "rb") as file:
-            found[name] = file.read()
-    return found
-
-
-BASE = base()
+SITE = {"two_servers.site": "site", "list.values": "values"}
+# The files that hsplan may open.
+BASE = {it.name: it.read_bytes() for it in sorted(Path(programs.TOP, "examples", "base").iterdir())}
 CASES = cases.cases_in("hsplan")
 
 
-def texts(name: str, *more: str) -> st.SearchStrategy[bytes]:
-    """The texts of a file that are changed: the example's, and those of the cases."""
-    own = [case.files[name] for case in CASES if len(case.files.get(name, b"")) in range(1, 20_000)]
-    return pick([BASE[name], *(BASE[it] for it in more), *own])
+def over(program: Runner, words: bytes, name: str, text: bytes) -> Answer:
+    """The answer where a file has this text."""
+    return answered(program, words, {**BASE, name: text})
 
 
 # ---- plans
@@ -48,8 +35,9 @@ def cost_of(plan: Answer) -> list[bytes]:
     return plan.printed.split(b"\n")[: 2 if plan.status else 3]
 
 
-def judge_plan(program: Runner, files: Files, where: Where) -> Answer:
+def judge_plan(name: str, program: Runner, text: bytes, where: Where) -> Answer:
     """Plans, has the text of the plan judged and reported, and plans tables in another order."""
+    files = {**BASE, name: text}
     plan = answered(program, PLAN, files)
     if plan.reported:
         return plan
@@ -58,86 +46,68 @@ def judge_plan(program: Runner, files: Files, where: Where) -> Answer:
     assert verdict.said == (b"yes\n", b"", 0), f"check of a plan: {verdict}"
     for kind in (b"load", b"region", b"shortage"):
         report = answered(program, b"report " + PLANNED + b" --kind " + kind, made)
-        assert report.status == (
-            0 if (kind == b"shortage") == (plan.status == 3) else 3
-        ), f"report {kind!r}: {report}"
-    if ends_plainly(files["costs.csv"]) and ends_plainly(files["capacity.csv"]):
-        if files["costs.csv"].startswith(b"region,") and files["capacity.csv"].startswith(b"site,"):
-            tables = {name: where.reordered(files[name]) for name in ("costs.csv", "capacity.csv")}
-            again = answered(program, PLAN, {**files, **tables})
-            assert not again.reported and cost_of(again) == cost_of(plan), f"another order: {tables}: {again}"
+        is_of_kind = (kind == b"shortage") == (plan.status == 3)
+        assert report.status == (0 if is_of_kind else 3), f"report {kind!r}: {report}"
+    if ends_plainly(files["costs.csv"], b"region,") and ends_plainly(files["capacity.csv"], b"site,"):
+        tables = where.reordered(files, "costs.csv", "capacity.csv")
+        again = answered(program, PLAN, {**files, **tables})
+        assert not again.reported and cost_of(again) == cost_of(plan), f"another order: {tables}: {again}"
     return plan
 
 
 def judge_settings(program: Runner, text: bytes, where: Where) -> None:
-    judge_plan(program, {**BASE, "settings.toml": text}, where)
-    places = answered(program, LOCATE, {**BASE, "settings.toml": text})
-    if fault_of("hsplan", places) != b"settings: NotToml":
-        more = answered(program, LOCATE, {**BASE, "settings.toml": text + b"\n# a comment\n"})
-        same("a comment behind", places, more)
+    judge_plan("settings.toml", program, text, where)
+    places = over(program, LOCATE, "settings.toml", text)
+    if places.fault != b"settings: NotToml":
+        same("a comment behind", places, over(program, LOCATE, "settings.toml", text + b"\n# a comment\n"))
 
 
-def judge_table(name: str) -> Callable[[Runner, bytes, Where], None]:
-    def judge(program: Runner, text: bytes, where: Where) -> None:
-        plan = judge_plan(program, {**BASE, f"{name}.csv": text}, where)
-        if (fault_of("hsplan", plan) or b"").startswith(f"{name}: ".encode()) and ends_plainly(text):
-            same("rows behind a fault", plan, answered(program, PLAN, {**BASE, f"{name}.csv": where.continued(text)}))
-
-    return judge
+def judge_table(table: str, program: Runner, text: bytes, where: Where) -> None:
+    name = f"{table}.csv"
+    plan = judge_plan(name, program, text, where)
+    if plan.fault.startswith(f"{table}: ".encode()) and ends_plainly(text):
+        same("rows behind a fault", plan, over(program, PLAN, name, where.continued(text)))
 
 
 # ---- records and value lists
 
 
-def place_of(fault: bytes | None) -> tuple[bytes, int] | None:
-    """The word and the place of a fault of octets."""
-    found = re.fullmatch(rb"\w+: (Truncated|Trailing) at ([0-9]+)", fault or b"")
-    return (found[1], int(found[2])) if found else None
+def place_of(part: bytes, fault: bytes) -> tuple[bytes, int]:
+    """The word of a fault of octets, and its place or -1."""
+    found = re.fullmatch(part + rb": (\w+)(?: at ([0-9]+))?(?: .*)?", fault)
+    return (found[1], int(found[2] or -1)) if found else (b"", -1)
 
 
-def judge_octets(words: bytes, name: str, part: bytes) -> Callable[[Runner, bytes, Where], None]:
+def judge_octets(words: bytes, name: str, program: Runner, text: bytes, where: Where) -> None:
     """Judges the faults of a beginning and of a continuation of a text by the fault of the text."""
-
-    def judge(program: Runner, text: bytes, where: Where) -> None:
-        whole, beginning = answered(program, words, {**BASE, name: text}), where.cut(text)
-        fault, end = fault_of("hsplan", whole), len(beginning)
-        begun = answered(program, words, {**BASE, name: beginning})
-        cut = place_of(fault_of("hsplan", begun))
-        is_bad = (fault or b"").startswith(part + b": ")
-        place = place_of(fault) if is_bad else None
-        if end == len(text) or place and end >= place[1] + (place[0] == b"Trailing"):
-            assert begun.reported == whole.reported, f"a beginning of {end}: {begun} {whole}"
-        elif place and place[0] == b"Trailing" and end == place[1]:
-            assert not (fault_of("hsplan", begun) or b"").startswith(part + b": "), f"a whole beginning: {begun}"
-        else:
-            is_cut = cut is not None and cut[0] == b"Truncated" and cut[1] <= end
-            assert (
-                is_cut or is_bad and not place and begun.reported == whole.reported
-            ), f"cut at {end}: {begun} {whole}"
-        if is_bad and not (place and place[0] == b"Truncated"):
-            more = answered(program, words, {**BASE, name: where.continued(text)})
-            assert more.reported == whole.reported, f"behind a fault: {more} {whole}"
-
-    return judge
+    part, end = SITE[name].encode(), len(where.cut(text))
+    whole, begun = over(program, words, name, text), over(program, words, name, where.cut(text))
+    (word, place), (cut, at) = place_of(part, whole.fault), place_of(rb"\w+", begun.fault)
+    if end == len(text) or word and 0 <= place <= end - (word == b"Trailing"):
+        same(f"a beginning of {end}", begun, whole)
+    elif word == b"Trailing" and end == place:
+        assert not begun.fault.startswith(part + b": "), f"a whole beginning: {begun}"
+    elif cut != b"Truncated" or at > end:
+        assert word and place < 0, f"cut at {end}: {begun} {whole}"
+        same(f"cut at {end}", begun, whole)
+    if word and word != b"Truncated":
+        same("behind a fault", whole, over(program, words, name, where.continued(text)))
 
 
-def judge_written(name: str, part: str) -> Callable[[Runner, Written, Where], None]:
+def judge_written(name: str, program: Runner, written: Written, where: Where) -> None:
     """Judges what is printed of written fields, and the faults of a beginning and of a continuation."""
-
-    def judge(program: Runner, written: Written, where: Where) -> None:
-        octets = written.spelling.octets
-        whole = answered(program, written.words, {**BASE, name: octets})
-        wanted = (written.printed, written.reported, int(bool(written.reported)))
-        assert whole.said == wanted, f"what was written: {whole.said}, wanted {wanted}"
-        beginning = where.begun(octets)
-        for text, word, at in (
-            (beginning, "Truncated", written.spelling.field_at(len(beginning))),
-            (octets + where.more, "Trailing", len(octets)),
-        ):
-            said = answered(program, written.words, {**BASE, name: text}).said
-            assert said == (b"", f"hsplan: {part}: {word} at {at}\n".encode(), 1), f"{word} at {at}: {said}"
-
-    return judge
+    octets = b"".join(written.fields)
+    words = f"site --index {written.sought} {name}" if name == "list.values" else f"site {name}"
+    whole = over(program, words.encode(), name, octets).said
+    wanted = (written.printed, written.reported, int(bool(written.reported)))
+    assert whole == wanted, f"what was written: {whole}, wanted {wanted}"
+    beginning = where.begun(octets)
+    for text, fault in (
+        (beginning, f"Truncated at {draws.field_at(written.fields, len(beginning))}"),
+        (octets + where.more, f"Trailing at {len(octets)}"),
+    ):
+        said = over(program, words.encode(), name, text).said
+        assert said == (b"", f"hsplan: {SITE[name]}: {fault}\n".encode(), 1), f"{fault}: {said}"
 
 
 # ---- certificates
@@ -145,21 +115,20 @@ def judge_written(name: str, part: str) -> Callable[[Runner, Written, Where], No
 
 def judge_certificate(program: Runner, text: bytes, where: Where) -> None:
     """A dispatcher takes a text exactly where `check` says yes to it, and otherwise refuses it for the same reason."""
-    files = {**BASE, "plan.txt": text}
-    verdict, dispatched = answered(program, CHECK, files), answered(program, DISPATCH, files)
+    verdict = over(program, CHECK, "plan.txt", text)
+    dispatched = over(program, DISPATCH + b"log.csv", "plan.txt", text)
     if verdict.printed.startswith(b"no "):
         reason = verdict.printed.split()[-1]
         assert dispatched.said == (b"", b"hsplan: check: " + reason + b"\n", 3), f"after no: {dispatched}"
     elif verdict.printed:
-        assert dispatched.status == 0 or fault_of("hsplan", dispatched) == b"WrongKind", f"after yes: {dispatched}"
+        assert dispatched.status == 0 or dispatched.fault == b"WrongKind", f"after yes: {dispatched}"
     else:
         same("dispatch after a fault", verdict, dispatched)
     if verdict.printed and text:
-        begun = answered(program, CHECK, {**BASE, "plan.txt": where.begun(text)})
-        assert fault_of("hsplan", begun) == b"certificate: Ended", f"a beginning: {begun}"
-    elif fault_of("hsplan", verdict) != b"certificate: Ended" and text.endswith(b"\n"):
-        more = answered(program, CHECK, {**BASE, "plan.txt": where.continued(text)})
-        same("behind a bad line", verdict, more)
+        begun = over(program, CHECK, "plan.txt", where.begun(text))
+        assert begun.fault == b"certificate: Ended", f"a beginning: {begun}"
+    elif verdict.fault != b"certificate: Ended" and text.endswith(b"\n"):
+        same("behind a bad line", verdict, over(program, CHECK, "plan.txt", where.continued(text)))
 
 
 # ---- logs
@@ -167,36 +136,30 @@ def judge_certificate(program: Runner, text: bytes, where: Where) -> None:
 
 def judge_lines(answer: Answer, is_of_fronts: bool) -> None:
     """The lines have their forms, and the sums are those of the lines. No more are assigned than the plan has."""
-    lines = answer.printed.splitlines()
-    counts = {word: sum(line.split()[0] == word for line in lines) for word in (b"assigned", b"spent", b"unknown")}
-    form = re.compile(rb"assigned [EW] [0-9] [0-9]|spent|unknown" + (b"|nofront" if is_of_fronts else b""))
-    assert all(form.fullmatch(line) for line in lines), f"a line: {answer}"
-    assert counts[b"assigned"] <= 12, f"more than the plan: {answer}"
+    lines = answer.printed.decode().splitlines()
+    form = re.compile("assigned [EW] [0-9] [0-9]|spent|unknown" + ("|nofront" if is_of_fronts else ""))
+    assert all(map(form.fullmatch, lines)), f"a line: {answer}"
+    assert sum(line.startswith("assigned") for line in lines) <= 12, f"more than the plan: {answer}"
     if not is_of_fronts and not answer.status:
-        sums = b" ".join(b"%s %d" % pair for pair in counts.items()) + b"\n"
-        assert answer.reported == sums, f"sums: {answer}"
+        sums = oracle.sums_of(lines).replace(" refused 0", "")
+        assert answer.reported == sums.encode(), f"sums: {answer}"
 
 
-def judge_log(words: bytes, name: str) -> Callable[[Runner, bytes, Where], None]:
-    def judge(program: Runner, text: bytes, where: Where) -> None:
-        fronts = pick_fronts(where) if name == "events.csv" else b""
-        answer = answered(program, words + fronts, {**BASE, name: text})
-        judge_lines(answer, name == "events.csv")
-        if ends_plainly(text):
-            more = answered(program, words + fronts, {**BASE, name: where.continued(text)})
-            assert more.printed.startswith(answer.printed), f"a longer log: {answer} {more}"
-            if answer.status:
-                same("behind a fault", answer, more)
-
-    return judge
-
-
-def pick_fronts(where: Where) -> bytes:
-    return b" --fronts %d" % [1, 2, 3, 64][where.order % 4]
+def judge_log(name: str, program: Runner, text: bytes, where: Where) -> None:
+    is_of_fronts, words = name == "events.csv", DISPATCH + name.encode()
+    if is_of_fronts:
+        words += b" --fronts %d" % (1, 2, 3, 64)[where.order % 4]
+    answer = over(program, words, name, text)
+    judge_lines(answer, is_of_fronts)
+    if ends_plainly(text):
+        more = over(program, words, name, where.continued(text))
+        assert more.printed.startswith(answer.printed), f"a longer log: {answer} {more}"
+        if answer.status:
+            same("behind a fault", answer, more)
 
 
-def of_log(program: Runner, header: bytes, rows: bytes) -> Answer:
-    return answered(program, DISPATCH, {**BASE, "log.csv": header + b"\n" + rows})
+def of_log(program: Runner, *rows: bytes) -> Answer:
+    return over(program, DISPATCH + b"log.csv", "log.csv", b"".join(row + b"\n" for row in rows))
 
 
 def judge_body(program: Runner, row: tuple[bytes, bytes, list[int]], where: Where) -> None:
@@ -204,65 +167,54 @@ def judge_body(program: Runner, row: tuple[bytes, bytes, list[int]], where: Wher
     region, handle, indices = row[0], row[1][:5000], row[2]
     digits = body_of(handle, indices, [b"HS_SITE"] * (where.order % 3)).hex().encode()
     quoted = b'"' + handle.replace(b'"', b'""') + b'"'
-    by_body = of_log(program, b"region,body", region + b"," + digits + b"\n")
-    by_handle = of_log(program, b"region,handle", region + b"," + quoted + b"\n")
-    same("the row of the handle", by_body, by_handle)
-    begun = of_log(program, b"region,body", region + b"," + where.begun(digits) + b"\n")
+    by_body = of_log(program, b"region,body", region + b"," + digits)
+    same("the row of the handle", by_body, of_log(program, b"region,handle", region + b"," + quoted))
+    begun = of_log(program, b"region,body", region + b"," + where.begun(digits))
     assert begun.said == (b"", b"hsplan: log: BadBody row 0\n", 1), f"a beginning of a body: {begun}"
 
 
 def judge_written_log(program: Runner, rows: list[tuple[bytes, bytes]], where: Where) -> None:
     """Rows are answered alike as handles, as bodies, and as events at the only front."""
     del where
-    by_handle = b"".join(b"%s,%s\n" % row for row in rows)
-    by_body = b"".join(b"%s,%s\n" % (region, body_of(handle).hex().encode()) for region, handle in rows)
-    by_front = b"front,region,handle\n" + b"".join(b"0,%s,%s\n" % row for row in rows)
-    handled = of_log(program, b"region,handle", by_handle)
+    handled = of_log(program, b"region,handle", *map(b",".join, rows))
     judge_lines(handled, False)
-    same("a log of bodies", handled, of_log(program, b"region,body", by_body))
-    words = b"dispatch " + PLANNED + b" --log events.csv --fronts 1"
-    fronted = answered(program, words, {**BASE, "events.csv": by_front})
+    bodies = (b"%s,%s" % (region, body_of(handle).hex().encode()) for region, handle in rows)
+    same("a log of bodies", handled, of_log(program, b"region,body", *bodies))
+    events = b"front,region,handle\n" + b"".join(b"0,%s,%s\n" % row for row in rows)
+    fronted = over(program, DISPATCH + b"events.csv --fronts 1", "events.csv", events)
     assert fronted.printed == handled.printed, f"a log at one front: {fronted} {handled}"
 
 
-def judge_words(program: Runner, text: bytes, where: Where) -> None:
-    del where
-    answered(program, text.split(b"\n")[0], BASE)
+# ---- the kinds of cases
 
 
-class Kind(NamedTuple):
-    """A kind of cases: what is drawn, and the judge of it, who gets drawn places too."""
+def texts(*names: str) -> st.SearchStrategy[bytes]:
+    """Changed texts of a file: the example's, of which there may be others, and those of the cases."""
+    own = [text for case in CASES for text in [case.files.get(names[0], b"")] if 0 < len(text) < 20_000]
+    return changed(pick([*(BASE[it] for it in names), *own]))
 
-    drawn: st.SearchStrategy[Any]
-    judge: Callable[[Runner, Any, Where], None]
 
-
-_regions = pick([b"r1", b"r1", b"r2", b"r2", b"r9"])
-_handles = pick([b"10/1", b"10/2", b"10/3", b"10/3", b"10/4", b"10.1/x"])
-_any_handles = changed(pick([b"10/3", b"10/1", b"10.1/a/b", b"10/"]))
-_numbers = st.lists(st.integers(0, 2**32 - 1), max_size=3)
-_words = pick([case.words[:-1] for case in CASES if case.words])
+RECORD, LIST = SITE
+REGIONS = pick([b"r1", b"r1", b"r2", b"r2", b"r9"])
+ROW = st.tuples(REGIONS, pick([b"10/1", b"10/2", b"10/3", b"10/3", b"10/4", b"10.1/x"]))
+HANDLES, INDICES = pick([b"10/3", b"10/1", b"10.1/a/b", b"10/"]), st.lists(st.integers(0, 2**32 - 1), max_size=3)
+WORDS = changed(pick([case.words[:-1] for case in CASES if case.words]))
 KINDS = {
-    "settings": Kind(changed(texts("settings.toml", "by_index.toml")), judge_settings),
-    "values": Kind(
-        changed(texts("list.values", "other_type.values")),
-        judge_octets(b"site --index 1 list.values", "list.values", b"values"),
-    ),
+    "settings": Kind(texts("settings.toml", "by_index.toml"), judge_settings),
+    "values": Kind(texts(LIST, "other_type.values"), partial(judge_octets, b"site --index 1 list.values", LIST)),
     "record": Kind(
-        changed(texts("two_servers.site", "one_server.site", "one_octet_more.site")),
-        judge_octets(b"site two_servers.site", "two_servers.site", b"site"),
+        texts(RECORD, "one_server.site", "one_octet_more.site"),
+        partial(judge_octets, b"site two_servers.site", RECORD),
     ),
-    "body": Kind(st.tuples(_regions, _any_handles, _numbers), judge_body),
-    "demand": Kind(changed(texts("demand.csv", "short.csv")), judge_table("demand")),
-    "costs": Kind(changed(texts("costs.csv")), judge_table("costs")),
-    "capacity": Kind(changed(texts("capacity.csv")), judge_table("capacity")),
-    "plan": Kind(changed(texts("plan.txt", "shortage.txt", "idle_price.txt")), judge_certificate),
-    "log": Kind(changed(texts("log.csv")), judge_log(DISPATCH, "log.csv")),
-    "events": Kind(
-        changed(texts("events.csv")), judge_log(b"dispatch " + PLANNED + b" --log events.csv", "events.csv")
-    ),
-    "words": Kind(changed(_words), judge_words),
-    "written_record": Kind(written_records(), judge_written("two_servers.site", "site")),
-    "written_values": Kind(written_lists(), judge_written("list.values", "values")),
-    "written_log": Kind(st.lists(st.tuples(_regions, _handles), max_size=30), judge_written_log),
+    "body": Kind(st.tuples(REGIONS, changed(HANDLES), INDICES), judge_body),
+    "demand": Kind(texts("demand.csv", "short.csv"), partial(judge_table, "demand")),
+    "costs": Kind(texts("costs.csv"), partial(judge_table, "costs")),
+    "capacity": Kind(texts("capacity.csv"), partial(judge_table, "capacity")),
+    "plan": Kind(texts("plan.txt", "shortage.txt", "idle_price.txt"), judge_certificate),
+    "log": Kind(texts("log.csv"), partial(judge_log, "log.csv")),
+    "events": Kind(texts("events.csv"), partial(judge_log, "events.csv")),
+    "words": Kind(WORDS, lambda program, text, _: answered(program, text.split(b"\n")[0], BASE)),
+    "written_record": Kind(draws.RECORD, partial(judge_written, RECORD)),
+    "written_values": Kind(draws.VALUES, partial(judge_written, LIST)),
+    "written_log": Kind(st.lists(ROW, max_size=30), judge_written_log),
 }

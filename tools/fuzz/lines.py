@@ -3,10 +3,12 @@ and time are within a bound that is linear in the octets of the input."""
 from __future__ import annotations
 
 import re
-from collections.abc import Mapping
+from collections.abc import Callable, Mapping
+from typing import Any, NamedTuple
 
-import runner
-from runner import Answer
+from draws import Where
+from hypothesis import strategies as st
+from runner import Answer, Runner
 
 BOTH = """
 2 Usage
@@ -37,29 +39,31 @@ HANDLE = "(TooLong|NotUtf8|NoSlash|EmptySegment)"
 # The bounds of memory in octets and of time in seconds, and what each octet of the input adds.
 MEMORY, MEMORY_EACH = {"hsplan": 1 << 19, "hsplan-stream": 1 << 20}, 200
 SECONDS, SECONDS_EACH = 0.1, 0.00002
+Judge = Callable[[Runner, Any, Where], object]
+
+
+class Kind(NamedTuple):
+    """A kind of cases: what is drawn, the judge of it, who gets drawn places too, and the program that is judged."""
+
+    drawn: st.SearchStrategy[Any]
+    judge: Judge
+    program: str = "hsplan"
 
 
 def _forms(name: str) -> list[tuple[int, re.Pattern[bytes]]]:
-    lines = [line for line in (BOTH + OWN[name]).splitlines() if line]
-    texts = [(line[0], line[2:].replace("#", "[0-9]+").replace("@", HANDLE)) for line in lines]
-    return [(int(status), re.compile(f"(?:{text})".encode())) for status, text in texts]
+    lines = [line.replace("#", "[0-9]+").replace("@", HANDLE) for line in (BOTH + OWN[name]).splitlines() if line]
+    return [(int(line[0]), re.compile(f"(?:{line[2:]})".encode())) for line in lines]
 
 
 FORMS = {name: _forms(name) for name in OWN}
 
 
-def fault_of(name: str, answer: Answer) -> bytes | None:
-    """The fault that a program reports, behind its name."""
-    begin = f"{name}: ".encode()
-    return answer.reported[len(begin) : -1] if answer.reported.startswith(begin) else None
-
-
 def is_suiting(name: str, words: bytes, answer: Answer) -> bool:
     """Whether the status suits what was printed on both streams."""
-    line, fault = answer.reported, fault_of(name, answer)
+    line, fault = answer.reported, answer.fault
     if line and (not line.endswith(b"\n") or line.count(b"\n") > 1):
         return False
-    if fault is not None:
+    if fault:
         # Only the commands that print as they read print something before they meet a fault.
         may_print = b"dispatch" in words or fault.startswith(b"log: ") and answer.printed.startswith(b"handle,site,")
         statuses = [status for status, form in FORMS[name] if form.fullmatch(fault)]
@@ -69,13 +73,10 @@ def is_suiting(name: str, words: bytes, answer: Answer) -> bool:
     return (answer.status == 0 or is_no) and (not line or bool(has_sums))
 
 
-def answered(
-    program: runner.Runner, words: bytes, files: Mapping[str, bytes], by_words: bool = False, **how: int
-) -> Answer:
+def answered(program: Runner, words: bytes, files: Mapping[str, bytes], by_words: bool = False, **how: int) -> Answer:
     """The answer of a program, after what holds of every one. Two runs agree."""
-    first = program.run(words, files, by_words, **how)
-    again = program.run(words, files, by_words, **how)
-    assert first.said == again.said, f"two answers to {words!r}: {first.said} and {again.said}"
+    first, again = (program.run(words, files, by_words, **how) for _ in range(2))
+    same(f"two answers to {words!r}", first, again)
     size = len(words) + sum(map(len, files.values()))
     assert is_suiting(program.name, words, first), f"status or line of {words!r}: {first}"
     assert not first.held, f"memory kept: {words!r}: {first}"
@@ -91,6 +92,8 @@ def same(what: str, one: Answer, other: Answer) -> None:
     assert one.said == other.said, f"{what}: {one.said} and {other.said}"
 
 
-def ends_plainly(text: bytes) -> bool:
-    """Whether a table has no quotes and its last line has an end, so that what comes behind it are further rows."""
-    return bool(text.strip(b"\n\xef\xbb\xbf")) and not set(text) & set(b'"\r') and text.endswith(b"\n")
+def ends_plainly(text: bytes, header: bytes = b"") -> bool:
+    """Whether a table has no quotes, begins with the header, and its last line has an end, so that what comes behind
+    it are further rows."""
+    is_ended = bool(text.strip(b"\n\xef\xbb\xbf")) and text.endswith(b"\n")
+    return is_ended and not set(text) & set(b'"\r') and text.startswith(header)

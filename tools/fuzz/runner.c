@@ -2,8 +2,8 @@
  * standard input that are held in memory.
  *
  * A request comes through the process's own standard input: `struct request`, and then its texts, each as its length,
- * in 8 octets, its octets, and a zero. They are the words, and then the name and the octets of each file. The answer
- * goes to the process's own standard output: `struct answer`, and both texts that the program printed. */
+ * in 8 octets, its octets, and a zero. They are the words, the standard input, and then the name and the octets of each
+ * file. The answer goes to the process's own standard output: `struct answer`, and both texts that were printed. */
 #define _GNU_SOURCE
 #include <dlfcn.h>
 #include <errno.h>
@@ -25,10 +25,10 @@ struct text {
     size_t length, at;
 };
 
-/* Whether the words are arguments, how many files there are, the most octets that a read gives and a write takes, the
- * octets of the log behind which a read is noted, and the length of all texts. */
+/* How many files there are, the most octets that a read gives and a write takes, the octets of the log behind which a
+ * read is noted, and the length of all texts. */
 static struct request {
-    uint64_t has_arguments, count, piece, watched, length;
+    uint64_t count, piece, watched, length;
 } asked;
 
 /* The status of a run, the most octets of memory that it held at once, those that it held at its end, its nanoseconds,
@@ -39,23 +39,18 @@ static struct answer {
     uint64_t most, held, spent, is_noted, given, before, printed, reported;
 } answer;
 
-static int is_running;
 static char texts[MOST_TEXT], printed[MOST_TEXT], reported[MOST_TEXT];
 static const char *names[MOST_FILES];
+static char *words;
 static struct text files[MOST_FILES], input;
 
 void *__libc_malloc(size_t);
 void *__libc_realloc(void *, size_t);
 void __libc_free(void *);
 
-static size_t size_of(void *place)
-{
-    return place && is_running ? malloc_usable_size(place) : 0;
-}
-
 static void *counted(void *place)
 {
-    answer.held += size_of(place);
+    answer.held += malloc_usable_size(place);
     if (answer.held > answer.most)
         answer.most = answer.held;
     return place;
@@ -68,7 +63,7 @@ void *malloc(size_t size)
 
 void *realloc(void *old, size_t size)
 {
-    size_t before = size_of(old);
+    size_t before = malloc_usable_size(old);
     void *place = __libc_realloc(old, size);
     answer.held -= place ? before : 0;
     return counted(place);
@@ -76,14 +71,13 @@ void *realloc(void *old, size_t size)
 
 void free(void *place)
 {
-    answer.held -= size_of(place);
+    answer.held -= malloc_usable_size(place);
     __libc_free(place);
 }
 
 int open(const char *path, int flags, ...)
 {
-    if (!is_running)
-        return syscall(SYS_openat, AT_FDCWD, path, flags, 0);
+    (void)flags;
     for (uint64_t at = 0; at < asked.count; at++)
         if (!strcmp(names[at], path)) {
             files[at].at = 0;
@@ -102,8 +96,6 @@ ssize_t read(int descriptor, void *octets, size_t length)
 {
     int at = descriptor - FIRST_DESCRIPTOR;
     struct text *from = at < 0 ? &input : &files[at];
-    if (!is_running)
-        return syscall(SYS_read, descriptor, octets, length);
     if (at >= 0 && !answer.is_noted && !strcmp(names[at], "log.csv") && from->at >= asked.watched) {
         answer.is_noted = 1;
         answer.given = from->at;
@@ -118,8 +110,6 @@ ssize_t read(int descriptor, void *octets, size_t length)
 ssize_t write(int descriptor, const void *octets, size_t length)
 {
     uint64_t *end = descriptor == 1 ? &answer.printed : &answer.reported;
-    if (!is_running)
-        return syscall(SYS_write, descriptor, octets, length);
     if (length > MOST_TEXT - *end)
         abort();
     length = least(length, asked.piece);
@@ -130,7 +120,8 @@ ssize_t write(int descriptor, const void *octets, size_t length)
 
 int close(int descriptor)
 {
-    return is_running ? 0 : syscall(SYS_close, descriptor);
+    (void)descriptor;
+    return 0;
 }
 
 static uint64_t now(void)
@@ -160,20 +151,19 @@ static struct text next_text(char **from)
     return text;
 }
 
-/* Takes a request. Returns its words. */
-static struct text take(void)
+static void take(void)
 {
     carry(SYS_read, 0, &asked, sizeof asked);
     if (asked.count > MOST_FILES || asked.length > MOST_TEXT)
         abort();
     carry(SYS_read, 0, texts, asked.length);
     char *from = texts;
-    struct text words = next_text(&from);
+    words = next_text(&from).octets;
+    input = next_text(&from);
     for (uint64_t at = 0; at < asked.count; at++) {
         names[at] = next_text(&from).octets;
         files[at] = next_text(&from);
     }
-    return words;
 }
 
 typedef int main_function(int, char **, char **);
@@ -185,10 +175,9 @@ static jmp_buf back;
 static int run(int count, char **arguments, char **means)
 {
     uint64_t begun = now();
+    answer = (struct answer){0};
     alarm(MOST_SECONDS);
-    is_running = 1;
     answer.status = program(count, arguments, means);
-    is_running = 0;
     alarm(0);
     answer.spent = now() - begun;
     longjmp(back, 1);
@@ -203,14 +192,11 @@ int __libc_start_main(main_function *main, int count, char **given, void *first,
     program = main;
     arguments[0] = given[0];
     for (;;) {
-        struct text words = take();
         int at = 1;
-        input = asked.has_arguments ? (struct text){NULL, 0, 0} : words;
-        for (char *word = asked.has_arguments ? strtok(words.octets, " ") : NULL; word && at < MOST_WORDS;
-             word = strtok(NULL, " "))
+        take();
+        for (char *word = words; (word = strtok(word, " ")) && at < MOST_WORDS; word = NULL)
             arguments[at++] = word;
         arguments[at] = arguments[at + 1] = NULL;
-        answer = (struct answer){0};
         if (!setjmp(back))
             start(run, at, arguments, first, NULL, NULL, stack);
         carry(SYS_write, 1, &answer, sizeof answer);

@@ -10,13 +10,14 @@ from typing import NamedTuple
 from lib import programs
 
 # The structures of runner.c.
-REQUEST, ANSWER = struct.Struct("=5Q"), struct.Struct("=q8Q")
+REQUEST, ANSWER = struct.Struct("=4Q"), struct.Struct("=q8Q")
 WHOLE = 2**62
 
 
 class Answer(NamedTuple):
     """What a run printed on both streams, its status, the most octets of memory that it held, those at its end, its
-    seconds, and of a read of the log that was noted how many octets were given and printed before it."""
+    seconds, of a read of the log that was noted how many octets were given and printed before it, and the fault that
+    it reported behind the program's name."""
 
     printed: bytes
     reported: bytes
@@ -25,6 +26,7 @@ class Answer(NamedTuple):
     held: int
     seconds: float
     noted: tuple[int, int] | None
+    fault: bytes
 
     @property
     def said(self) -> tuple[bytes, bytes, int]:
@@ -85,12 +87,15 @@ class Runner:
     ) -> Answer:
         """Runs the program on these files. The words stand on its standard input, or are its arguments."""
         self.runs += 1
-        texts = [words if by_words else words + b"\n", *(it for name in files for it in (name.encode(), files[name]))]
+        texts = [words, b""] if by_words else [b"", words + b"\n"]
+        texts += [it for name, text in files.items() for it in (name.encode(), text)]
         octets = b"".join(len(text).to_bytes(8, "little") + text + b"\0" for text in texts)
         try:
-            request = REQUEST.pack(by_words, len(files), piece, watched, len(octets)) + octets
+            request = REQUEST.pack(len(files), piece, watched, len(octets)) + octets
             numbers, printed, reported = self._asked(request)
-        except (OSError, struct.error) as fault:
-            raise Died(f"the program ended its process ({self.end()}): {words[:300]!r}") from fault
-        status, most, held, spent, is_noted, *noted = numbers[:7]
-        return Answer(printed, reported, status, most, held, spent / 1e9, (noted[0], noted[1]) if is_noted else None)
+        except (OSError, struct.error) as ended:
+            raise Died(f"the program ended its process ({self.end()}): {words[:300]!r}") from ended
+        status, most, held, spent, is_noted, given, before = numbers[:7]
+        noted, head = (given, before) if is_noted else None, f"{self.name}: ".encode()
+        fault = reported[len(head) : -1] if reported.startswith(head) else b""
+        return Answer(printed, reported, status, most, held, spent / 1e9, noted, fault)
