@@ -33,7 +33,8 @@ def pick(options: Sequence[Drawn]) -> st.SearchStrategy[Drawn]:
 # Strategies that are made once: to make one takes longer than to draw. Numbers at the ends of 32 bits come often.
 NUMBER = st.one_of(pick(NUMBERS), pick(NUMBERS), st.integers(0, 2**32 - 1))
 OCTET, FOUR, SIX = st.binary(min_size=1, max_size=1), st.binary(max_size=4), st.binary(max_size=6)
-FEW, TEN, BOOLEAN, OFTEN = st.integers(0, 3), st.integers(0, 9), st.booleans(), pick([True, True, False])
+FEW, TEN, WAY = st.integers(0, 3), st.integers(0, 9), st.integers(0, 11)
+BOOLEAN, OFTEN = st.booleans(), pick([True, True, False])
 WORD, FORTY, PART, TIMES = pick(WORDS), st.integers(1, 40), st.integers(0, 2**16 - 1), pick([0, 2, 3, 50])
 LENGTH, CHANGES = pick([0, 0, 1, 1, 2, 4, 8, 40]), pick([1, 1, 1, 2, 3, 4])
 OTHER = st.one_of(st.integers(0, 2000), pick([10**6, 10**12, 10**16]))
@@ -42,9 +43,6 @@ OTHER = st.one_of(st.integers(0, 2000), pick([10**6, 10**12, 10**16]))
 def at_random(draw: Draw, most: int) -> int:
     """A number from 0 to the greatest."""
     return int(draw(PART) * (most + 1) >> 16)
-
-
-# ---- changes
 
 
 def _another_number(draw: Draw, text: bytes) -> bytes:
@@ -65,22 +63,19 @@ def _moved_line(draw: Draw, text: bytes) -> bytes:
     return b"".join([*rest[:to], lines[at], *rest[to:]])
 
 
-def _cut(draw: Draw, text: bytes) -> bytes:
-    return text[: at_random(draw, len(text))]
-
-
 def _replaced(draw: Draw, text: bytes) -> bytes:
-    """Something else stands in place of a few octets: a word, a number, octets, the same again, or another part."""
-    at, other = at_random(draw, len(text)), at_random(draw, len(text))
-    end, way = at + draw(LENGTH), draw(TEN)
+    """Something else stands in place of a few octets: a word, a number, octets, the same again, or another part. Or
+    nothing stands in place of all that follow."""
+    at, other, way = at_random(draw, len(text)), at_random(draw, len(text)), draw(WAY)
+    end = at + draw(LENGTH)
     if way < 6:
         new = draw(WORD) if way < 3 else draw(NUMBER).to_bytes(4, "big") if way < 5 else draw(FOUR)
     else:
         new = text[at:end] * draw(TIMES) if way < 8 else text[other : other + draw(FORTY)]
-    return bytes(text[:at] + new + text[end:])
+    return text[:at] if way > 9 else bytes(text[:at] + new + text[end:])
 
 
-CHANGE = pick([_another_number] * 3 + [_moved_line, _cut] + [_replaced] * 5)
+CHANGE = pick([_another_number] * 3 + [_moved_line] + [_replaced] * 6)
 
 
 @st.composite
@@ -163,9 +158,8 @@ def _record(numbers: list[int], filtered: bytes, attributes: list[Any], servers:
     fields = [number(version, 2), bytes([major, minor]), number(serial, 2), bytes([mask]), bytes([option])]
     fields += [*run(filtered), *several([run(name) + run(value) for name, value in attributes])]
     fields += several([[number(own), address, *run(key), *several(faces)] for own, address, key, faces in servers])
-    lines = [f"version {version}", f"protocol {major} {minor}", f"serial {serial}", f"mask {mask}"]
-    lines += [f"option {option}", f"filter {len(filtered)}", f"attributes {len(attributes)}"]
-    lines += [f"servers {len(servers)}"]
+    lines = [f"version {version}\nprotocol {major} {minor}\nserial {serial}\nmask {mask}\noption {option}"]
+    lines += [f"filter {len(filtered)}\nattributes {len(attributes)}\nservers {len(servers)}"]
     for at, (own, address, key, faces) in enumerate(servers):
         lines.append(f"server {at} {own} {address.hex()} {len(key)} {len(faces)}")
     return Written(fields, "".join(f"{line}\n" for line in lines).encode())
@@ -188,27 +182,16 @@ def body_of(handle: bytes, indices: Sequence[int] = (), kinds: Sequence[bytes] =
 
 
 BYTE, QUAD = st.integers(0, 255), NUMBER.map(number)
-FACES = st.lists(st.tuples(OCTET, OCTET, QUAD), max_size=3)
+FACES, ATTRIBUTES = st.lists(st.tuples(OCTET, OCTET, QUAD), max_size=3), st.lists(st.tuples(SIX, SIX), max_size=3)
 SERVER = st.tuples(NUMBER, st.binary(max_size=16).map(lambda it: it.ljust(16, b"\0")), SIX, FACES)
-RECORD = st.builds(
-    _record,
-    st.tuples(PART, BYTE, BYTE, PART, BYTE, BYTE),
-    FOUR,
-    st.lists(st.tuples(SIX, SIX), max_size=3),
-    pick([0, 1, 1, 2, 3, 5, 20]).flatmap(lambda count: st.lists(SERVER, min_size=count, max_size=count)),
-)
+SERVERS = pick([0, 1, 1, 2, 3, 5, 20]).flatmap(lambda count: st.lists(SERVER, min_size=count, max_size=count))
+RECORD = st.builds(_record, st.tuples(PART, BYTE, BYTE, PART, BYTE, BYTE), FOUR, ATTRIBUTES, SERVERS)
+TYPE = pick([b"HS_SITE", b"HS_SITE", b"HS_SITES", b"hs_site", b""])
 TAIL = st.tuples(OCTET, OCTET, QUAD, st.tuples(QUAD, QUAD).map(b"".join))
-VALUE = st.tuples(
-    RECORD,
-    pick([b"HS_SITE", b"HS_SITE", b"HS_SITES", b"hs_site", b""]),
-    TAIL,
-    st.lists(st.tuples(SIX, QUAD), max_size=3),
-)
+VALUE = st.tuples(RECORD, TYPE, TAIL, st.lists(st.tuples(SIX, QUAD), max_size=3))
 VALUES = st.builds(_listed, pick([0, 3, 9, 2**32 - 16]), FEW, st.lists(VALUE, max_size=3))
 
-
-# ---- services, their demands and plans
-
+# Services, their demands and plans.
 REGIONS = ("eu", "us", "asia", "mars")
 SITES = ("alpha", "beta", "g-1_.x", "Delta", "e")
 HANDLES = [
@@ -274,9 +257,6 @@ def plans(draw: Draw, service: Service) -> Planned:
             left -= sent
             made.uses.extend([Use(at, site, sent)] if sent else [])
     return made
-
-
-# ---- logs
 
 
 class Entry(NamedTuple):

@@ -8,8 +8,7 @@ from pathlib import Path
 import draws
 from draws import Where, Written, body_of, changed, pick
 from hypothesis import strategies as st
-from lines import Kind, answered, ends_plainly, same
-from runner import Answer, Runner
+from runner import Answer, Kind, Runner, answered, ends_plainly, same
 
 from lib import cases, oracle, programs
 
@@ -25,14 +24,6 @@ CASES = cases.cases_in("hsplan")
 def over(program: Runner, words: bytes, name: str, text: bytes) -> Answer:
     """The answer where a file has this text."""
     return answered(program, words, {**BASE, name: text})
-
-
-# ---- plans
-
-
-def cost_of(plan: Answer) -> list[bytes]:
-    """The lines of a certificate's version and kind, and of a plan's cost."""
-    return plan.printed.split(b"\n")[: 2 if plan.status else 3]
 
 
 def judge_plan(name: str, program: Runner, text: bytes, where: Where) -> Answer:
@@ -51,7 +42,9 @@ def judge_plan(name: str, program: Runner, text: bytes, where: Where) -> Answer:
     if ends_plainly(files["costs.csv"], b"region,") and ends_plainly(files["capacity.csv"], b"site,"):
         tables = where.reordered(files, "costs.csv", "capacity.csv")
         again = answered(program, PLAN, {**files, **tables})
-        assert not again.reported and cost_of(again) == cost_of(plan), f"another order: {tables}: {again}"
+        # The lines of a certificate's version and kind, and of a plan's cost.
+        one, other = (it.printed.split(b"\n")[: 2 if plan.status else 3] for it in (plan, again))
+        assert not again.reported and one == other, f"another order: {tables}: {again}"
     return plan
 
 
@@ -67,9 +60,6 @@ def judge_table(table: str, program: Runner, text: bytes, where: Where) -> None:
     plan = judge_plan(name, program, text, where)
     if plan.fault.startswith(f"{table}: ".encode()) and ends_plainly(text):
         same("rows behind a fault", plan, over(program, PLAN, name, where.continued(text)))
-
-
-# ---- records and value lists
 
 
 def place_of(part: bytes, fault: bytes) -> tuple[bytes, int]:
@@ -110,9 +100,6 @@ def judge_written(name: str, program: Runner, written: Written, where: Where) ->
         assert said == (b"", f"hsplan: {SITE[name]}: {fault}\n".encode(), 1), f"{fault}: {said}"
 
 
-# ---- certificates
-
-
 def judge_certificate(program: Runner, text: bytes, where: Where) -> None:
     """A dispatcher takes a text exactly where `check` says yes to it, and otherwise refuses it for the same reason."""
     verdict = over(program, CHECK, "plan.txt", text)
@@ -129,9 +116,6 @@ def judge_certificate(program: Runner, text: bytes, where: Where) -> None:
         assert begun.fault == b"certificate: Ended", f"a beginning: {begun}"
     elif verdict.fault != b"certificate: Ended" and text.endswith(b"\n"):
         same("behind a bad line", verdict, over(program, CHECK, "plan.txt", where.continued(text)))
-
-
-# ---- logs
 
 
 def judge_lines(answer: Answer, is_of_fronts: bool) -> None:
@@ -185,9 +169,6 @@ def judge_written_log(program: Runner, rows: list[tuple[bytes, bytes]], where: W
     assert fronted.printed == handled.printed, f"a log at one front: {fronted} {handled}"
 
 
-# ---- the kinds of cases
-
-
 def texts(*names: str) -> st.SearchStrategy[bytes]:
     """Changed texts of a file: the example's, of which there may be others, and those of the cases."""
     own = [text for case in CASES for text in [case.files.get(names[0], b"")] if 0 < len(text) < 20_000]
@@ -195,6 +176,7 @@ def texts(*names: str) -> st.SearchStrategy[bytes]:
 
 
 RECORD, LIST = SITE
+RECORDS = texts(RECORD, "one_server.site", "one_octet_more.site")
 REGIONS = pick([b"r1", b"r1", b"r2", b"r2", b"r9"])
 ROW = st.tuples(REGIONS, pick([b"10/1", b"10/2", b"10/3", b"10/3", b"10/4", b"10.1/x"]))
 HANDLES, INDICES = pick([b"10/3", b"10/1", b"10.1/a/b", b"10/"]), st.lists(st.integers(0, 2**32 - 1), max_size=3)
@@ -202,10 +184,7 @@ WORDS = changed(pick([case.words[:-1] for case in CASES if case.words]))
 KINDS = {
     "settings": Kind(texts("settings.toml", "by_index.toml"), judge_settings),
     "values": Kind(texts(LIST, "other_type.values"), partial(judge_octets, b"site --index 1 list.values", LIST)),
-    "record": Kind(
-        texts(RECORD, "one_server.site", "one_octet_more.site"),
-        partial(judge_octets, b"site two_servers.site", RECORD),
-    ),
+    "record": Kind(RECORDS, partial(judge_octets, b"site two_servers.site", RECORD)),
     "body": Kind(st.tuples(REGIONS, changed(HANDLES), INDICES), judge_body),
     "demand": Kind(texts("demand.csv", "short.csv"), partial(judge_table, "demand")),
     "costs": Kind(texts("costs.csv"), partial(judge_table, "costs")),

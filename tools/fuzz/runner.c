@@ -1,9 +1,9 @@
 /* Preloaded before a program, it runs the program again and again in one process: each time on words, files and a
  * standard input that are held in memory.
  *
- * A request comes through the process's own standard input: `struct request`, and then its texts, each as its length,
- * in 8 octets, its octets, and a zero. They are the words, the standard input, and then the name and the octets of each
- * file. The answer goes to the process's own standard output: `struct answer`, and both texts that were printed. */
+ * A request comes through the process's own standard input: `struct request`, and then its texts, each with a zero
+ * behind it: the words, the standard input, and the name and the octets of each file. The answer goes to the process's
+ * own standard output: `struct answer`, and both texts that were printed. */
 #define _GNU_SOURCE
 #include <dlfcn.h>
 #include <errno.h>
@@ -13,22 +13,23 @@
 #include <stdint.h>
 #include <stdlib.h>
 #include <string.h>
+#include <sys/param.h>
 #include <sys/syscall.h>
 #include <time.h>
 #include <unistd.h>
 
 /* A run that takes longer, in seconds, is one without an end. */
-enum { MOST_SECONDS = 60, FIRST_DESCRIPTOR = 1000, MOST_FILES = 48, MOST_WORDS = 64, MOST_TEXT = 1 << 26 };
+enum { MOST_SECONDS = 60, FIRST_DESCRIPTOR = 1000, MOST_TEXTS = 98, MOST_WORDS = 64, MOST_OCTETS = 1 << 26 };
 
 struct text {
     char *octets;
     size_t length, at;
 };
 
-/* How many files there are, the most octets that a read gives and a write takes, the octets of the log behind which a
- * read is noted, and the length of all texts. */
+/* The most octets that a read gives and a write takes, the octets of the log behind which a read is noted, how many
+ * texts there are, and the length of each. */
 static struct request {
-    uint64_t count, piece, watched, length;
+    uint64_t piece, watched, count, lengths[MOST_TEXTS];
 } asked;
 
 /* The status of a run, the most octets of memory that it held at once, those that it held at its end, its nanoseconds,
@@ -39,34 +40,29 @@ static struct answer {
     uint64_t most, held, spent, is_noted, given, before, printed, reported;
 } answer;
 
-static char texts[MOST_TEXT], printed[MOST_TEXT], reported[MOST_TEXT];
-static const char *names[MOST_FILES];
-static char *words;
-static struct text files[MOST_FILES], input;
+static char octets_of[MOST_OCTETS], printed[MOST_OCTETS], reported[MOST_OCTETS];
+static struct text texts[MOST_TEXTS], *const input = &texts[1];
 
-void *__libc_malloc(size_t);
 void *__libc_realloc(void *, size_t);
 void __libc_free(void *);
 
-static void *counted(void *place)
+static void *resized(void *old, size_t size)
 {
-    answer.held += malloc_usable_size(place);
-    if (answer.held > answer.most)
-        answer.most = answer.held;
+    size_t before = malloc_usable_size(old);
+    void *place = __libc_realloc(old, size);
+    answer.held += malloc_usable_size(place) - (place ? before : 0);
+    answer.most = MAX(answer.most, answer.held);
     return place;
 }
 
 void *malloc(size_t size)
 {
-    return counted(__libc_malloc(size));
+    return resized(NULL, size);
 }
 
 void *realloc(void *old, size_t size)
 {
-    size_t before = malloc_usable_size(old);
-    void *place = __libc_realloc(old, size);
-    answer.held -= place ? before : 0;
-    return counted(place);
+    return resized(old, size);
 }
 
 void free(void *place)
@@ -78,30 +74,25 @@ void free(void *place)
 int open(const char *path, int flags, ...)
 {
     (void)flags;
-    for (uint64_t at = 0; at < asked.count; at++)
-        if (!strcmp(names[at], path)) {
-            files[at].at = 0;
+    for (uint64_t at = 2; at < asked.count; at += 2)
+        if (!strcmp(texts[at].octets, path)) {
+            texts[at + 1].at = 0;
             return FIRST_DESCRIPTOR + at;
         }
     errno = ENOENT;
     return -1;
 }
 
-static size_t least(size_t one, size_t other)
-{
-    return one < other ? one : other;
-}
-
 ssize_t read(int descriptor, void *octets, size_t length)
 {
-    int at = descriptor - FIRST_DESCRIPTOR;
-    struct text *from = at < 0 ? &input : &files[at];
-    if (at >= 0 && !answer.is_noted && !strcmp(names[at], "log.csv") && from->at >= asked.watched) {
+    struct text *name = descriptor < FIRST_DESCRIPTOR ? NULL : &texts[descriptor - FIRST_DESCRIPTOR];
+    struct text *from = name ? name + 1 : input;
+    if (name && !answer.is_noted && !strcmp(name->octets, "log.csv") && from->at >= asked.watched) {
         answer.is_noted = 1;
         answer.given = from->at;
         answer.before = answer.printed;
     }
-    size_t count = least(least(length, asked.piece), from->length - from->at);
+    size_t count = MIN(MIN(length, asked.piece), from->length - from->at);
     memcpy(octets, from->octets + from->at, count);
     from->at += count;
     return count;
@@ -110,9 +101,9 @@ ssize_t read(int descriptor, void *octets, size_t length)
 ssize_t write(int descriptor, const void *octets, size_t length)
 {
     uint64_t *end = descriptor == 1 ? &answer.printed : &answer.reported;
-    if (length > MOST_TEXT - *end)
+    if (length > MOST_OCTETS - *end)
         abort();
-    length = least(length, asked.piece);
+    length = MIN(length, asked.piece);
     memcpy((descriptor == 1 ? printed : reported) + *end, octets, length);
     *end += length;
     return length;
@@ -143,26 +134,15 @@ static void carry(long call, int descriptor, void *octets, size_t length)
     }
 }
 
-static struct text next_text(char **from)
-{
-    struct text text = {*from + sizeof(uint64_t), 0, 0};
-    memcpy(&text.length, *from, sizeof text.length);
-    *from = text.octets + text.length + 1;
-    return text;
-}
-
 static void take(void)
 {
     carry(SYS_read, 0, &asked, sizeof asked);
-    if (asked.count > MOST_FILES || asked.length > MOST_TEXT)
-        abort();
-    carry(SYS_read, 0, texts, asked.length);
-    char *from = texts;
-    words = next_text(&from).octets;
-    input = next_text(&from);
-    for (uint64_t at = 0; at < asked.count; at++) {
-        names[at] = next_text(&from).octets;
-        files[at] = next_text(&from);
+    char *from = octets_of;
+    for (uint64_t at = 0; at < asked.count; from += asked.lengths[at++] + 1) {
+        if (asked.lengths[at] >= (uint64_t)(octets_of + MOST_OCTETS - from))
+            abort();
+        texts[at] = (struct text){from, asked.lengths[at], 0};
+        carry(SYS_read, 0, from, asked.lengths[at] + 1);
     }
 }
 
@@ -188,17 +168,17 @@ int __libc_start_main(main_function *main, int count, char **given, void *first,
 {
     static char *arguments[MOST_WORDS + 2];
     start_function *const start = (start_function *)dlsym(RTLD_NEXT, "__libc_start_main");
-    (void)count, (void)last, (void)unload;
+    (void)last, (void)unload;
     program = main;
     arguments[0] = given[0];
     for (;;) {
-        int at = 1;
         take();
-        for (char *word = words; (word = strtok(word, " ")) && at < MOST_WORDS; word = NULL)
-            arguments[at++] = word;
-        arguments[at] = arguments[at + 1] = NULL;
+        count = 1;
+        for (char *word = texts[0].octets; (word = strtok(word, " ")) && count < MOST_WORDS; word = NULL)
+            arguments[count++] = word;
+        arguments[count] = arguments[count + 1] = NULL;
         if (!setjmp(back))
-            start(run, at, arguments, first, NULL, NULL, stack);
+            start(run, count, arguments, first, NULL, NULL, stack);
         carry(SYS_write, 1, &answer, sizeof answer);
         carry(SYS_write, 1, printed, answer.printed);
         carry(SYS_write, 1, reported, answer.reported);

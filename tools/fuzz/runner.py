@@ -1,46 +1,86 @@
-"""A program that is run again and again in one process, on words and files in memory."""
+"""A program that is run again and again in one process, on words and files in memory.
+
+What holds of every answer: the line on standard error is one of the program's own, the status suits it, and memory and
+time are within a bound that is linear in the octets of the input."""
 from __future__ import annotations
 
 import os
+import re
 import struct
 import subprocess
-from collections.abc import Mapping
-from typing import NamedTuple
+from collections.abc import Callable, Mapping
+from typing import Any, NamedTuple
+
+from draws import Where
+from hypothesis import strategies as st
 
 from lib import programs
 
-# The structures of runner.c.
-REQUEST, ANSWER = struct.Struct("=4Q"), struct.Struct("=q8Q")
-WHOLE = 2**62
+BOTH = """
+2 Usage
+3 WrongKind|check: (Shape|NoSuchUse|RowSum|Load|Cost|ArcPrice|UsedArcPrice|IdlePrice|DemandSum|CapacitySum|NotShort)
+5 read failed
+1 BadFronts|log: Header|log: Fields row #
+1 settings: (NotToml|UnknownKey|BadSite site #|SiteTwice site #|TooManySites|BadHost host #|HostTwice host #|TooManyHosts)
+1 build: (NoValue|NotSiteValue|BadHashOption|NoServer|ServerIdTwice) site #
+1 build: (TooManyServers|UnknownSite table (costs|capacity) row #|UnknownServer row #|NoCapacity site # server_id #)
+1 build: BadRecord site # (Truncated at #|Trailing at #|TooManyServers)
+1 certificate: (BadLine line #|Ended|AfterEnd line #)
+1 (demand|costs|capacity): (Header|TooManyRows|TooManyRegions|(Fields|BadName|BadNumber|RowTwice) row #|BadHandle row # @)
+1 values: (Truncated at #|Trailing at #|TooManyServers|IndexTwice index #)
+"""
+OWN = {
+    "hsplan": """
+1 BadOption|BadServers|BadIndex|NoValue|NotSiteValue|handle: @|log: (BadHandle|BadBody|BadFront) row #
+1 site: (Truncated at #|Trailing at #|TooManyServers|IndexTwice index #)
+0 assigned # spent # unknown #
+""",
+    "hsplan-stream": """
+1 BadUnit|BadFront|log: (BadName|BadNumber|TooManyRegions|TooManyKinds) row #
+1 log: (CountTooLarge row # unit #|BadHandle row # @)
+0 assigned # spent # unknown # refused #
+""",
+}
+HANDLE = "(TooLong|NotUtf8|NoSlash|EmptySegment)"
+# The bounds of memory in octets and of time in seconds, and what each octet of the input adds.
+MEMORY, MEMORY_EACH = {"hsplan": 1 << 19, "hsplan-stream": 1 << 20}, 200
+SECONDS, SECONDS_EACH = 0.1, 0.00002
+FORMS = {
+    name: [
+        (int(line[0]), re.compile(f"(?:{line[2:]})".encode()))
+        for line in (BOTH + own).replace("#", "[0-9]+").replace("@", HANDLE).splitlines()
+        if line
+    ]
+    for name, own in OWN.items()
+}
+# The structures of runner.c, the most texts of a request, and a number beyond all lengths.
+MOST_TEXTS, WHOLE = 98, 2**62
+REQUEST, ANSWER = struct.Struct(f"={3 + MOST_TEXTS}Q"), struct.Struct("=q8Q")
+Files = Mapping[str, bytes]
 
 
 class Answer(NamedTuple):
-    """What a run printed on both streams, its status, the most octets of memory that it held, those at its end, its
-    seconds, of a read of the log that was noted how many octets were given and printed before it, and the fault that
-    it reported behind the program's name."""
+    """What a run printed on both streams, its status, the fault that it reported behind the program's name, the most
+    octets of memory that it held, those at its end, its seconds, and of a read of the log that was noted how many
+    octets were given and printed before it."""
 
     printed: bytes
     reported: bytes
     status: int
+    fault: bytes
     most: int
     held: int
     seconds: float
     noted: tuple[int, int] | None
-    fault: bytes
 
     @property
     def said(self) -> tuple[bytes, bytes, int]:
-        return self.printed, self.reported, self.status
-
-
-class Died(AssertionError):
-    """The program ended its process, or was ended after a minute."""
+        return self[:3]
 
 
 def built(folder: str) -> str:
     """The library that is preloaded before a program, compiled into a folder."""
-    made = os.path.join(folder, "runner.so")
-    source = os.path.join(programs.TOP, "tools", "fuzz", "runner.c")
+    made, source = os.path.join(folder, "runner.so"), os.path.join(programs.TOP, "tools", "fuzz", "runner.c")
     subprocess.run(["cc", "-O2", "-Wall", "-Wextra", "-shared", "-fPIC", "-o", made, source, "-ldl"], check=True)
     return made
 
@@ -53,23 +93,18 @@ class Runner:
         self.runs = 0
         self._process: subprocess.Popen[bytes] | None = None
 
-    def end(self) -> int | None:
-        """Ends the process. Returns the status that it had by then."""
-        process, self._process = self._process, None
-        if not process:
-            return None
-        status = process.poll()
-        process.kill()
-        process.communicate()
-        return status
+    def end(self) -> None:
+        if self._process:
+            self._process.kill()
+            self._process.communicate()
+            self._process = None
 
     def _asked(self, request: bytes) -> tuple[tuple[int, ...], bytes, bytes]:
         """What the program answers: the numbers, and both texts."""
-        if not self._process:
-            pipe = subprocess.PIPE
-            self._process = subprocess.Popen(
-                [self.name], executable=self.path, env=self.means, stdin=pipe, stdout=pipe
-            )
+        pipe = subprocess.PIPE
+        self._process = self._process or subprocess.Popen(
+            [self.name], executable=self.path, env=self.means, stdin=pipe, stdout=pipe
+        )
         asking, saying = self._process.stdin, self._process.stdout
         assert asking and saying
         asking.write(request)
@@ -78,24 +113,69 @@ class Runner:
         return numbers, saying.read(numbers[-2]), saying.read(numbers[-1])
 
     def run(
-        self,
-        words: bytes,
-        files: Mapping[str, bytes],
-        by_words: bool = False,
-        piece: int = WHOLE,
-        watched: int = WHOLE,
+        self, words: bytes, files: Files, by_words: bool = False, piece: int = WHOLE, watched: int = WHOLE
     ) -> Answer:
         """Runs the program on these files. The words stand on its standard input, or are its arguments."""
         self.runs += 1
         texts = [words, b""] if by_words else [b"", words + b"\n"]
         texts += [it for name, text in files.items() for it in (name.encode(), text)]
-        octets = b"".join(len(text).to_bytes(8, "little") + text + b"\0" for text in texts)
+        lengths = [*map(len, texts), *[0] * (MOST_TEXTS - len(texts))]
+        request = REQUEST.pack(piece, watched, len(texts), *lengths) + b"".join(text + b"\0" for text in texts)
         try:
-            request = REQUEST.pack(len(files), piece, watched, len(octets)) + octets
             numbers, printed, reported = self._asked(request)
         except (OSError, struct.error) as ended:
-            raise Died(f"the program ended its process ({self.end()}): {words[:300]!r}") from ended
+            self.end()
+            raise AssertionError(f"the program ended its process, or took a minute: {words[:300]!r}") from ended
         status, most, held, spent, is_noted, given, before = numbers[:7]
         noted, head = (given, before) if is_noted else None, f"{self.name}: ".encode()
         fault = reported[len(head) : -1] if reported.startswith(head) else b""
-        return Answer(printed, reported, status, most, held, spent / 1e9, noted, fault)
+        return Answer(printed, reported, status, fault, most, held, spent / 1e9, noted)
+
+
+def is_suiting(name: str, words: bytes, answer: Answer) -> bool:
+    """Whether the status suits what was printed on both streams."""
+    line, fault = answer.reported, answer.fault
+    if line and (not line.endswith(b"\n") or line.count(b"\n") > 1):
+        return False
+    if fault:
+        # Only the commands that print as they read print something before they meet a fault.
+        may_print = b"dispatch" in words or fault.startswith(b"log: ") and answer.printed.startswith(b"handle,site,")
+        statuses = [status for status, form in FORMS[name] if form.fullmatch(fault)]
+        return statuses == [answer.status] and answer.status > 0 and (not answer.printed or may_print)
+    is_no = answer.status == 3 and answer.printed.startswith((b"no ", b"HSPLAN 1\nSHORTAGE\n"))
+    has_sums = re.search(rb"dispatch|answer", words) and FORMS[name][-1][1].fullmatch(line[:-1])
+    return (answer.status == 0 or is_no) and (not line or bool(has_sums))
+
+
+def answered(program: Runner, words: bytes, files: Mapping[str, bytes], by_words: bool = False, **how: int) -> Answer:
+    """The answer of a program, after what holds of every one. Two runs agree."""
+    first, again = (program.run(words, files, by_words, **how) for _ in range(2))
+    same(f"two answers to {words!r}", first, again)
+    size = len(words) + sum(map(len, files.values()))
+    assert is_suiting(program.name, words, first), f"status or line of {words!r}: {first}"
+    assert not first.held, f"memory kept: {words!r}: {first}"
+    assert first.most <= MEMORY[program.name] + MEMORY_EACH * size, f"memory: {words!r}: {first}"
+    bound = SECONDS + SECONDS_EACH * size
+    # The machine may have stood still meanwhile, so what took too long is run again.
+    quick = min(first.seconds, again.seconds) <= bound or program.run(words, files, by_words, **how).seconds <= bound
+    assert quick, f"time: {words!r}: {first}"
+    return first
+
+
+def same(what: str, one: Answer, other: Answer) -> None:
+    assert one.said == other.said, f"{what}: {one.said} and {other.said}"
+
+
+def ends_plainly(text: bytes, header: bytes = b"") -> bool:
+    """Whether a table has no quotes, begins with the header, and its last line has an end, so that what comes behind
+    it are further rows."""
+    is_ended = bool(text.strip(b"\n\xef\xbb\xbf")) and text.endswith(b"\n")
+    return is_ended and not set(text) & set(b'"\r') and text.startswith(header)
+
+
+class Kind(NamedTuple):
+    """A kind of cases: what is drawn, the judge of it, who gets drawn places too, and the program that is judged."""
+
+    drawn: st.SearchStrategy[Any]
+    judge: Callable[[Runner, Any, Where], object]
+    program: str = "hsplan"

@@ -11,8 +11,7 @@ from typing import NamedTuple
 
 from draws import BOOLEAN, FEW, TEN, Draw, Entry, Log, Planned, Where, changed, cheapest, logs, pick, plans, services
 from hypothesis import strategies as st
-from lines import Judge, Kind, answered, ends_plainly, same
-from runner import WHOLE, Answer, Runner
+from runner import WHOLE, Answer, Kind, Runner, answered, ends_plainly, same
 
 from lib import cases, oracle
 from lib.oracle import GREATEST_COUNT, Dispatcher, Service, csv_of
@@ -37,10 +36,6 @@ class Case(NamedTuple):
     name: str = ""
     text: bytes = b""
 
-    @property
-    def units(self) -> int:
-        return self.unit or 1
-
     def words(self) -> bytes:
         words = WORDS[self.command].replace(" --settings settings.toml", "")
         words += " --settings settings.toml --log log.csv" + " --values values" * self.service.has_values
@@ -59,9 +54,6 @@ class Case(NamedTuple):
     def answer(self, program: Runner, files: Mapping[str, bytes] = {}, piece: int = WHOLE, at: int = WHOLE) -> Answer:
         """The answer where these texts stand in place of files."""
         return answered(program, self.words(), {**self.files(), **files}, piece=piece, watched=at)
-
-
-# ---- logs of any kind
 
 
 def judge_log(program: Runner, case: Case, where: Where) -> Answer:
@@ -117,7 +109,7 @@ def judge_sums(program: Runner, case: Case, answer: Answer) -> None:
     assert answer.reported.decode() == oracle.sums_of(lines), f"sums: {answer}"
     named = [line.split()[1] for line in lines if line.startswith("assigned ")]
     for at, site in enumerate(case.service.sites):
-        most = case.units * sum(use.number for use in case.shares() if use.site == at)
+        most = (case.unit or 1) * sum(use.number for use in case.shares() if use.site == at)
         assert named.count(site.name) <= most, f"more than the plan: {most} to {site.name}: {answer}"
 
 
@@ -125,14 +117,11 @@ JUDGES: dict[str, Callable[[Runner, Case, Answer], None]]
 JUDGES = {"kinds": judge_table, "places": judge_places, "answer": judge_sums}
 
 
-# ---- written logs, by the oracle
-
-
 def wanted_of(case: Case) -> cases.Ended:
     """What has to be printed of a log."""
     service, entries = case.service, case.log.entries
     if case.command == "answer":
-        dispatcher = Dispatcher(service, case.planned.rows, case.shares(), case.units)
+        dispatcher = Dispatcher(service, case.planned.rows, case.shares(), case.unit or 1)
         answers = [
             f"refused {it.refusal}" if it.refused else dispatcher.answer(it.region, it.handle) for it in entries
         ]
@@ -140,7 +129,7 @@ def wanted_of(case: Case) -> cases.Ended:
     if case.command == "places":
         return csv_of(HEADERS["places"], (line for it in entries for line in service.places(it.handle))), b"", 0
     sums = service.sums((it.region, it.handle, it.number if case.log.has_counts else 1) for it in entries)
-    table = service.table(sums, case.units)
+    table = service.table(sums, case.unit or 1)
     large = next((at for at, row in enumerate(table) if row[2] > GREATEST_COUNT), None)
     if large is None:
         return csv_of(HEADERS["kinds"], table), b"", 0
@@ -162,15 +151,12 @@ def judge_served(program: Runner, case: Case) -> None:
     service = case.service
     entries = [it for it in case.log.entries if service.sites_of(it.region) and not set(it.handle) & set("\r\n")]
     of_ones = case._replace(log=Log([entry._replace(number=1) for entry in entries]))
-    table = service.table(((it.region, it.handle, 1) for it in entries), case.units)
+    table = service.table(((it.region, it.handle, 1) for it in entries), case.unit or 1)
     uses = [oracle.Use(at, cheapest(service, row[0])[1][0], row[2]) for at, row in enumerate(table)]
     plan = of_ones._replace(command="answer", planned=Planned(table, uses))
     answer = plan.answer(program, {"demand.csv": of_ones.answer(program).printed})
     sums = f"assigned {len(entries)} spent 0 unknown 0 refused 0\n".encode()
     assert answer.reported == sums, f"a plan of the table: {answer}"
-
-
-# ---- settings, costs, plans and words
 
 
 def judge_settings(program: Runner, case: Case, where: Where) -> None:
@@ -242,8 +228,6 @@ def judge_words(program: Runner, case: Case, where: Where) -> None:
         same("the same words", answer, answered(program, other, case.files(), by_words=True))
 
 
-# ---- the kinds of cases
-
 UNIT, FRONTS = pick([0, 0, 0, 1, 2, 7, 1000, GREATEST_COUNT]), pick([0, 0, 1, 2, 3, 64])
 WORKED = cases.cases_in(NAME)
 # The words of worked cases, and by the command their logs.
@@ -272,15 +256,12 @@ def drawn(draw: Draw, command: str, names: st.SearchStrategy[str] = st.just(""))
     return case._replace(text=draw(changed(st.just(written))))
 
 
-def kind_of(judge: Judge, command: str, *names: str) -> Kind:
-    return Kind(drawn(command, pick(names or [""])), judge, NAME)
-
-
+FILES = ["demand.csv", "costs.csv", "capacity.csv", "plan.txt", "plan.txt"]
 KINDS: dict[str, Kind] = {
     "stream_words": Kind(pick(sorted(WORDS)).flatmap(partial(drawn, names=pick(["", "words"]))), judge_words, NAME),
-    "stream_settings": kind_of(judge_settings, "kinds", "", "settings.toml"),
-    "stream_costs": kind_of(judge_costs, "kinds", "", "costs.csv"),
-    "stream_plan": kind_of(judge_plan, "answer", "demand.csv", "costs.csv", "capacity.csv", "plan.txt", "plan.txt"),
-    **{command: kind_of(judge_log, command, "log.csv") for command in WORDS},
-    **{f"written_{command}": kind_of(judge_written, command) for command in WORDS},
+    "stream_settings": Kind(drawn("kinds", pick(["", "settings.toml"])), judge_settings, NAME),
+    "stream_costs": Kind(drawn("kinds", pick(["", "costs.csv"])), judge_costs, NAME),
+    "stream_plan": Kind(drawn("answer", pick(FILES)), judge_plan, NAME),
+    **{command: Kind(drawn(command, st.just("log.csv")), judge_log, NAME) for command in WORDS},
+    **{f"written_{command}": Kind(drawn(command), judge_written, NAME) for command in WORDS},
 }
