@@ -283,20 +283,16 @@ class Log(NamedTuple):
 
     @property
     def text(self) -> bytes:
-        handle = "body" if self.has_bodies else "handle"
-        lines = [self._line("region", handle, "count"), *map(self._row, self.entries)]
+        lines = [self._line("region", "body" if self.has_bodies else "handle", "count")]
+        for it in self.entries:
+            handle = body_of(it.handle.encode()).hex() if self.has_bodies else field_of(it.handle)
+            lines.append(it.refused or self._line(it.region, handle, str(it.number)))
         at = self.blank % len(lines)
         lines[at:at] = [b""] * bool(at)
         return self.mark + self.end.join(lines) + self.end * self.last
 
     def _line(self, region: str, handle: str, count: str) -> bytes:
         return ",".join([region] * self.has_regions + [handle] + [count] * self.has_counts).encode()
-
-    def _row(self, entry: Entry) -> bytes:
-        if entry.refused:
-            return entry.refused
-        handle = body_of(entry.handle.encode()).hex() if self.has_bodies else field_of(entry.handle)
-        return self._line(entry.region, handle, str(entry.number))
 
 
 REFUSED = {

@@ -37,30 +37,28 @@ def kinds() -> dict[str, Any]:
     return {**judges.KINDS, **stream_judges.KINDS}
 
 
-def judged(name: str, given: argparse.Namespace, preloaded: str) -> tuple[str, int, str]:
+def judged(name: str, asked: argparse.Namespace, preloaded: str) -> tuple[str, int, str]:
     """The kind of cases, how many runs it took, and the fault that was found, if there is one."""
-    import draws
-    import hypothesis
-    import runner
+    from draws import WHERE
+    from hypothesis import HealthCheck, given, seed, settings
+    from runner import Runner
 
-    kind = kinds()[name]
-    program = runner.Runner(kind.program, os.path.abspath(getattr(given, kind.program)), preloaded)
+    kind, unhealthy = kinds()[name], list(HealthCheck)
+    program = Runner(kind.program, os.path.abspath(getattr(asked, kind.program)), preloaded)
 
-    @hypothesis.seed(f"{given.seed} {name}")
-    @hypothesis.settings(
-        max_examples=given.cases, deadline=None, database=None, suppress_health_check=list(hypothesis.HealthCheck)
-    )
-    @hypothesis.given(kind.drawn, draws.WHERE)
+    @seed(f"{asked.seed} {name}")
+    @settings(max_examples=asked.cases, deadline=None, database=None, suppress_health_check=unhealthy)
+    @given(kind.drawn, WHERE)
     def case(drawn: Any, where: Any) -> None:
         kind.judge(program, drawn, where)
 
+    fault = ""
     try:
         case()
     except Exception:
-        return name, program.runs, f"--seed {given.seed}: {name}: {traceback.format_exc()}"
-    finally:
-        program.end()
-    return name, program.runs, ""
+        fault = f"--seed {asked.seed}: {name}: {traceback.format_exc()}"
+    program.end()
+    return name, program.runs, fault
 
 
 def main() -> int:

@@ -157,9 +157,8 @@ def judge_body(program: Runner, row: tuple[bytes, bytes, list[int]], where: Wher
     assert begun.said == (b"", b"hsplan: log: BadBody row 0\n", 1), f"a beginning of a body: {begun}"
 
 
-def judge_written_log(program: Runner, rows: list[tuple[bytes, bytes]], where: Where) -> None:
+def judge_written_log(program: Runner, rows: list[tuple[bytes, bytes]], _: Where) -> None:
     """Rows are answered alike as handles, as bodies, and as events at the only front."""
-    del where
     handled = of_log(program, b"region,handle", *map(b",".join, rows))
     judge_lines(handled, False)
     bodies = (b"%s,%s" % (region, body_of(handle).hex().encode()) for region, handle in rows)

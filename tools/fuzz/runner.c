@@ -32,7 +32,7 @@ static struct request {
     uint64_t piece, watched, count, lengths[MOST_TEXTS];
 } asked;
 
-/* The status of a run, the most octets of memory that it held at once, those that it held at its end, its nanoseconds,
+/* The status of a run, the most octets of memory that it held at once, those that it held at its end, its microseconds,
  * of the first read of the log behind the watched octets whether there was one, and how many octets were given and
  * printed before it, and the lengths of both texts. */
 static struct answer {
@@ -42,6 +42,7 @@ static struct answer {
 
 static char octets_of[MOST_OCTETS], printed[MOST_OCTETS], reported[MOST_OCTETS];
 static struct text texts[MOST_TEXTS], *const input = &texts[1];
+static char *arguments[MOST_WORDS + 2];
 
 void *__libc_realloc(void *, size_t);
 void __libc_free(void *);
@@ -115,13 +116,6 @@ int close(int descriptor)
     return 0;
 }
 
-static uint64_t now(void)
-{
-    struct timespec time;
-    clock_gettime(CLOCK_PROCESS_CPUTIME_ID, &time);
-    return time.tv_sec * 1000000000ull + time.tv_nsec;
-}
-
 /* Reads a part of a request, or writes one of an answer. Ends the process where nobody asks or listens further. */
 static void carry(long call, int descriptor, void *octets, size_t length)
 {
@@ -134,16 +128,22 @@ static void carry(long call, int descriptor, void *octets, size_t length)
     }
 }
 
-static void take(void)
+/* Takes a request. Returns how many arguments there are. */
+static int take(void)
 {
-    carry(SYS_read, 0, &asked, sizeof asked);
+    int count = 1;
     char *from = octets_of;
+    carry(SYS_read, 0, &asked, sizeof asked);
     for (uint64_t at = 0; at < asked.count; from += asked.lengths[at++] + 1) {
         if (asked.lengths[at] >= (uint64_t)(octets_of + MOST_OCTETS - from))
             abort();
         texts[at] = (struct text){from, asked.lengths[at], 0};
         carry(SYS_read, 0, from, asked.lengths[at] + 1);
     }
+    for (char *word = texts[0].octets; (word = strtok(word, " ")) && count < MOST_WORDS; word = NULL)
+        arguments[count++] = word;
+    arguments[count] = arguments[count + 1] = NULL;
+    return count;
 }
 
 typedef int main_function(int, char **, char **);
@@ -154,31 +154,25 @@ static jmp_buf back;
 
 static int run(int count, char **arguments, char **means)
 {
-    uint64_t begun = now();
+    clock_t begun = clock();
     answer = (struct answer){0};
     alarm(MOST_SECONDS);
     answer.status = program(count, arguments, means);
     alarm(0);
-    answer.spent = now() - begun;
+    answer.spent = clock() - begun;
     longjmp(back, 1);
 }
 
 /* Starts the program for each request anew, as some of its functions are called before `main`, with the arguments. */
 int __libc_start_main(main_function *main, int count, char **given, void *first, void *last, void *unload, void *stack)
 {
-    static char *arguments[MOST_WORDS + 2];
     start_function *const start = (start_function *)dlsym(RTLD_NEXT, "__libc_start_main");
-    (void)last, (void)unload;
+    (void)count, (void)last, (void)unload;
     program = main;
     arguments[0] = given[0];
     for (;;) {
-        take();
-        count = 1;
-        for (char *word = texts[0].octets; (word = strtok(word, " ")) && count < MOST_WORDS; word = NULL)
-            arguments[count++] = word;
-        arguments[count] = arguments[count + 1] = NULL;
         if (!setjmp(back))
-            start(run, count, arguments, first, NULL, NULL, stack);
+            start(run, take(), arguments, first, NULL, NULL, stack);
         carry(SYS_write, 1, &answer, sizeof answer);
         carry(SYS_write, 1, printed, answer.printed);
         carry(SYS_write, 1, reported, answer.reported);

@@ -1,7 +1,4 @@
-"""A program that is run again and again in one process, on words and files in memory.
-
-What holds of every answer: the line on standard error is one of the program's own, the status suits it, and memory and
-time are within a bound that is linear in the octets of the input."""
+"""A program that is run again and again in one process, on words and files in memory, and what holds of every answer."""
 from __future__ import annotations
 
 import os
@@ -99,19 +96,6 @@ class Runner:
             self._process.communicate()
             self._process = None
 
-    def _asked(self, request: bytes) -> tuple[tuple[int, ...], bytes, bytes]:
-        """What the program answers: the numbers, and both texts."""
-        pipe = subprocess.PIPE
-        self._process = self._process or subprocess.Popen(
-            [self.name], executable=self.path, env=self.means, stdin=pipe, stdout=pipe
-        )
-        asking, saying = self._process.stdin, self._process.stdout
-        assert asking and saying
-        asking.write(request)
-        asking.flush()
-        numbers = ANSWER.unpack(saying.read(ANSWER.size))
-        return numbers, saying.read(numbers[-2]), saying.read(numbers[-1])
-
     def run(
         self, words: bytes, files: Files, by_words: bool = False, piece: int = WHOLE, watched: int = WHOLE
     ) -> Answer:
@@ -121,15 +105,24 @@ class Runner:
         texts += [it for name, text in files.items() for it in (name.encode(), text)]
         lengths = [*map(len, texts), *[0] * (MOST_TEXTS - len(texts))]
         request = REQUEST.pack(piece, watched, len(texts), *lengths) + b"".join(text + b"\0" for text in texts)
+        pipe = subprocess.PIPE
+        self._process = self._process or subprocess.Popen(
+            [self.name], executable=self.path, env=self.means, stdin=pipe, stdout=pipe
+        )
+        asking, saying = self._process.stdin, self._process.stdout
+        assert asking and saying
         try:
-            numbers, printed, reported = self._asked(request)
+            asking.write(request)
+            asking.flush()
+            numbers = ANSWER.unpack(saying.read(ANSWER.size))
+            printed, reported = map(saying.read, numbers[-2:])
         except (OSError, struct.error) as ended:
             self.end()
             raise AssertionError(f"the program ended its process, or took a minute: {words[:300]!r}") from ended
         status, most, held, spent, is_noted, given, before = numbers[:7]
         noted, head = (given, before) if is_noted else None, f"{self.name}: ".encode()
         fault = reported[len(head) : -1] if reported.startswith(head) else b""
-        return Answer(printed, reported, status, fault, most, held, spent / 1e9, noted)
+        return Answer(printed, reported, status, fault, most, held, spent / 1e6, noted)
 
 
 def is_suiting(name: str, words: bytes, answer: Answer) -> bool:

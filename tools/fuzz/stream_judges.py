@@ -17,7 +17,11 @@ from lib import cases, oracle
 from lib.oracle import GREATEST_COUNT, Dispatcher, Service, csv_of
 
 NAME = "hsplan-stream"
-WORDS = {"kinds": "kinds --costs costs.csv", "places": "places", "answer": f"answer {oracle.INPUTS} --plan plan.txt"}
+WORDS = {
+    "kinds": "kinds --settings settings.toml --costs costs.csv",
+    "places": "places --settings settings.toml",
+    "answer": f"answer {oracle.INPUTS} --plan plan.txt",
+}
 HEADERS = {"kinds": "region,handle,count", "places": "handle,site,place,server_id"}
 SHORT_LOG = Log([Entry("eu", "10/1"), Entry("us", "10.1/a"), Entry("mars", "10/2")])
 
@@ -37,8 +41,7 @@ class Case(NamedTuple):
     text: bytes = b""
 
     def words(self) -> bytes:
-        words = WORDS[self.command].replace(" --settings settings.toml", "")
-        words += " --settings settings.toml --log log.csv" + " --values values" * self.service.has_values
+        words = WORDS[self.command] + " --log log.csv" + " --values values" * self.service.has_values
         words += f" --unit {self.unit}" if self.unit else ""
         return (words + (f" --fronts {self.fronts} --front {self.front}" if self.fronts else "")).encode()
 
@@ -93,18 +96,16 @@ def judge_table(program: Runner, case: Case, answer: Answer) -> None:
     assert all(int(row[2]) <= GREATEST_COUNT for row in rows_of(case, answer)), f"count: {answer}"
 
 
-def judge_places(program: Runner, case: Case, answer: Answer) -> None:
+def judge_places(_: Runner, case: Case, answer: Answer) -> None:
     """Each handle has a line for each site, with the server that its hash names."""
-    del program
     rows = rows_of(case, answer)
     wanted = {line for handle in {row[0] for row in rows} for line in case.service.places(handle)}
     lines = {(handle, site, int(place), int(own)) for handle, site, place, own in rows}
     assert lines == wanted, f"lines: {answer}"
 
 
-def judge_sums(program: Runner, case: Case, answer: Answer) -> None:
+def judge_sums(_: Runner, case: Case, answer: Answer) -> None:
     """The sums are those of the lines. No more answers name a site than the front's share of the plan sends there."""
-    del program
     lines = answer.printed.decode().splitlines()
     assert answer.reported.decode() == oracle.sums_of(lines), f"sums: {answer}"
     named = [line.split()[1] for line in lines if line.startswith("assigned ")]
@@ -231,10 +232,7 @@ def judge_words(program: Runner, case: Case, where: Where) -> None:
 UNIT, FRONTS = pick([0, 0, 0, 1, 2, 7, 1000, GREATEST_COUNT]), pick([0, 0, 1, 2, 3, 64])
 WORKED = cases.cases_in(NAME)
 # The words of worked cases, and by the command their logs.
-OWN = {
-    command: pick([case.given for case in WORKED if case.command == command and len(case.given) < 10_000])
-    for command in WORDS
-}
+OWN = {name: pick([it.given for it in WORKED if it.command == name and len(it.given) < 10_000]) for name in WORDS}
 OWN["words"] = pick([case.words[:-1] for case in WORKED if case.words])
 
 
@@ -246,14 +244,12 @@ def drawn(draw: Draw, command: str, names: st.SearchStrategy[str] = st.just(""))
     planned, fronts = (draw(plans(service)), draw(FRONTS)) if is_answer else (Planned([], []), 0)
     unit, front = 0 if command == "places" else draw(UNIT), draw(TEN) % fronts if fronts else 0
     case = Case(command, service, planned, draw(logs(command, planned.rows)), unit, fronts, front, draw(names))
-    own = OWN.get(command if case.name == "log.csv" else case.name)
     if not case.name:
         return case
-    if own and draw(FEW) == 0:
-        text = draw(own)
-        return case._replace(text=draw(changed(st.just(text))) if draw(BOOLEAN) else text)
-    written = {"words": case.words(), **case.files()}[case.name]
-    return case._replace(text=draw(changed(st.just(written))))
+    own = OWN.get(command if case.name == "log.csv" else case.name)
+    is_own = own and draw(FEW) == 0
+    text = draw(own) if own and is_own else {"words": case.words(), **case.files()}[case.name]
+    return case._replace(text=text if is_own and draw(BOOLEAN) else draw(changed(st.just(text))))
 
 
 FILES = ["demand.csv", "costs.csv", "capacity.csv", "plan.txt", "plan.txt"]
