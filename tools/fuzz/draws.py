@@ -1,4 +1,5 @@
-"""What inputs are drawn: texts that are changed at random, records and lists, services with their logs."""
+"""What inputs are drawn: texts that are changed at random, services with their logs, and records, lists and bodies
+(RFC 3651, section 3; RFC 3652, section 3), each written as a list of its fields."""
 from __future__ import annotations
 
 import re
@@ -15,21 +16,16 @@ Drawn = TypeVar("Drawn")
 Draw = Callable[["st.SearchStrategy[Any]"], Any]
 LONGEST = 100_000
 WORDS: list[bytes] = [
-    *(
-        b"0 1 7 007 -1 +1 1000000 1000001 4294967295 4294967296 10000000000000000 10000000000000001 0x10 1_000 1e3".split()
-    ),
+    *b"0 1 7 007 -1 +1 1000000 1000001 4294967295 4294967296 0x10 1_000 1e3".split(),
+    *b"10000000000000000 10000000000000001 inf true r1 E W 10/1 END PLAN SHORTAGE HS_SITE -- - --index \\u0041".split(),
     *(b'\n \r \r\n \n\n , ,, " "" # = [ ] [[ ]] { } . / @ \t \xff \xc3\xa9 \xef\xbb\xbf \'\'\' """'.split(b" ")),
-    *(b"inf true r1 E W 10/1 END PLAN SHORTAGE HS_SITE -- - --index \\u0041".split()),
     *(b"[[site]]\n;[[host]]\n;name = ;record = ;index = ;address = ;limit = ;HSPLAN 2\n;cost ;use ;row ".split(b";")),
     *(b"server ;host ;demand ;capacity ;--values list.values;--kind load;--fronts 2; ;\0".split(b";")),
 ]
 NUMBERS = [0, 1, 2, 7, 255, 1023, 1024, 1025, 65535, 2**31, 2**31 - 1, 2**32 - 1]
 
 
-def pick(options: Sequence[Drawn]) -> st.SearchStrategy[Drawn]:
-    return st.sampled_from(options)
-
-
+pick = st.sampled_from
 # Strategies that are made once: to make one takes longer than to draw. Numbers at the ends of 32 bits come often.
 NUMBER = st.one_of(pick(NUMBERS), pick(NUMBERS), st.integers(0, 2**32 - 1))
 OCTET, FOUR, SIX = st.binary(min_size=1, max_size=1), st.binary(max_size=4), st.binary(max_size=6)
@@ -122,9 +118,6 @@ MORE = [b"x", b"0\n", b"\n", b"a,b,c\n", b"r1,E,1\n", b"row 1 1\n", bytes(4)]
 WHERE = st.builds(Where, PART, pick(MORE), PART, pick([1, 2, 3, 7, 64, 1000]))
 
 
-# ---- records, values and bodies (RFC 3651, section 3; RFC 3652, section 3): each a list of its fields
-
-
 def number(value: int, width: int = 4) -> bytes:
     return value.to_bytes(width, "big")
 
@@ -210,10 +203,9 @@ SOME_SITES = st.lists(SITE, min_size=1, max_size=5)
 
 @st.composite
 def services(draw: Draw) -> Service:
-    first = draw(TEN)
     sites = [
-        Site(SITES[(first + at) % len(SITES)], option, tuple(range(own, own + 7 * count, 7)))
-        for at, (option, own, count) in enumerate(draw(SOME_SITES))
+        Site(SITES[at % len(SITES)], option, tuple(range(own, own + 7 * count, 7)))
+        for at, (option, own, count) in enumerate(draw(SOME_SITES), draw(TEN))
     ]
     costs = {(region, site.name): draw(FEW) for region in REGIONS[:-1] for site in sites if draw(OFTEN)}
     return Service(tuple(sites), costs, not draw(OFTEN), draw(HOSTS))
@@ -236,8 +228,8 @@ class Planned(NamedTuple):
         """The certificate. No server and no host is full, so their prices are 0, and that of a row is its least cost."""
         least = [cheapest(service, region)[0] for region, _, _ in self.rows]
         servers = sum(len(site.servers) for site in service.sites)
-        lines = [f"HSPLAN {2 if service.hosts else 1}", "PLAN"]
-        lines.append(f"cost {sum(use.number * least[use.row] for use in self.uses)}")
+        cost = sum(use.number * least[use.row] for use in self.uses)
+        lines = [f"HSPLAN {2 if service.hosts else 1}", "PLAN", f"cost {cost}"]
         lines += [f"use {use.row} {use.site} {use.number}" for use in self.uses]
         lines += [f"row {at} {price}" for at, price in enumerate(least)]
         lines += [f"server {at} 0" for at in range(servers)] + [f"host {at} 0" for at in range(service.hosts)]
@@ -295,31 +287,21 @@ class Log(NamedTuple):
         return ",".join([region] * self.has_regions + [handle] + [count] * self.has_counts).encode()
 
 
+# Rows that are refused, of handles and of bodies, by the words of their faults.
+OF_HANDLES = {
+    "NoSlash": b"eu,10",
+    "EmptySegment": b"eu,/x",
+    "NotUtf8": b"eu,10/\xff",
+    "TooLong": b"eu,10/" + b"x" * 4094,
+}
+REFUSED_HANDLES = [(row, f"BadHandle {word}") for word, row in OF_HANDLES.items()]
+REFUSED_BODIES = [(b"eu,zz", "BadBody"), (b"eu,", "BadBody"), (b"eu,000000023130" + b"00" * 8, "BadHandle NoSlash")]
 REFUSED = {
-    False: [
-        *((row, "Fields") for row in (b"eu", b"eu,10/1,")),
-        *((b"eu,10", "BadHandle NoSlash"), (b"eu,/x", "BadHandle EmptySegment")),
-        *((b"eu,10/\xff", "BadHandle NotUtf8"), (b"eu,10/" + b"x" * 4094, "BadHandle TooLong")),
-    ],
-    True: [
-        *((row, "Fields") for row in (b"eu", b"eu,00,")),
-        *((row, "BadBody") for row in (b"eu,zz", b"eu,")),
-        (b"eu," + body_of(b"10").hex().encode(), "BadHandle NoSlash"),
-    ],
+    False: pick([(b"eu", "Fields"), (b"eu,10/1,", "Fields"), *REFUSED_HANDLES]),
+    True: pick([(b"eu", "Fields"), (b"eu,00,", "Fields"), *REFUSED_BODIES]),
 }
 COUNT, END = pick([0, 1, 7, 900, oracle.GREATEST_COUNT, 10**12]), pick([b"\n", b"\n", b"\n", b"\r\n"])
 MARK, BLANK, ROWS = pick([b"", b"", b"", b"\xef\xbb\xbf"]), pick([0, 0, 1, 5]), st.integers(0, 30)
-REFUSED_OF = {has_bodies: pick(rows) for has_bodies, rows in REFUSED.items()}
-
-
-def _entry(draw: Draw, log: Log, command: str, named: Sequence[tuple[str, str]]) -> Entry:
-    """A row, most often one of those that are named."""
-    if command == "answer" and draw(TEN) == 0:
-        return Entry("", "", 1, *draw(REFUSED_OF[log.has_bodies]))
-    count = draw(COUNT) if log.has_counts else 1
-    if named and draw(OFTEN):
-        return Entry(*named[at_random(draw, len(named) - 1)], count)
-    return Entry(draw(REGION), draw(ANY_HANDLE if command == "kinds" else HANDLE), count)
 
 
 @st.composite
@@ -331,7 +313,10 @@ def logs(draw: Draw, command: str, rows: Sequence[oracle.Row] = ()) -> Log:
     log = Log([], has_regions, has_counts, has_bodies, draw(END), draw(MARK), draw(BLANK), draw(OFTEN))
     named = [(region, handle) for region, handle, _ in rows if not set(handle) & set("\r\n")]
     for _ in range(draw(ROWS)):
-        entry = _entry(draw, log, command, named)
-        log.entries.append(entry)
-        named += [] if entry.refused else [(entry.region, entry.handle)]
+        if command == "answer" and draw(TEN) == 0:
+            log.entries.append(Entry("", "", 1, *draw(REFUSED[has_bodies])))
+            continue
+        if not named or not draw(OFTEN):
+            named.append((draw(REGION), draw(ANY_HANDLE if command == "kinds" else HANDLE)))
+        log.entries.append(Entry(*named[at_random(draw, len(named) - 1)], draw(COUNT) if has_counts else 1))
     return log

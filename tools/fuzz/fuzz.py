@@ -21,6 +21,7 @@ import os
 import sys
 import tempfile
 import traceback
+from itertools import repeat
 from pathlib import Path
 from typing import Any
 
@@ -37,8 +38,8 @@ def kinds() -> dict[str, Any]:
     return {**judges.KINDS, **stream_judges.KINDS}
 
 
-def judged(name: str, asked: argparse.Namespace, preloaded: str) -> tuple[str, int, str]:
-    """The kind of cases, how many runs it took, and the fault that was found, if there is one."""
+def judged(name: str, asked: argparse.Namespace, preloaded: str) -> tuple[int, str]:
+    """How many runs a kind of cases took, and the fault that was found, if there is one."""
     from draws import WHERE
     from hypothesis import HealthCheck, given, seed, settings
     from runner import Runner
@@ -58,7 +59,7 @@ def judged(name: str, asked: argparse.Namespace, preloaded: str) -> tuple[str, i
     except Exception:
         fault = f"--seed {asked.seed}: {name}: {traceback.format_exc()}"
     program.end()
-    return name, program.runs, fault
+    return program.runs, fault
 
 
 def main() -> int:
@@ -77,9 +78,8 @@ def main() -> int:
     faults = 0
     with tempfile.TemporaryDirectory() as room, concurrent.futures.ProcessPoolExecutor(given.jobs) as pool:
         preloaded = runner.built(room)
-        done = [pool.submit(judged, name, given, preloaded) for name in chosen]
-        for one in concurrent.futures.as_completed(done):
-            name, runs, fault = one.result()
+        answers = pool.map(judged, chosen, repeat(given), repeat(preloaded))
+        for name, (runs, fault) in zip(chosen, answers):
             faults += bool(fault)
             print(fault or f"{name}: {given.cases} cases, {runs} runs", flush=True)
     print(f"fuzz: {len(chosen)} kinds, {given.cases} cases each, {faults} faults")

@@ -55,10 +55,9 @@ def judge_settings(program: Runner, text: bytes, where: Where) -> None:
         same("a comment behind", places, over(program, LOCATE, "settings.toml", text + b"\n# a comment\n"))
 
 
-def judge_table(table: str, program: Runner, text: bytes, where: Where) -> None:
-    name = f"{table}.csv"
+def judge_table(name: str, program: Runner, text: bytes, where: Where) -> None:
     plan = judge_plan(name, program, text, where)
-    if plan.fault.startswith(f"{table}: ".encode()) and ends_plainly(text):
+    if plan.fault.startswith(name.encode()[:-4] + b": ") and ends_plainly(text):
         same("rows behind a fault", plan, over(program, PLAN, name, where.continued(text)))
 
 
@@ -179,19 +178,19 @@ RECORDS = texts(RECORD, "one_server.site", "one_octet_more.site")
 REGIONS = pick([b"r1", b"r1", b"r2", b"r2", b"r9"])
 ROW = st.tuples(REGIONS, pick([b"10/1", b"10/2", b"10/3", b"10/3", b"10/4", b"10.1/x"]))
 HANDLES, INDICES = pick([b"10/3", b"10/1", b"10.1/a/b", b"10/"]), st.lists(st.integers(0, 2**32 - 1), max_size=3)
-WORDS = changed(pick([case.words[:-1] for case in CASES if case.words]))
+WORDS = pick([case.words[:-1] for case in CASES if case.words])
 KINDS = {
     "settings": Kind(texts("settings.toml", "by_index.toml"), judge_settings),
     "values": Kind(texts(LIST, "other_type.values"), partial(judge_octets, b"site --index 1 list.values", LIST)),
     "record": Kind(RECORDS, partial(judge_octets, b"site two_servers.site", RECORD)),
     "body": Kind(st.tuples(REGIONS, changed(HANDLES), INDICES), judge_body),
-    "demand": Kind(texts("demand.csv", "short.csv"), partial(judge_table, "demand")),
-    "costs": Kind(texts("costs.csv"), partial(judge_table, "costs")),
-    "capacity": Kind(texts("capacity.csv"), partial(judge_table, "capacity")),
+    "demand": Kind(texts("demand.csv", "short.csv"), partial(judge_table, "demand.csv")),
+    "costs": Kind(texts("costs.csv"), partial(judge_table, "costs.csv")),
+    "capacity": Kind(texts("capacity.csv"), partial(judge_table, "capacity.csv")),
     "plan": Kind(texts("plan.txt", "shortage.txt", "idle_price.txt"), judge_certificate),
     "log": Kind(texts("log.csv"), partial(judge_log, "log.csv")),
     "events": Kind(texts("events.csv"), partial(judge_log, "events.csv")),
-    "words": Kind(WORDS, lambda program, text, _: answered(program, text.split(b"\n")[0], BASE)),
+    "words": Kind(changed(WORDS), lambda program, text, _: answered(program, text.split(b"\n")[0], BASE)),
     "written_record": Kind(draws.RECORD, partial(judge_written, RECORD)),
     "written_values": Kind(draws.VALUES, partial(judge_written, LIST)),
     "written_log": Kind(st.lists(ROW, max_size=30), judge_written_log),

@@ -7,7 +7,6 @@
 #define _GNU_SOURCE
 #include <dlfcn.h>
 #include <errno.h>
-#include <fcntl.h>
 #include <malloc.h>
 #include <setjmp.h>
 #include <stdint.h>
@@ -74,7 +73,6 @@ void free(void *place)
 
 int open(const char *path, int flags, ...)
 {
-    (void)flags;
     for (uint64_t at = 2; at < asked.count; at += 2)
         if (!strcmp(texts[at].octets, path)) {
             texts[at + 1].at = 0;
@@ -112,7 +110,6 @@ ssize_t write(int descriptor, const void *octets, size_t length)
 
 int close(int descriptor)
 {
-    (void)descriptor;
     return 0;
 }
 
@@ -167,7 +164,6 @@ static int run(int count, char **arguments, char **means)
 int __libc_start_main(main_function *main, int count, char **given, void *first, void *last, void *unload, void *stack)
 {
     start_function *const start = (start_function *)dlsym(RTLD_NEXT, "__libc_start_main");
-    (void)count, (void)last, (void)unload;
     program = main;
     arguments[0] = given[0];
     for (;;) {

@@ -42,14 +42,9 @@ HANDLE = "(TooLong|NotUtf8|NoSlash|EmptySegment)"
 # The bounds of memory in octets and of time in seconds, and what each octet of the input adds.
 MEMORY, MEMORY_EACH = {"hsplan": 1 << 19, "hsplan-stream": 1 << 20}, 200
 SECONDS, SECONDS_EACH = 0.1, 0.00002
-FORMS = {
-    name: [
-        (int(line[0]), re.compile(f"(?:{line[2:]})".encode()))
-        for line in (BOTH + own).replace("#", "[0-9]+").replace("@", HANDLE).splitlines()
-        if line
-    ]
-    for name, own in OWN.items()
-}
+# The forms of a status with its line.
+FORMS = {name: (BOTH + own).replace("#", "[0-9]+").replace("@", HANDLE) for name, own in OWN.items()}
+FORM = {name: re.compile(re.sub(r"\n*(.) (.*)\n", r"|\1 (?:\2)", text).encode()) for name, text in FORMS.items()}
 # The structures of runner.c, the most texts of a request, and a number beyond all lengths.
 MOST_TEXTS, WHOLE = 98, 2**62
 REQUEST, ANSWER = struct.Struct(f"={3 + MOST_TEXTS}Q"), struct.Struct("=q8Q")
@@ -78,7 +73,8 @@ class Answer(NamedTuple):
 def built(folder: str) -> str:
     """The library that is preloaded before a program, compiled into a folder."""
     made, source = os.path.join(folder, "runner.so"), os.path.join(programs.TOP, "tools", "fuzz", "runner.c")
-    subprocess.run(["cc", "-O2", "-Wall", "-Wextra", "-shared", "-fPIC", "-o", made, source, "-ldl"], check=True)
+    words = "cc -O2 -Wall -Wextra -Wno-unused-parameter -shared -fPIC -ldl -o".split()
+    subprocess.run([*words, made, source], check=True)
     return made
 
 
@@ -97,14 +93,14 @@ class Runner:
             self._process = None
 
     def run(
-        self, words: bytes, files: Files, by_words: bool = False, piece: int = WHOLE, watched: int = WHOLE
+        self, words: bytes, files: Files, by_words: bool = False, piece: int = WHOLE, noted: int = WHOLE
     ) -> Answer:
         """Runs the program on these files. The words stand on its standard input, or are its arguments."""
         self.runs += 1
         texts = [words, b""] if by_words else [b"", words + b"\n"]
         texts += [it for name, text in files.items() for it in (name.encode(), text)]
         lengths = [*map(len, texts), *[0] * (MOST_TEXTS - len(texts))]
-        request = REQUEST.pack(piece, watched, len(texts), *lengths) + b"".join(text + b"\0" for text in texts)
+        request = REQUEST.pack(piece, noted, len(texts), *lengths) + b"".join(text + b"\0" for text in texts)
         pipe = subprocess.PIPE
         self._process = self._process or subprocess.Popen(
             [self.name], executable=self.path, env=self.means, stdin=pipe, stdout=pipe
@@ -120,9 +116,9 @@ class Runner:
             self.end()
             raise AssertionError(f"the program ended its process, or took a minute: {words[:300]!r}") from ended
         status, most, held, spent, is_noted, given, before = numbers[:7]
-        noted, head = (given, before) if is_noted else None, f"{self.name}: ".encode()
+        seen, head = (given, before) if is_noted else None, f"{self.name}: ".encode()
         fault = reported[len(head) : -1] if reported.startswith(head) else b""
-        return Answer(printed, reported, status, fault, most, held, spent / 1e6, noted)
+        return Answer(printed, reported, status, fault, most, held, spent / 1e6, seen)
 
 
 def is_suiting(name: str, words: bytes, answer: Answer) -> bool:
@@ -133,10 +129,10 @@ def is_suiting(name: str, words: bytes, answer: Answer) -> bool:
     if fault:
         # Only the commands that print as they read print something before they meet a fault.
         may_print = b"dispatch" in words or fault.startswith(b"log: ") and answer.printed.startswith(b"handle,site,")
-        statuses = [status for status, form in FORMS[name] if form.fullmatch(fault)]
-        return statuses == [answer.status] and answer.status > 0 and (not answer.printed or may_print)
+        is_own = FORM[name].fullmatch(b"%d %s" % (answer.status, fault)) and answer.status > 0
+        return bool(is_own) and (not answer.printed or may_print)
     is_no = answer.status == 3 and answer.printed.startswith((b"no ", b"HSPLAN 1\nSHORTAGE\n"))
-    has_sums = re.search(rb"dispatch|answer", words) and FORMS[name][-1][1].fullmatch(line[:-1])
+    has_sums = re.search(rb"dispatch|answer", words) and FORM[name].fullmatch(b"0 " + line[:-1])
     return (answer.status == 0 or is_no) and (not line or bool(has_sums))
 
 

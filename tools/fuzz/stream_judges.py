@@ -5,7 +5,7 @@ from __future__ import annotations
 import csv
 import io
 import re
-from collections.abc import Callable, Mapping
+from collections.abc import Mapping
 from functools import partial
 from typing import NamedTuple
 
@@ -56,7 +56,7 @@ class Case(NamedTuple):
 
     def answer(self, program: Runner, files: Mapping[str, bytes] = {}, piece: int = WHOLE, at: int = WHOLE) -> Answer:
         """The answer where these texts stand in place of files."""
-        return answered(program, self.words(), {**self.files(), **files}, piece=piece, watched=at)
+        return answered(program, self.words(), {**self.files(), **files}, piece=piece, noted=at)
 
 
 def judge_log(program: Runner, case: Case, where: Where) -> Answer:
@@ -66,7 +66,7 @@ def judge_log(program: Runner, case: Case, where: Where) -> Answer:
     log = case.text if case.name else case.log.text
     whole = case.answer(program, {"log.csv": log})
     if not whole.fault:
-        JUDGES[case.command](program, case, whole)
+        {"kinds": judge_table, "places": judge_places, "answer": judge_sums}[case.command](program, case, whole)
     pieces = case.answer(program, {"log.csv": log}, where.piece, where.part * (len(log) + 1) >> 16)
     same("in pieces", whole, pieces)
     if pieces.noted:
@@ -99,9 +99,8 @@ def judge_table(program: Runner, case: Case, answer: Answer) -> None:
 def judge_places(_: Runner, case: Case, answer: Answer) -> None:
     """Each handle has a line for each site, with the server that its hash names."""
     rows = rows_of(case, answer)
-    wanted = {line for handle in {row[0] for row in rows} for line in case.service.places(handle)}
-    lines = {(handle, site, int(place), int(own)) for handle, site, place, own in rows}
-    assert lines == wanted, f"lines: {answer}"
+    wanted = [line for row in rows[:: len(case.service.sites)] for line in case.service.places(row[0])]
+    assert rows == [[str(field) for field in line] for line in wanted], f"lines: {answer}"
 
 
 def judge_sums(_: Runner, case: Case, answer: Answer) -> None:
@@ -112,10 +111,6 @@ def judge_sums(_: Runner, case: Case, answer: Answer) -> None:
     for at, site in enumerate(case.service.sites):
         most = (case.unit or 1) * sum(use.number for use in case.shares() if use.site == at)
         assert named.count(site.name) <= most, f"more than the plan: {most} to {site.name}: {answer}"
-
-
-JUDGES: dict[str, Callable[[Runner, Case, Answer], None]]
-JUDGES = {"kinds": judge_table, "places": judge_places, "answer": judge_sums}
 
 
 def wanted_of(case: Case) -> cases.Ended:
@@ -139,11 +134,19 @@ def wanted_of(case: Case) -> cases.Ended:
 
 
 def judge_written(program: Runner, case: Case, where: Where) -> None:
+    """Judges an answer by the oracle. Settings in another spelling have the same one, and other costs to the same
+    sites, in another order, make the same table."""
     answer, wanted = judge_log(program, case, where), wanted_of(case)
     assert answer.said == wanted, f"what was written: {answer.said}, wanted {wanted}"
+    if case.command != "answer":
+        same("another spelling", answer, case.answer(program, respelt(case, where)))
     if case.command == "kinds":
-        turned = case.service._replace(sites=case.service.sites[::-1])
+        service = case.service
+        turned = service._replace(sites=service.sites[::-1])
         same("sites turned round", answer, case._replace(service=turned).answer(program))
+        costs = {pair: (7 * at + where.order) % 1_000_001 for at, pair in enumerate(service.costs)}
+        other = where.reordered(service._replace(costs=costs).files(), "costs.csv")
+        same("other costs", answer, case.answer(program, other))
         judge_served(program, case)
 
 
@@ -160,15 +163,11 @@ def judge_served(program: Runner, case: Case) -> None:
     assert answer.reported == sums, f"a plan of the table: {answer}"
 
 
-def judge_settings(program: Runner, case: Case, where: Where) -> None:
-    """Settings in another spelling have the same answer. `kinds` and `places` refuse settings alike."""
-    kinds = case._replace(log=SHORT_LOG)
-    places, texts = kinds._replace(command="places", unit=0), {"settings.toml": case.text}
-    if not case.name:
-        for each in (kinds, places):
-            same("another spelling", each.answer(program), each.answer(program, respelt(case, where)))
-        return
-    of_kinds, of_places = kinds.answer(program, texts), places.answer(program, texts)
+def judge_settings(program: Runner, case: Case, _: Where) -> None:
+    """`kinds` and `places` refuse settings alike, and a comment behind changes nothing."""
+    kinds, texts = case._replace(log=SHORT_LOG), {"settings.toml": case.text}
+    of_kinds = kinds.answer(program, texts)
+    of_places = kinds._replace(command="places", unit=0).answer(program, texts)
     if of_places.fault:
         same("settings", of_places, of_kinds)
     else:
@@ -179,27 +178,21 @@ def judge_settings(program: Runner, case: Case, where: Where) -> None:
 
 def respelt(case: Case, where: Where) -> dict[str, bytes]:
     """The settings in other ways of TOML, and without the hosts."""
-    quote = ['"', "'", '"""', "'''"][where.order % 4]
-    equals, end = [" = ", "=", "\t=  "][where.order % 3], ["\n", "\r\n", ' # "x"\n', "\n\n"][where.piece % 4]
+    quote, end = ['"', "'", '"""', "'''"][where.order % 4], ["\n", "\r\n", ' # "x"\n', "\n\n"][where.piece % 4]
+    equals, head = [" = ", "=", "\t=  "][where.order % 3], ["[[site]]\n", ' [[ "site" ]] # x\n'][where.part % 2]
     text = case.service._replace(hosts=0).settings().decode()
     text = re.sub(r'^(\w+) = "(.*)"\n', rf"\1{equals}{quote}\2{quote}{end}", text, flags=re.M)
-    text = text.replace("[[site]]\n", ' [[ "site" ]] # x\n' if where.part % 2 else "[[site]]\n")
-    return {"settings.toml": text.encode()}
+    return {"settings.toml": text.replace("[[site]]\n", head).encode()}
 
 
 def judge_costs(program: Runner, case: Case, where: Where) -> None:
-    """Other costs to the same sites, in another order, make the same table."""
-    text = case.text
-    if not case.name:
-        costs = {pair: (7 * at + where.order) % 1_000_001 for at, pair in enumerate(case.service.costs)}
-        other = where.reordered(case.service._replace(costs=costs).files(), "costs.csv")
-        same("other costs", case.answer(program), case.answer(program, other))
-        return
-    answer = case.answer(program, {"costs.csv": text})
+    """Rows behind a fault change nothing, nor does another order."""
+    texts = {"costs.csv": case.text}
+    answer = case.answer(program, texts)
     is_refused = answer.fault.startswith(b"costs: ")
-    if ends_plainly(text, b"region,") and (is_refused or not answer.fault):
-        ordered = where.reordered({"costs.csv": text}, "costs.csv")
-        other = {"costs.csv": where.continued(text)} if is_refused else ordered
+    if ends_plainly(case.text, b"region,") and (is_refused or not answer.fault):
+        continued = {"costs.csv": where.continued(case.text)}
+        other = continued if is_refused else where.reordered(texts, "costs.csv")
         same("rows behind a fault or in another order", answer, case.answer(program, other))
 
 
@@ -246,17 +239,17 @@ def drawn(draw: Draw, command: str, names: st.SearchStrategy[str] = st.just(""))
     case = Case(command, service, planned, draw(logs(command, planned.rows)), unit, fronts, front, draw(names))
     if not case.name:
         return case
-    own = OWN.get(command if case.name == "log.csv" else case.name)
-    is_own = own and draw(FEW) == 0
-    text = draw(own) if own and is_own else {"words": case.words(), **case.files()}[case.name]
+    own = command if case.name == "log.csv" else case.name
+    is_own = own in OWN and draw(FEW) == 0
+    text = draw(OWN[own]) if is_own else {"words": case.words(), **case.files()}[case.name]
     return case._replace(text=text if is_own and draw(BOOLEAN) else draw(changed(st.just(text))))
 
 
 FILES = ["demand.csv", "costs.csv", "capacity.csv", "plan.txt", "plan.txt"]
 KINDS: dict[str, Kind] = {
     "stream_words": Kind(pick(sorted(WORDS)).flatmap(partial(drawn, names=pick(["", "words"]))), judge_words, NAME),
-    "stream_settings": Kind(drawn("kinds", pick(["", "settings.toml"])), judge_settings, NAME),
-    "stream_costs": Kind(drawn("kinds", pick(["", "costs.csv"])), judge_costs, NAME),
+    "stream_settings": Kind(drawn("kinds", st.just("settings.toml")), judge_settings, NAME),
+    "stream_costs": Kind(drawn("kinds", st.just("costs.csv")), judge_costs, NAME),
     "stream_plan": Kind(drawn("answer", pick(FILES)), judge_plan, NAME),
     **{command: Kind(drawn(command, st.just("log.csv")), judge_log, NAME) for command in WORDS},
     **{f"written_{command}": Kind(drawn(command), judge_written, NAME) for command in WORDS},
