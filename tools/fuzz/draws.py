@@ -5,19 +5,16 @@ from __future__ import annotations
 import re
 from collections.abc import Callable, Iterable, Mapping, Sequence
 from itertools import accumulate, chain
-from typing import Any, NamedTuple, TypeVar
+from typing import Any, NamedTuple
 
 from hypothesis import strategies as st
 
-from lib import oracle
-from lib.oracle import Service, Site, Use, field_of
+from lib.oracle import GREATEST_COUNT, Row, Service, Site, Use, field_of
 
-Drawn = TypeVar("Drawn")
 Draw = Callable[["st.SearchStrategy[Any]"], Any]
-LONGEST = 100_000
 WORDS: list[bytes] = [
-    *b"0 1 7 007 -1 +1 1000000 1000001 4294967295 4294967296 0x10 1_000 1e3".split(),
-    *b"10000000000000000 10000000000000001 inf true r1 E W 10/1 END PLAN SHORTAGE HS_SITE -- - --index \\u0041".split(),
+    *b"0 1 7 007 -1 +1 1000000 1000001 4294967295 4294967296 0x10 1_000 1e3 --index".split(),
+    *b"10000000000000000 10000000000000001 inf true r1 E W 10/1 END PLAN SHORTAGE HS_SITE -- - \\u0041".split(),
     *(b'\n \r \r\n \n\n , ,, " "" # = [ ] [[ ]] { } . / @ \t \xff \xc3\xa9 \xef\xbb\xbf \'\'\' """'.split(b" ")),
     *(b"[[site]]\n;[[host]]\n;name = ;record = ;index = ;address = ;limit = ;HSPLAN 2\n;cost ;use ;row ".split(b";")),
     *(b"server ;host ;demand ;capacity ;--values list.values;--kind load;--fronts 2; ;\0".split(b";")),
@@ -79,7 +76,7 @@ def changed(draw: Draw, texts: st.SearchStrategy[bytes]) -> bytes:
     """A text with one to four changes."""
     text: bytes = draw(texts)
     for _ in range(draw(CHANGES)):
-        text = draw(CHANGE)(draw, text)[:LONGEST]
+        text = draw(CHANGE)(draw, text)[:100_000]
     return text
 
 
@@ -103,7 +100,7 @@ class Where(NamedTuple):
     def continued(self, text: bytes) -> bytes:
         return text + self.more + self.cut(text)
 
-    def ordered(self, parts: Sequence[Drawn]) -> list[Drawn]:
+    def ordered(self, parts: Sequence[Any]) -> list[Any]:
         """The parts in another order."""
         places = sorted(range(len(parts)), key=lambda at: hash((self.order, at)))
         return [parts[at] for at in places]
@@ -184,7 +181,6 @@ TAIL = st.tuples(OCTET, OCTET, QUAD, st.tuples(QUAD, QUAD).map(b"".join))
 VALUE = st.tuples(RECORD, TYPE, TAIL, st.lists(st.tuples(SIX, QUAD), max_size=3))
 VALUES = st.builds(_listed, pick([0, 3, 9, 2**32 - 16]), FEW, st.lists(VALUE, max_size=3))
 
-# Services, their demands and plans.
 REGIONS = ("eu", "us", "asia", "mars")
 SITES = ("alpha", "beta", "g-1_.x", "Delta", "e")
 HANDLES = [
@@ -196,7 +192,7 @@ HANDLES = [
 ANY_HANDLES = [*HANDLES, "10/two\rlines", "10/two\nlines"]
 REGION, HANDLE, ANY_HANDLE = pick(REGIONS), pick(HANDLES), pick(ANY_HANDLES)
 NAMES = st.lists(st.tuples(REGION, ANY_HANDLE), max_size=8, unique=True)
-MOST, HOSTS = pick([2, 4, 10, oracle.GREATEST_COUNT]), pick([0, 0, 1, 3])
+MOST, HOSTS = pick([2, 4, 10, GREATEST_COUNT]), pick([0, 0, 1, 3])
 SITE = st.tuples(st.integers(0, 2), PART, pick([1, 1, 2, 2, 3, 4, 7, 12]))
 SOME_SITES = st.lists(SITE, min_size=1, max_size=5)
 
@@ -221,11 +217,11 @@ def cheapest(service: Service, region: str) -> tuple[int, list[int]]:
 class Planned(NamedTuple):
     """A demand, and how much of it a cheapest plan sends to each site."""
 
-    rows: list[oracle.Row]
+    rows: list[Row]
     uses: list[Use]
 
     def text(self, service: Service) -> bytes:
-        """The certificate. No server and no host is full, so their prices are 0, and that of a row is its least cost."""
+        """The certificate. No server or host is full, so their prices are 0; that of a row is its least cost."""
         least = [cheapest(service, region)[0] for region, _, _ in self.rows]
         servers = sum(len(site.servers) for site in service.sites)
         cost = sum(use.number * least[use.row] for use in self.uses)
@@ -288,24 +284,24 @@ class Log(NamedTuple):
 
 
 # Rows that are refused, of handles and of bodies, by the words of their faults.
-OF_HANDLES = {
+BAD = {
     "NoSlash": b"eu,10",
     "EmptySegment": b"eu,/x",
     "NotUtf8": b"eu,10/\xff",
     "TooLong": b"eu,10/" + b"x" * 4094,
 }
-REFUSED_HANDLES = [(row, f"BadHandle {word}") for word, row in OF_HANDLES.items()]
+REFUSED_HANDLES = [(row, f"BadHandle {word}") for word, row in BAD.items()]
 REFUSED_BODIES = [(b"eu,zz", "BadBody"), (b"eu,", "BadBody"), (b"eu,000000023130" + b"00" * 8, "BadHandle NoSlash")]
 REFUSED = {
     False: pick([(b"eu", "Fields"), (b"eu,10/1,", "Fields"), *REFUSED_HANDLES]),
     True: pick([(b"eu", "Fields"), (b"eu,00,", "Fields"), *REFUSED_BODIES]),
 }
-COUNT, END = pick([0, 1, 7, 900, oracle.GREATEST_COUNT, 10**12]), pick([b"\n", b"\n", b"\n", b"\r\n"])
+COUNT, END = pick([0, 1, 7, 900, GREATEST_COUNT, 10**12]), pick([b"\n", b"\n", b"\n", b"\r\n"])
 MARK, BLANK, ROWS = pick([b"", b"", b"", b"\xef\xbb\xbf"]), pick([0, 0, 1, 5]), st.integers(0, 30)
 
 
 @st.composite
-def logs(draw: Draw, command: str, rows: Sequence[oracle.Row] = ()) -> Log:
+def logs(draw: Draw, command: str, rows: Sequence[Row] = ()) -> Log:
     """Logs whose rows are accepted, or by `answer` refused; many of a demand's rows are asked for."""
     has_regions = command != "places" or draw(BOOLEAN)
     has_counts = command == "kinds" and draw(BOOLEAN)

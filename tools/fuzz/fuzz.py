@@ -4,14 +4,14 @@ answers.
 
     tools/fuzz/fuzz.py [--cases N] [--jobs N] [--seed S] [--kinds KIND,..] [--program FILE] [--stream FILE]
 
-Hypothesis (Debian's python3-hypothesis) draws the inputs by the seed, N of each kind, and makes one smaller at which a
-judge finds a fault. A program runs on them again and again in one process, tools/fuzz/runner.c preloaded, with words
-and files in memory.
+Hypothesis (Debian's python3-hypothesis) draws the inputs by the seed, N of each kind, and makes one smaller at which
+a judge finds a fault. A program runs on them again and again in one process, tools/fuzz/runner.c preloaded, with
+words and files in memory.
 
-Of every answer holds: two runs agree; the line on standard error is one of the program's own, and the status suits it;
-the program gives back all its memory; time and memory are within a bound that is linear in the octets of the input.
-The rest stands with each judge: of hsplan in tools/fuzz/judges.py, of hsplan-stream in tools/fuzz/stream_judges.py,
-where the answers to written logs are those of tools/lib/oracle.py. The gate doesn't run this script.
+Of every answer holds: two runs agree; the line on standard error is one of the program's own, and the status suits
+it; the program gives back all its memory; time and memory are within a bound that is linear in the octets of the
+input. The rest stands with each judge: of hsplan in tools/fuzz/judges.py, of hsplan-stream in stream_judges.py beside
+it, where the answers to written logs are those of tools/lib/oracle.py. The gate doesn't run this script.
 """
 from __future__ import annotations
 
@@ -72,13 +72,12 @@ def main() -> int:
         words.add_argument(option, dest=name, metavar="FILE", default=programs.built_path(name))
     given = words.parse_args()
     packages.install(packages.absent(["python3-hypothesis"]))
-    import runner
+    from runner import built
 
     chosen = [name for name in kinds() if not given.kinds or name in given.kinds.split(",")]
     faults = 0
     with tempfile.TemporaryDirectory() as room, concurrent.futures.ProcessPoolExecutor(given.jobs) as pool:
-        preloaded = runner.built(room)
-        answers = pool.map(judged, chosen, repeat(given), repeat(preloaded))
+        answers = pool.map(judged, chosen, repeat(given), repeat(built(room)))
         for name, (runs, fault) in zip(chosen, answers):
             faults += bool(fault)
             print(fault or f"{name}: {given.cases} cases, {runs} runs", flush=True)

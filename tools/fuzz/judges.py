@@ -100,7 +100,7 @@ def judge_written(name: str, program: Runner, written: Written, where: Where) ->
 
 
 def judge_certificate(program: Runner, text: bytes, where: Where) -> None:
-    """A dispatcher takes a text exactly where `check` says yes to it, and otherwise refuses it for the same reason."""
+    """A dispatcher takes a text exactly where `check` says yes to it, and else refuses it for the same reason."""
     verdict = over(program, CHECK, "plan.txt", text)
     dispatched = over(program, DISPATCH + b"log.csv", "plan.txt", text)
     if verdict.printed.startswith(b"no "):
@@ -124,8 +124,7 @@ def judge_lines(answer: Answer, is_of_fronts: bool) -> None:
     assert all(map(form.fullmatch, lines)), f"a line: {answer}"
     assert sum(line.startswith("assigned") for line in lines) <= 12, f"more than the plan: {answer}"
     if not is_of_fronts and not answer.status:
-        sums = oracle.sums_of(lines).replace(" refused 0", "")
-        assert answer.reported == sums.encode(), f"sums: {answer}"
+        assert answer.reported.decode() == oracle.sums_of(lines).replace(" refused 0", ""), f"sums: {answer}"
 
 
 def judge_log(name: str, program: Runner, text: bytes, where: Where) -> None:

@@ -1,8 +1,8 @@
 /* Preloaded before a program, it runs the program again and again in one process: each time on words, files and a
  * standard input that are held in memory.
  *
- * A request comes through the process's own standard input: `struct request`, and then its texts, each with a zero
- * behind it: the words, the standard input, and the name and the octets of each file. The answer goes to the process's
+ * A request comes on the process's own standard input: `struct request`, and then its texts, each with a zero
+ * behind it: the words, the standard input, the name and the octets of each file. The answer goes to the process's
  * own standard output: `struct answer`, and both texts that were printed. */
 #define _GNU_SOURCE
 #include <dlfcn.h>
@@ -31,9 +31,9 @@ static struct request {
     uint64_t piece, watched, count, lengths[MOST_TEXTS];
 } asked;
 
-/* The status of a run, the most octets of memory that it held at once, those that it held at its end, its microseconds,
- * of the first read of the log behind the watched octets whether there was one, and how many octets were given and
- * printed before it, and the lengths of both texts. */
+/* The status of a run, the most octets of memory that it held at once, those that it held at its end, microseconds,
+ * of the first read of the log behind the watched octets whether there was one, how many octets were given and printed
+ * before it, and the lengths of both texts. */
 static struct answer {
     int64_t status;
     uint64_t most, held, spent, is_noted, given, before, printed, reported;
@@ -161,11 +161,11 @@ static int run(int count, char **arguments, char **means)
 }
 
 /* Starts the program for each request anew, as some of its functions are called before `main`, with the arguments. */
-int __libc_start_main(main_function *main, int count, char **given, void *first, void *last, void *unload, void *stack)
+int __libc_start_main(main_function *main, int count, char **own, void *first, void *last, void *unload, void *stack)
 {
     start_function *const start = (start_function *)dlsym(RTLD_NEXT, "__libc_start_main");
     program = main;
-    arguments[0] = given[0];
+    arguments[0] = own[0];
     for (;;) {
         if (!setjmp(back))
             start(run, take(), arguments, first, NULL, NULL, stack);

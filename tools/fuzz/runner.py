@@ -1,4 +1,4 @@
-"""A program that is run again and again in one process, on words and files in memory, and what holds of every answer."""
+"""A program that is run again and again in one process, on words and files in memory; what holds of its answers."""
 from __future__ import annotations
 
 import os
@@ -46,7 +46,7 @@ SECONDS, SECONDS_EACH = 0.1, 0.00002
 FORMS = {name: (BOTH + own).replace("#", "[0-9]+").replace("@", HANDLE) for name, own in OWN.items()}
 FORM = {name: re.compile(re.sub(r"\n*(.) (.*)\n", r"|\1 (?:\2)", text).encode()) for name, text in FORMS.items()}
 # The structures of runner.c, the most texts of a request, and a number beyond all lengths.
-MOST_TEXTS, WHOLE = 98, 2**62
+MOST_TEXTS, ALL = 98, 2**62
 REQUEST, ANSWER = struct.Struct(f"={3 + MOST_TEXTS}Q"), struct.Struct("=q8Q")
 Files = Mapping[str, bytes]
 
@@ -92,9 +92,7 @@ class Runner:
             self._process.communicate()
             self._process = None
 
-    def run(
-        self, words: bytes, files: Files, by_words: bool = False, piece: int = WHOLE, noted: int = WHOLE
-    ) -> Answer:
+    def run(self, words: bytes, files: Files, by_words: bool = False, piece: int = ALL, noted: int = ALL) -> Answer:
         """Runs the program on these files. The words stand on its standard input, or are its arguments."""
         self.runs += 1
         texts = [words, b""] if by_words else [b"", words + b"\n"]

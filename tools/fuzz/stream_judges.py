@@ -11,7 +11,7 @@ from typing import NamedTuple
 
 from draws import BOOLEAN, FEW, TEN, Draw, Entry, Log, Planned, Where, changed, cheapest, logs, pick, plans, services
 from hypothesis import strategies as st
-from runner import WHOLE, Answer, Kind, Runner, answered, ends_plainly, same
+from runner import ALL, Answer, Kind, Runner, answered, ends_plainly, same
 
 from lib import cases, oracle
 from lib.oracle import GREATEST_COUNT, Dispatcher, Service, csv_of
@@ -27,8 +27,8 @@ SHORT_LOG = Log([Entry("eu", "10/1"), Entry("us", "10.1/a"), Entry("mars", "10/2
 
 
 class Case(NamedTuple):
-    """What is asked of hsplan-stream: a command, of a service with a plan, in units, of a front, and of a log. Another
-    text may stand in place of one of the files, or of the words."""
+    """What is asked of hsplan-stream: a command, of a service with a plan, in units, of a front, and of a log. Of one
+    of the files, or of the words, there may be another text."""
 
     command: str
     service: Service
@@ -50,11 +50,7 @@ class Case(NamedTuple):
         found = self.service.files(self.planned.rows)
         return {**found, "plan.txt": self.planned.text(self.service), "log.csv": self.log.text}
 
-    def shares(self) -> list[oracle.Use]:
-        """What the front has of the plan."""
-        return Dispatcher.share(self.planned.uses, self.fronts or 1, self.front)
-
-    def answer(self, program: Runner, files: Mapping[str, bytes] = {}, piece: int = WHOLE, at: int = WHOLE) -> Answer:
+    def answer(self, program: Runner, files: Mapping[str, bytes] = {}, piece: int = ALL, at: int = ALL) -> Answer:
         """The answer where these texts stand in place of files."""
         return answered(program, self.words(), {**self.files(), **files}, piece=piece, noted=at)
 
@@ -107,9 +103,10 @@ def judge_sums(_: Runner, case: Case, answer: Answer) -> None:
     """The sums are those of the lines. No more answers name a site than the front's share of the plan sends there."""
     lines = answer.printed.decode().splitlines()
     assert answer.reported.decode() == oracle.sums_of(lines), f"sums: {answer}"
+    shares = Dispatcher.share(case.planned.uses, case.fronts or 1, case.front)
     named = [line.split()[1] for line in lines if line.startswith("assigned ")]
     for at, site in enumerate(case.service.sites):
-        most = (case.unit or 1) * sum(use.number for use in case.shares() if use.site == at)
+        most = (case.unit or 1) * sum(use.number for use in shares if use.site == at)
         assert named.count(site.name) <= most, f"more than the plan: {most} to {site.name}: {answer}"
 
 
@@ -117,7 +114,8 @@ def wanted_of(case: Case) -> cases.Ended:
     """What has to be printed of a log."""
     service, entries = case.service, case.log.entries
     if case.command == "answer":
-        dispatcher = Dispatcher(service, case.planned.rows, case.shares(), case.unit or 1)
+        shares = Dispatcher.share(case.planned.uses, case.fronts or 1, case.front)
+        dispatcher = Dispatcher(service, case.planned.rows, shares, case.unit or 1)
         answers = [
             f"refused {it.refusal}" if it.refused else dispatcher.answer(it.region, it.handle) for it in entries
         ]
@@ -203,8 +201,7 @@ def judge_plan(program: Runner, case: Case, where: Where) -> None:
     same("another order", case.answer(program), case.answer(program, tables))
     answer = case.answer(program, texts)
     if not answer.fault:
-        sums = oracle.sums_of(answer.printed.decode().splitlines())
-        assert answer.reported.decode() == sums, f"sums: {answer}"
+        assert answer.reported.decode() == oracle.sums_of(answer.printed.decode().splitlines()), f"sums: {answer}"
         plan = {**files, **texts}["plan.txt"]
         begun = case.answer(program, {**texts, "plan.txt": where.begun(plan)})
         assert begun.said == (b"", b"hsplan-stream: certificate: Ended\n", 1), f"a beginning: {begun}"
@@ -231,8 +228,8 @@ OWN["words"] = pick([case.words[:-1] for case in WORKED if case.words])
 
 @st.composite
 def drawn(draw: Draw, command: str, names: st.SearchStrategy[str] = st.just("")) -> Case:
-    """A question with its log. The file of a name that is drawn, or the words, are another text: that of a worked case,
-    or one with changes."""
+    """A question with its log. The file of a name that is drawn, or the words, have another text: that of a worked
+    case, or one with changes."""
     service, is_answer = draw(services()), command == "answer"
     planned, fronts = (draw(plans(service)), draw(FRONTS)) if is_answer else (Planned([], []), 0)
     unit, front = 0 if command == "places" else draw(UNIT), draw(TEN) % fronts if fronts else 0
