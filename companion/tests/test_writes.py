@@ -205,10 +205,10 @@ def test_no_second_signal_cuts_what_is_tidied_up() -> None:
     with pytest.raises(signals.Stopped) as stopped:
         with signals.stopping():
             try:
-                signal.raise_signal(signal.SIGINT)
+                signal.raise_signal(signal.SIGTERM)
             finally:
                 assert [signal.getsignal(it) for it in STOPS] == [signal.SIG_IGN] * 3
-    assert stopped.value.status == 130
+    assert stopped.value.status == 143
 
 
 def writing_end(pipe: Path, run: subprocess.Popen[str]) -> int:
