@@ -342,6 +342,7 @@ class Engine:
         except MemoryError:
             raise Unfinished(OUT_OF_MEMORY, "out of memory") from None
         except OSError as fault:
+            self._alive()  # the way to the scheduler may be what has ended
             raise Unfinished(BROKEN, str(fault)) from None
         except Exception as fault:
             self._alive()
