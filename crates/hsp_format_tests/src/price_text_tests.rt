@@ -270,6 +270,19 @@ fn is_plan(
     Ok(PricedPlan::new(cost, Vec::new(alloc), Vec::new(alloc), classes).is_some())
 }
 
+// The same. Where a growth is refused, the second plan finds memory.
+fn is_plan_twice(
+    alloc: Global,
+    cost: u64,
+    servers: [u32; 2],
+    amounts: [u64; 2],
+) -> Result<bool, AllocError> {
+    match is_plan(alloc, cost, servers, amounts) {
+        Err(AllocError) => is_plan(alloc, cost, servers, amounts),
+        answer => answer,
+    }
+}
+
 #[test]
 fn plans_by_prices_are_made_within_their_ranges(rt: HostRuntime) {
     let cases = [
@@ -290,7 +303,8 @@ fn plans_by_prices_are_made_within_their_ranges(rt: HostRuntime) {
         (0, [0, 1], [1_000_000_000_001, 0], false),
     ];
     for (cost, servers, amounts, wanted) in cases {
-        let made = is_plan(rt.alloc(), cost, servers, amounts).expect(&rt, "there is memory");
+        let made = is_plan_twice(rt.alloc(), cost, servers, amounts);
+        let made = made.expect(&rt, "there is memory");
         is_same_of(&rt, &(cost, servers, amounts), made, wanted);
     }
 }
@@ -299,6 +313,14 @@ fn plans_by_prices_are_made_within_their_ranges(rt: HostRuntime) {
 fn is_set(alloc: Global, servers: [u32; 2], sums: [u64; 2]) -> Result<bool, AllocError> {
     let servers = Vec::from_slice(alloc, &servers)?;
     Ok(ShortServers::new(servers, sums[0], sums[1]).is_some())
+}
+
+// The same. Where a growth is refused, the second set finds memory.
+fn is_set_twice(alloc: Global, servers: [u32; 2], sums: [u64; 2]) -> Result<bool, AllocError> {
+    match is_set(alloc, servers, sums) {
+        Err(AllocError) => is_set(alloc, servers, sums),
+        answer => answer,
+    }
 }
 
 #[test]
@@ -312,7 +334,7 @@ fn short_sets_of_servers_are_made_within_their_ranges(rt: HostRuntime) {
         ([0, 1], [most, most + 1], false),
     ];
     for (servers, sums, wanted) in cases {
-        let made = is_set(rt.alloc(), servers, sums).expect(&rt, "there is memory");
+        let made = is_set_twice(rt.alloc(), servers, sums).expect(&rt, "there is memory");
         is_same_of(&rt, &(servers, sums), made, wanted);
     }
 }
