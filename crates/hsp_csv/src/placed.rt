@@ -81,7 +81,8 @@ impl Walk {
 
     /// Begins a further record.
     pub(crate) fn begin(&mut self, placed: &mut PlacedRecord)
-        ensures walk { walk_of self.new (shown placed.new) ≡ fresh (state_of self.old.stand) self.old.at }
+        ensures walk { walk_of self.new (shown placed.new)
+            ≡ fresh (state_of self.old.stand) self.old.at }
         ensures partial { partial_of placed.new.fields ≡ [] }
     {
         placed.fields.clear();

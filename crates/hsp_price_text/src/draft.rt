@@ -145,7 +145,8 @@ fn take_class(draft: &mut Draft, said: Option<Class>) -> Result<bool, AllocError
 // Takes the price of a host, or a class.
 fn take_behind_servers(draft: &mut Draft, alloc: Global, line: &[u8]) -> Result<bool, AllocError>
     ensures { IfOk result (λ taken. Stepped draft.old
-        (option_map (priced draft.old) (behind_servers_step draft.old.plan line.now)) taken draft.new) }
+        (option_map (priced draft.old) (behind_servers_step draft.old.plan line.now))
+        taken draft.new) }
 {
     if take_host_price(draft, two_behind(alloc, b"host", line)?)? {
         return Ok(true);

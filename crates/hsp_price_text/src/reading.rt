@@ -46,7 +46,8 @@ pub fn read_prices(alloc: Global, text: &[u8]) -> Result<PriceCertificate, CertF
     // What is returned is true of the text,
     ensures means { Means text.now result }
     // and whatever is true of it is returned, unless memory runs out.
-    ensures only { (other : Result PriceCertificate CertFault) → Means text.now other → Agrees result other }
+    ensures only { (other : Result PriceCertificate CertFault) → Means text.now other
+        → Agrees result other }
 {
     read_lines(alloc, text)
 }

@@ -13,7 +13,8 @@ use std::alloc::{AllocError, Global};
 
 // Appends a word, numbers behind it, and an LF.
 fn push_numbered(out: &mut Vec<u8>, word: &[u8], numbers: &[u64]) -> Result<(), AllocError>
-    ensures { OnOk result (out.new.items ≡ out.old.items ++ unlines (numbered word.now numbers.now ∷ [])) }
+    ensures { OnOk result
+        (out.new.items ≡ out.old.items ++ unlines (numbered word.now numbers.now ∷ [])) }
 {
     out.extend_from_slice(word)?;
     for number in numbers {
@@ -36,7 +37,8 @@ fn push_prices(out: &mut Vec<u8>, word: &[u8], prices: &[u64]) -> Result<(), All
 
 // Appends servers and amounts by turns.
 fn push_turns(out: &mut Vec<u8>, servers: &[u32], amounts: &[u64]) -> Result<(), AllocError>
-    ensures { OnOk result (out.new.items ≡ out.old.items ++ spaced (in_turn servers.now amounts.now)) }
+    ensures { OnOk result
+        (out.new.items ≡ out.old.items ++ spaced (in_turn servers.now amounts.now)) }
 {
     for (server, amount) in servers.iter().zip(amounts) {
         push_number(out, u64::from(*server))?;

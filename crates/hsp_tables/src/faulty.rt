@@ -126,13 +126,17 @@ impl<K: Kind> Kept<K> {
         placed: &PlacedRecord,
     ) -> Result<Checked<TableFault>, AllocError>
         requires { IsKept K.table (map K.entry self.old.rows.entries) self.old.regions }
-        ensures checked { IfOk result (λ checked. checked ≡ checked_as K.table self.old.row (shown placed.now)
-            (row_at K.table self.old.row (map K.entry self.old.rows.entries) (shown placed.now).fields)) }
+        ensures checked { IfOk result
+            (λ checked. checked ≡ checked_as K.table self.old.row (shown placed.now)
+            (row_at K.table self.old.row (map K.entry self.old.rows.entries)
+            (shown placed.now).fields)) }
         ensures rows { OnOk result (map K.entry self.new.rows.entries
             ≡ with_good (map K.entry self.old.rows.entries)
-            (row_at K.table self.old.row (map K.entry self.old.rows.entries) (shown placed.now).fields)) }
+            (row_at K.table self.old.row (map K.entry self.old.rows.entries)
+            (shown placed.now).fields)) }
         ensures row { OnOk result (self.new.row ≡ next_row self.old.row) }
-        ensures whole { OnOk result (IsKept K.table (map K.entry self.new.rows.entries) self.new.regions) }
+        ensures whole { OnOk result
+            (IsKept K.table (map K.entry self.new.rows.entries) self.new.regions) }
     {
         let row = self.row;
         self.row = row.saturating_add(1);

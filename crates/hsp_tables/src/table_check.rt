@@ -73,7 +73,8 @@ impl TableCheck {
     ) -> Result<Checked<TableFault>, AllocError>
         requires { AreKept self.old }
         ensures kept { OnOk result (AreKept self.new) }
-        ensures checked { IfOk result (λ checked. IsChecked self.old (shown placed.now) checked self.new) }
+        ensures checked { IfOk result
+            (λ checked. IsChecked self.old (shown placed.now) checked self.new) }
     {
         match &mut self.held {
             Held::Demand(kept) => kept.check(alloc, placed),

@@ -64,7 +64,7 @@ turned xs ys = sum_below_same (length xs) _ _ (λ k l. mul_comm (slice_index ys 
 
 module _ {A : Type 0} (n : Network A) (is : IsNetwork n) where
   -- a weight of the sources adds up over the arcs to what it weighs the demands
-  pub over_sources : (x : A → ℕ) → IsFeasible n x → (w : ℕ → ℕ)
+  over_sources : (x : A → ℕ) → IsFeasible n x → (w : ℕ → ℕ)
       → sum_by (λ a. w (n.source a) * x a) n.arcs ≡ sum_below (length n.demands) (λ i. w i * slice_index n.demands i)
   over_sources x feasible w =
       by_key n.source x w (length n.demands) n.arcs is.sources
@@ -85,7 +85,7 @@ module _ {A : Type 0} (n : Network A) (is : IsNetwork n) where
       (by_host n.host_of w (λ j. load n x j) (length n.capacities) (length n.limits) is.hosts)
 
   -- servers and hosts are paid no more than for all that they can take
-  pub at_most_full : (x : A → ℕ) → IsFeasible n x → (p q : List ℕ)
+  at_most_full : (x : A → ℕ) → IsFeasible n x → (p q : List ℕ)
       → sum_by (λ a. price_at n p q (n.server a) * x a) n.arcs ≤ times n.capacities p + times n.limits q
   at_most_full x feasible p q =
       let e = over_prices x p q in
