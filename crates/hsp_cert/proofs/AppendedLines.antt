@@ -1,11 +1,13 @@
 -- Lines appended one after the other.
-use Rattle.std.proofs.Common.{◌≡◌, ℕ, List, [], ◌∷◌, ◌++◌, map, ap, sym, refl, ◌∙◌, append_assoc}
+use Rattle.std.proofs.Common.{◌≡◌, ℕ, List, [], ◌∷◌, ◌++◌, map, ap, ◌∙◌, append_assoc}
+use Rattle.std.proofs.lemmas.List.{map-append}
 use Rattle.hsp_cert.specs.declared.item.Item.{Item}
 use Rattle.hsp_cert.specs.declared.item.Item.TheVariants as item
 use Rattle.hsp_cert.specs.declared.item.Word.TheVariants as word
 use Rattle.hsp_cert.specs.Certificate.{Best, Short}
 use Rattle.hsp_cert.specs.Certificate.Claim.{best, short}
 use Rattle.hsp_cert.specs.Text.{line_of, unlines, use_items, price_items, row_items, body_items, version_of, text_of}
+use Rattle.hsp_cert.proofs.LineCuts.{unlines-append}
 
 -- the text of the lines that say the items
 abbrev pub spelling : List Item → List ℕ
@@ -13,10 +15,8 @@ spelling xs = unlines (map line_of xs)
 
 -- the lines of two lists stand one after the other
 pub spelling-append : (xs ys : List Item) → spelling (xs ++ ys) ≡ spelling xs ++ spelling ys
-spelling-append [] ys = refl
-spelling-append (x ∷ xs) ys =
-    ap (λ (t : List ℕ). line_of x ++ 10 ∷ t) (spelling-append xs ys)
-    ∙ sym (append_assoc (line_of x) (10 ∷ spelling xs) (spelling ys))
+spelling-append xs ys =
+    ap unlines (map-append line_of xs ys) ∙ unlines-append (map line_of xs) (map line_of ys)
 
 -- the four lists of a plan, one after the other
 pub body_appended : (b : Best) (o p q r s : List ℕ) → p ≡ o ++ spelling (use_items b.uses)

@@ -1,14 +1,10 @@
 -- An item can stand exactly where the step takes it.
-use Rattle.std.proofs.Common.{◌≡◌, ◌<◌, ◌≤◌, ◌+◌, ◌-◌, ℕ, suc, Bool, true, false, List, [], ◌∷◌, ◌++◌, length, Option}
+use Rattle.std.proofs.Common.{◌≡◌, ◌≤◌, ◌+◌, ℕ, Bool, true, false, List, [], ◌∷◌, ◌++◌, length, Option}
 use Rattle.std.proofs.Common.{Some, None, refl, ap, subst, ◌∙◌, arith, ◌⊎◌, append_assoc, length-append}
-use Rattle.std.specs.Prelude.{◌==◌, ◌&&◌, ◌||◌, nat_le, nat_lt, option_map, slice_get}
-use Rattle.std.specs.List.{list_all}
-use Rattle.std.proofs.lemmas.Bool.{and_parts, and_from, eqb-true}
+use Rattle.std.specs.Prelude.{◌==◌, ◌&&◌, ◌||◌, nat_le, nat_lt, option_map}
+use Rattle.std.proofs.lemmas.Bool.{and_parts, eqb-true}
 use Rattle.std.proofs.lemmas.Bool.Decides.{nat_tests}
-use Rattle.std.proofs.lemmas.List.{append-nil, nil_from_length}
-use Rattle.std.proofs.lemmas.List.Folds.{list_all-append}
-use Rattle.std.proofs.lemmas.Option.{slice_get-get_or}
-use Rattle.std.proofs.Math.Seq.{get_or-append_seam}
+use Rattle.std.proofs.lemmas.List.{append-nil}
 use Rattle.hsp_cert.specs.declared.use_line.UseLine.{UseLine}
 use Rattle.hsp_cert.specs.declared.stage.Stage.{Stage}
 use Rattle.hsp_cert.specs.declared.stage.Stage.TheVariants as stage
@@ -16,53 +12,14 @@ use Rattle.hsp_cert.specs.declared.item.Word.{Word}
 use Rattle.hsp_cert.specs.declared.item.Word.TheVariants as word
 use Rattle.hsp_cert.specs.declared.item.Item.{Item}
 use Rattle.hsp_cert.specs.declared.item.Item.TheVariants as item
-use Rattle.hsp_cert.specs.Certificate.{Best, Short, is_use, is_row, is_price, is_before, goes_on_from, ascends_from}
-use Rattle.hsp_cert.specs.Certificate.{ascends, IsBest, IsShort}
+use Rattle.hsp_cert.specs.Certificate.{Best, Short, is_use, is_row, is_price, is_before, goes_on_from}
+use Rattle.hsp_cert.specs.Certificate.{IsBest, IsShort}
 use Rattle.hsp_cert.specs.Text.{use_items, price_items, row_items, body_items, version_of}
 use Rattle.hsp_cert.specs.Drafts.{Drafted, when, last, is_next, is_none, may_use, may_row_price, may_server_price}
 use Rattle.hsp_cert.specs.Drafts.{may_host_price, may_row, use_step, row_step, body_step, rows_step}
-use Rattle.hsp_cert.specs.Steps.{staged, with_plan, with_set, cost_set, is_amount, head_at, plan_step, shortage_step}
+use Rattle.hsp_cert.specs.Steps.{staged, with_plan, with_set, cost_set, is_sum, head_at, plan_step, shortage_step}
 use Rattle.hsp_cert.specs.Steps.{step_at, step, no_plan, no_set}
-
--- ---- lists
-
--- a list that is none is empty
-none_is : {A : Type 0} (xs : List A) → is_none xs ≡ true → xs ≡ []
-none_is xs h = nil_from_length xs (eqb-true (length xs) 0 h)
-
--- a test passes for all and for one more
-all_push : {A : Type 0} (p : A → Bool) (xs : List A) (x : A) → list_all p xs ≡ true → p x ≡ true
-    → list_all p (xs ++ x ∷ []) ≡ true
-all_push p xs x h k =
-    list_all-append p xs (x ∷ []) ∙ and_from (list_all p xs) (p x && true) h (and_from (p x) true k refl)
-
--- the last element is the one that was put last
-pub last_push : {A : Type 0} (xs : List A) (x : A) → last (xs ++ x ∷ []) ≡ Some x
-last_push xs x =
-    let at : length (xs ++ x ∷ []) - 1 ≡ length xs = omega (arith, length-append xs (x ∷ [])) in
-    rw at (slice_get-get_or (xs ++ x ∷ []) (length xs) x (omega (arith, length-append xs (x ∷ [])))
-    ∙ ap (λ y. Some y) (get_or-append_seam xs x [] x))
-
--- an ascending list stays so by an element that goes on from its last
-ascends_behind : {A : Type 0} (before : A → A → Bool) (y : A) (xs : List A) (x : A)
-    → ascends_from before (Some y) xs ≡ true → goes_on_from before (slice_get (y ∷ xs) (length xs)) x ≡ true
-    → ascends_from before (Some y) (xs ++ x ∷ []) ≡ true
-ascends_behind before y [] x h k = and_from (before y x) true k refl
-ascends_behind before y (z ∷ xs) x h k =
-    let b = and_parts (before y z) (ascends_from before (Some z) xs) h in
-    and_from (before y z) (ascends_from before (Some z) (xs ++ x ∷ [])) b.0 (ascends_behind before z xs x b.1 k)
-
--- an ascending list goes on where its last comes before the next
-ascends_push : {A : Type 0} (before : A → A → Bool) (xs : List A) (x : A) → ascends before xs ≡ true
-    → goes_on_from before (last xs) x ≡ true → ascends before (xs ++ x ∷ []) ≡ true
-ascends_push before [] x h k = refl
-ascends_push before (y ∷ xs) x h k =
-    let at : suc (length xs) - 1 ≡ length xs = omega arith in ascends_behind before y xs x h (rw at at k)
-
--- what is there under a condition is there, and the condition holds
-pub when_taken : {A : Type 0} (t : Bool) (x y : A) → when t x ≡ Some y → (t ≡ true) × (x ≡ y)
-when_taken true x y h = (refl, cc)
-when_taken false x y h = absurd cc
+use Rattle.hsp_cert.proofs.ListSteps.{none_is, all_push, ascends_push, when_taken, next_facts}
 
 -- what is there behind a function came from something that is there
 mapped_taken : {A B : Type 0} (f : A → B) (o : Option A) (y : B) → option_map f o ≡ Some y
@@ -98,15 +55,6 @@ Next_body v b i c =
 
 abbrev plan_of : ℕ → List UseLine → List ℕ → List ℕ → List ℕ → Best
 plan_of cost us rs ss hs = record { cost = cost; uses = us; row_prices = rs; server_prices = ss; host_prices = hs }
-
--- a price that may come next has the next number and keeps to the limits
-next_facts : (most : ℕ) (ps : List ℕ) (n p : ℕ) → is_next most ps n p ≡ true
-    → (n ≡ length ps) × (n < most) × (is_price p ≡ true)
-next_facts most ps n p h =
-    let a = and_parts (n == length ps && nat_lt n most) (is_price p) h in
-    let b = and_parts (n == length ps) (nat_lt n most) a.0 in
-    let lt : n < most = let t = b.1 in grind (arith, nat_tests) in
-    (eqb-true n (length ps) b.0, lt, a.1)
 
 -- a price of a row leaves a body that may go on
 body_row : (v : ℕ) (b : Best) (n p : ℕ) → IsBest b → (v ≡ 1 → b.host_prices ≡ []) → may_row_price b n p ≡ true →
@@ -291,9 +239,9 @@ Next s d i e = Valid e × (so_far e ≡ so_far_at s d ++ i ∷ [])
 one_or_two : (v : ℕ) → (v == 1 || v == 2) ≡ true → (v ≡ 1) ⊎ (v ≡ 2)
 one_or_two v h = grind (arith, nat_tests)
 
--- an amount keeps to its limit
-amount : (n : ℕ) → is_amount n ≡ true → n ≤ 10000000000000000
-amount n h = grind (arith, nat_tests)
+-- a sum keeps to its limit
+sum_within : (n : ℕ) → is_sum n ≡ true → n ≤ 10000000000000000
+sum_within n h = grind (arith, nat_tests)
 
 -- each item of the head that is taken leads on
 head_next : (s : Stage) (d : Drafted) (i : Item) (e : Drafted) → Valid_at s d → head_at s d i ≡ Some e → Next s d i e
@@ -309,14 +257,14 @@ head_next stage.Kind d (item.Alone word.Shortage) e h eq =
     subst (Next stage.Kind d (item.Alone word.Shortage)) t.1 ((h.0, h.1, (eqb-true d.version 1 t.0, h.2.1)), refl)
 head_next stage.Cost d (item.One word.Cost n) e h eq =
     let made : Drafted = with_plan stage.Body d (cost_set d.plan n) in
-    let t = when_taken (is_amount n) made e eq in
+    let t = when_taken (is_sum n) made e eq in
     let p = h.0 in
     let bare : body_items (cost_set d.plan n) ≡ [] = ap (λ (b : Best). body_items (cost_set b n)) h.2.0 in
     let hosts : d.plan.host_prices ≡ [] = ap (λ (b : Best). b.host_prices) h.2.0 in
     subst (Next stage.Cost d (item.One word.Cost n)) t.1 (
       (
         record {
-          cost = amount n t.0;
+          cost = sum_within n t.0;
           uses = p.uses;
           order = p.order;
           row_count = p.row_count;
@@ -334,21 +282,21 @@ head_next stage.Cost d (item.One word.Cost n) e h eq =
 head_next stage.Demand d (item.One word.Demand n) e h eq =
     let made : Drafted =
     with_set stage.Capacity d (record { rows = d.set.rows; demand = n; capacity = d.set.capacity }) in
-    let t = when_taken (is_amount n) made e eq in
+    let t = when_taken (is_sum n) made e eq in
     let rows : d.set.rows ≡ [] = ap (λ (s : Short). s.rows) h.2.1 in
     subst (Next stage.Demand d (item.One word.Demand n)) t.1 (
       (
         h.0,
-        record { rows = h.1.rows; order = h.1.order; demand = amount n t.0; capacity = h.1.capacity },
+        record { rows = h.1.rows; order = h.1.order; demand = sum_within n t.0; capacity = h.1.capacity },
         (h.2.0, rows),
       ),
       refl,
     )
 head_next stage.Capacity d (item.One word.Capacity n) e h eq =
     let made : Drafted = with_set stage.Rows d (record { rows = d.set.rows; demand = d.set.demand; capacity = n }) in
-    let t = when_taken (is_amount n) made e eq in
+    let t = when_taken (is_sum n) made e eq in
     subst (Next stage.Capacity d (item.One word.Capacity n)) t.1 (
-      (h.0, record { rows = h.1.rows; order = h.1.order; demand = h.1.demand; capacity = amount n t.0 }, h.2.0),
+      (h.0, record { rows = h.1.rows; order = h.1.order; demand = h.1.demand; capacity = sum_within n t.0 }, h.2.0),
       ap
           (λ (rs : List ℕ). item.One word.Version d.version ∷ item.Alone word.Shortage
           ∷ item.One word.Demand d.set.demand ∷ item.One word.Capacity n ∷ row_items rs) h.2.1,

@@ -1,6 +1,8 @@
+pub mod ListSteps
 pub mod AppendedLines
 pub mod SpacedText
 pub mod LineCuts
+pub mod SpelledNumbers
 pub mod ReadItems
 pub mod GrammarSteps
 pub mod WholeRuns

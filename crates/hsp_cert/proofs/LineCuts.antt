@@ -1,4 +1,4 @@
--- A text is cut into lines in one way.
+-- The text of lines, and that a text is cut into lines in one way.
 use Rattle.std.proofs.Common.{◌≡◌, ℕ, suc, List, [], ◌∷◌, ◌++◌, refl, sym, ap, ◌∙◌, arith, inl, inr, ◌⊎◌, append_assoc}
 use Rattle.std.specs.List.{AllByRecursion}
 use Rattle.hsp_text.specs.Lines.{IsUnbroken}
@@ -34,6 +34,12 @@ no_line (x ∷ l) rest (y ∷ t) h e = let tails : l ++ 10 ∷ rest ≡ t = cc i
 -- the first of some lines, and what follows it
 pub first_line : (l : List ℕ) (ls : List (List ℕ)) (x : List ℕ) → unlines (l ∷ ls) ++ x ≡ l ++ 10 ∷ (unlines ls ++ x)
 first_line l ls x = append_assoc l (10 ∷ unlines ls) x
+
+-- the texts of two lists of lines stand one after the other
+pub unlines-append : (xs ys : List (List ℕ)) → unlines (xs ++ ys) ≡ unlines xs ++ unlines ys
+unlines-append [] ys = refl
+unlines-append (x ∷ xs) ys =
+    ap (λ (t : List ℕ). x ++ 10 ∷ t) (unlines-append xs ys) ∙ sym (append_assoc x (10 ∷ unlines xs) (unlines ys))
 
 -- some lines go on to others in a text
 abbrev pub GoesOn : List (List ℕ) → List (List ℕ) → List ℕ → List ℕ → Type 0

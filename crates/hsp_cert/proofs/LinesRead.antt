@@ -4,6 +4,8 @@ use Rattle.std.proofs.Common.{refl, sym, ap, ◌∙◌, arith, append_assoc}
 use Rattle.std.specs.Prelude.{nat_le, decimal}
 use Rattle.std.specs.List.{AllByRecursion, list_all}
 use Rattle.std.proofs.lemmas.Bool.{and_parts}
+use Rattle.std.proofs.lemmas.List.{map-append}
+use Rattle.std.proofs.lemmas.Option.{same_Some}
 use Rattle.std.proofs.lemmas.Bool.Decides.{nat_tests}
 use Rattle.hsp_cert.specs.declared.use_line.UseLine.{UseLine}
 use Rattle.hsp_cert.specs.declared.item.Word.{Word}
@@ -19,20 +21,14 @@ use Rattle.hsp_cert.specs.Steps.{step, step_line, start}
 use Rattle.hsp_cert.specs.Reading.{LinesStand}
 use Rattle.hsp_cert.specs.Words.{spelled}
 use Rattle.hsp_cert.proofs.LineCuts.{Unbroken}
-use Rattle.hsp_cert.proofs.ReadItems.{Printed, printed_apart, word_printed, decimal_printed, Fits, reads_back}
+use Rattle.hsp_cert.proofs.ReadItems.{word_printed, Fits, reads_back}
+use Rattle.hsp_cert.proofs.SpelledNumbers.{Printed, printed_apart, decimal_printed, decimal_unbroken}
 use Rattle.hsp_cert.proofs.WholeRuns.{run, run-append, run_so_far, run_whole, first_step, ended}
 use Rattle.hsp_cert.proofs.Standing.{draft_stands}
 use Rattle.hsp_text.proofs.Lists.{all_append}
 
 abbrev pub ReadsBack : Item → Type 0
 ReadsBack i = item_in (line_of i) ≡ Some i
-
-abbrev pub some_item : Item → Option Item
-some_item i = Some i
-
--- an item is one only
-pub item_is : (i j : Item) → some_item i ≡ Some j → i ≡ j
-item_is i j h = cc
 
 -- ---- the lines of a certificate say its items
 
@@ -113,21 +109,17 @@ unbroken xs h = printed_apart 10 (omega arith) xs h
 spaced : (xs ys : List ℕ) → Printed xs → Unbroken ys → Unbroken (xs ++ 32 ∷ ys)
 spaced xs ys h k = all_append (λ x. x ≡ 10 → ⊥) xs (32 ∷ ys) (unbroken xs h) ((λ e. omega (arith, e)), k)
 
--- a number has no line feed
-number_unbroken : (n : ℕ) → n < 2 ^ 64 → Unbroken (decimal n)
-number_unbroken n h = unbroken (decimal n) (decimal_printed n h)
-
 -- the line of an item has no line feed
 line_unbroken : (i : Item) → Fits i → Unbroken (line_of i)
 line_unbroken (item.Alone w) h = unbroken (spelled w) (word_printed w)
-line_unbroken (item.One w a) h = spaced (spelled w) (decimal a) (word_printed w) (number_unbroken a h)
+line_unbroken (item.One w a) h = spaced (spelled w) (decimal a) (word_printed w) (decimal_unbroken a h)
 line_unbroken (item.Two w a b) h =
     spaced (spelled w) (decimal a ++ 32 ∷ decimal b) (word_printed w)
-    (spaced (decimal a) (decimal b) (decimal_printed a h.0) (number_unbroken b h.1))
+    (spaced (decimal a) (decimal b) (decimal_printed a h.0) (decimal_unbroken b h.1))
 line_unbroken (item.Three w a b c) h =
     spaced (spelled w) (decimal a ++ 32 ∷ (decimal b ++ 32 ∷ decimal c)) (word_printed w)
     (spaced (decimal a) (decimal b ++ 32 ∷ decimal c) (decimal_printed a h.0)
-    (spaced (decimal b) (decimal c) (decimal_printed b h.1) (number_unbroken c h.2)))
+    (spaced (decimal b) (decimal c) (decimal_printed b h.1) (decimal_unbroken c h.2)))
 
 -- the lines of items have none
 lines_unbroken : (is : List Item) → AllByRecursion Fits is → AllByRecursion Unbroken (map line_of is)
@@ -150,14 +142,9 @@ up_to (x ∷ xs) [] line more hx hi e = let at : line_of x ≡ line = cc in (x, 
 up_to (x ∷ xs) (y ∷ is) line more hx hi e =
     let at : line_of x ≡ line_of y = cc in
     let tails : map line_of xs ≡ map line_of is ++ (line ∷ more) = cc in
-    let same = item_is x y (sym hx.0 ∙ ap item_in at ∙ hi.0) in
+    let same = same_Some x y (sym hx.0 ∙ ap item_in at ∙ hi.0) in
     let r = up_to xs is line more hx.1 hi.1 tails in
     (r.0, r.1, ap (λ (j : Item). j ∷ xs) same ∙ ap (λ (l : List Item). y ∷ l) r.2, r.3, r.4)
-
--- the lines of two lists of items stand one after the other
-pub map-lines : (xs ys : List Item) → map line_of (xs ++ ys) ≡ map line_of xs ++ map line_of ys
-map-lines [] ys = refl
-map-lines (x ∷ xs) ys = ap (λ (l : List (List ℕ)). line_of x ∷ l) (map-lines xs ys)
 
 -- a line that is not taken can't stand
 pub untaken : (is : List Item) (d : Drafted) (line : List ℕ) → AllByRecursion ReadsBack is
@@ -181,4 +168,5 @@ pub read_stand : (is : List Item) (d : Drafted) → run (Some start) is ≡ Some
 read_stand is d made =
     let v = run_so_far is d made in
     let s = draft_stands d v.0 in
-    (s.0, s.1, map line_of s.2, ap (map line_of) (s.3 ∙ ap (λ (l : List Item). l ++ s.2) v.1) ∙ map-lines is s.2)
+    let same = s.3 ∙ ap (λ (l : List Item). l ++ s.2) v.1 in
+    (s.0, s.1, map line_of s.2, ap (map line_of) same ∙ map-append line_of is s.2)

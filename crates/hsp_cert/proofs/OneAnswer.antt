@@ -3,6 +3,7 @@ use Rattle.std.proofs.Common.{◌≡◌, ◌+◌, ℕ, List, [], ◌∷◌, ◌+
 use Rattle.std.proofs.Common.{◌∙◌, arith, inl, inr, append_assoc, Ok, Err}
 use Rattle.std.specs.List.{AllByRecursion}
 use Rattle.std.proofs.lemmas.List.{append-nil}
+use Rattle.std.proofs.lemmas.Option.{same_Some}
 use Rattle.hsp_cert.specs.declared.item.Word.TheVariants as word
 use Rattle.hsp_cert.specs.declared.item.Item.{Item}
 use Rattle.hsp_cert.specs.declared.item.Item.TheVariants as item
@@ -14,9 +15,10 @@ use Rattle.hsp_cert.specs.Lexing.{item_in}
 use Rattle.hsp_cert.specs.Drafts.{Drafted}
 use Rattle.hsp_cert.specs.Steps.{step, start, claimed}
 use Rattle.hsp_cert.specs.Reading.{LinesStand, HasNoEnd, IsBadLine, IsEnded, IsAfterEnd, HasOneAnswer, HasOneSpelling}
+use Rattle.hsp_cert.proofs.ListSteps.{all_front, all_back}
 use Rattle.hsp_cert.proofs.LineCuts.{Unbroken, by_recursion, same_line, no_line, first_line, GoesOn, fronts}
-use Rattle.hsp_cert.proofs.WholeRuns.{run, run-append, run-none, run_whole, some_is, ended}
-use Rattle.hsp_cert.proofs.LinesRead.{ReadsBack, item_is, claim_back, claim_unbroken, up_to}
+use Rattle.hsp_cert.proofs.WholeRuns.{run, run-append, run-none, run_whole, ended}
+use Rattle.hsp_cert.proofs.LinesRead.{ReadsBack, claim_back, claim_unbroken, up_to}
 
 -- ---- a certificate's lines are its own
 
@@ -29,7 +31,7 @@ items_same (x ∷ xs) [] hx hy e = absurd cc
 items_same (x ∷ xs) (y ∷ ys) hx hy e =
     let at : line_of x ≡ line_of y = cc in
     let tails : map line_of xs ≡ map line_of ys = cc in
-    let same = item_is x y (sym hx.0 ∙ ap item_in at ∙ hy.0) in
+    let same = same_Some x y (sym hx.0 ∙ ap item_in at ∙ hy.0) in
     ap (λ (i : Item). i ∷ xs) same ∙ ap (λ (l : List Item). y ∷ l) (items_same xs ys hx.1 hy.1 tails)
 
 -- a certificate that was read to its end is the one that it says
@@ -41,7 +43,7 @@ claimed_is (short s) = refl
 claim_same : (c d : Claim) → IsCertificate c → IsCertificate d → lines_of c ≡ lines_of d → c ≡ d
 claim_same c d hc hd e =
     let same = items_same (items_of c) (items_of d) (claim_back c hc) (claim_back d hd) e in
-    let one = some_is (ended c) (ended d) (sym (run_whole c hc) ∙ ap (run (Some start)) same ∙ run_whole d hd) in
+    let one = same_Some (ended c) (ended d) (sym (run_whole c hc) ∙ ap (run (Some start)) same ∙ run_whole d hd) in
     sym (claimed_is c) ∙ ap claimed one ∙ claimed_is d
 
 -- behind its end a certificate takes no item
@@ -82,16 +84,6 @@ claim_end (short s) h =
     ∷ item.One word.Capacity s.capacity ∷ row_items s.rows) h
 
 -- ---- lines that stand
-
--- what holds of all of two lists holds of the first
-all_front : {A : Type 0} (P : A → Type 0) (xs ys : List A) → AllByRecursion P (xs ++ ys) → AllByRecursion P xs
-all_front P [] ys h = tt
-all_front P (x ∷ xs) ys h = (h.0, all_front P xs ys h.1)
-
--- what holds of all of two lists holds of the second
-all_back : {A : Type 0} (P : A → Type 0) (xs ys : List A) → AllByRecursion P (xs ++ ys) → AllByRecursion P ys
-all_back P [] ys h = h
-all_back P (x ∷ xs) ys h = all_back P xs ys h.1
 
 -- lines that can stand have no line feed
 stand_unbroken : (ls : List (List ℕ)) → LinesStand ls → AllByRecursion Unbroken ls

@@ -1,25 +1,21 @@
 -- Lines and the items that they say.
-use Rattle.std.proofs.Common.{◌≡◌, ◌<◌, ◌≤◌, ◌^◌, ◌%◌, ◌+◌, ℕ, Bool, true, false, List, [], ◌∷◌, ◌++◌, Option, Some}
-use Rattle.std.proofs.Common.{None, decimal, refl, sym, ap, ◌∙◌, arith, inl, inr, ◌⊎◌, Ok, Err}
+use Rattle.std.proofs.Common.{◌≡◌, ◌<◌, ◌≤◌, ◌^◌, ℕ, Bool, true, false, List, [], ◌∷◌, ◌++◌, Option, Some}
+use Rattle.std.proofs.Common.{None, decimal, refl, sym, ap, ◌∙◌, arith, inl, inr, ◌⊎◌}
 use Rattle.std.specs.Prelude.{if◌then◌else◌, nat_le}
 use Rattle.std.specs.Str.{bytes_eq}
-use Rattle.std.specs.Str.Parse.{digits_value}
-use Rattle.std.specs.List.{AllByRecursion, list_all}
+use Rattle.std.specs.List.{list_all}
 use Rattle.std.specs.Cmp.Lexicographic.{same_text}
-use Rattle.std.proofs.lemmas.Fmt.{decimal_by_steps}
 use Rattle.std.proofs.lemmas.Bool.{and_parts}
 use Rattle.std.proofs.lemmas.Bool.Decides.{nat_tests}
-use Rattle.hsp_text.specs.declared.whole.WholeFault.TheVariants.{NotWhole, TooLarge}
-use Rattle.hsp_text.specs.Whole.{is_whole}
-use Rattle.hsp_text.proofs.Numerals.{digits_spell_their_number}
 use Rattle.hsp_cert.specs.declared.item.Word.{Word}
 use Rattle.hsp_cert.specs.declared.item.Word.TheVariants as word
 use Rattle.hsp_cert.specs.declared.item.Item.{Item}
 use Rattle.hsp_cert.specs.declared.item.Item.TheVariants as item
 use Rattle.hsp_cert.specs.Words.{spelled}
 use Rattle.hsp_cert.specs.Text.{line_of}
-use Rattle.hsp_cert.specs.Lexing.{cut, words, word_among, word_in, number_read, number_in, after_word, after_first}
+use Rattle.hsp_cert.specs.Lexing.{cut, words, word_among, word_in, number_in, after_word, after_first}
 use Rattle.hsp_cert.specs.Lexing.{after_second, after_third, item_in}
+use Rattle.hsp_cert.proofs.SpelledNumbers.{Printed, printed_apart, number_named, number_back, decimal_spaceless}
 use Rattle.hsp_cert.proofs.SpacedText.{NoSpace, cut_spaced, cut_whole, rejoined, cut_rejoined}
 
 -- ---- what a line that is read spells
@@ -37,29 +33,6 @@ word_named (v ∷ ws) o w h = elim (chosen (bytes_eq o (spelled v)) v w (word_am
   | inl (told, same) ↦ same_text o (spelled v) (sym told) ∙ ap spelled same
   | inr later ↦ word_named ws o w later
 ]
-
--- a number that was read is whole and within its limit
-read_parts : (w l : Bool) (v n : ℕ)
-    → number_read (if w then (if l then Ok v else Err TooLarge) else Err NotWhole) ≡ Some n
-    → (w ≡ true) × (l ≡ true) × (v ≡ n)
-read_parts true true v n h = (refl, refl, cc)
-read_parts true false v n h = absurd cc
-read_parts false l v n h = absurd cc
-
--- a number that passes the test fits in 64 bits
-below : (n : ℕ) → nat_le n 18446744073709551615 ≡ true → n < 2 ^ 64
-below n h = let le : n ≤ 18446744073709551615 = grind (arith, nat_tests) in omega arith
-
--- a number that fits in 64 bits passes the test
-fits_64 : (n : ℕ) → n < 2 ^ 64 → nat_le n 18446744073709551615 ≡ true
-fits_64 n h = let le : n ≤ 18446744073709551615 = omega arith in grind (arith, nat_tests)
-
--- a number that was read is spelled so
-number_named : (o : List ℕ) (n : ℕ) → number_in o ≡ Some n → o ≡ decimal n
-number_named o n h =
-    let p = read_parts (is_whole o) (nat_le (digits_value 10 o) 18446744073709551615) (digits_value 10 o) n h in
-    let small : n < 2 ^ 64 = omega (arith, below (digits_value 10 o) p.1, p.2) in
-    (digits_spell_their_number n o small).0 (p.0, p.2)
 
 -- three numbers behind a word say an item whose line they are
 third_says : (w : Word) (a b : ℕ) (x : List ℕ) (o : Option ℕ) (i : Item) → ((n : ℕ) → o ≡ Some n → x ≡ decimal n)
@@ -111,10 +84,6 @@ item_spelled line i h =
 
 -- ---- what is read of a line that is spelled
 
--- each octet is at least that of the digit 0, as those of letters and digits are
-abbrev pub Printed : List ℕ → Type 0
-Printed xs = AllByRecursion (λ x. 48 ≤ x) xs
-
 -- octets from 48 on are printed ones
 printed : (xs : List ℕ) → list_all (nat_le 48) xs ≡ true → Printed xs
 printed [] h = tt
@@ -128,38 +97,14 @@ pub word_printed : (w : Word) → Printed (spelled w)
 word_printed word.Version = printed (spelled word.Version) refl
 word_printed w = printed (spelled w) refl
 
--- printed octets stay so by one more
-printed_push : (xs : List ℕ) (x : ℕ) → Printed xs → 48 ≤ x → Printed (xs ++ x ∷ [])
-printed_push [] x h le = (le, tt)
-printed_push (y ∷ xs) x h le = (h.0, printed_push xs x h.1 le)
-
--- a decimal is printed
-pub decimal_printed : (n : ℕ) → n < 2 ^ 64 → Printed (decimal n)
-decimal_printed n h =
-    decimal_by_steps (λ _ ds. Printed ds) (λ k lt. (omega arith, tt))
-    (λ k ds le g. printed_push ds (48 + k % 10) g (omega arith)) n h
-
--- no octet is one below them, as a space or an LF
-pub printed_apart : (c : ℕ) → c < 48 → (xs : List ℕ) → Printed xs → AllByRecursion (λ x. x ≡ c → ⊥) xs
-printed_apart c lt [] h = tt
-printed_apart c lt (x ∷ xs) h = let le = h.0 in ((λ e. omega arith), printed_apart c lt xs h.1)
-
 -- a word has no space
 word_spaceless : (w : Word) → NoSpace (spelled w)
 word_spaceless w = printed_apart 32 (omega arith) (spelled w) (word_printed w)
-
--- a decimal has no space
-decimal_spaceless : (n : ℕ) → n < 2 ^ 64 → NoSpace (decimal n)
-decimal_spaceless n h = printed_apart 32 (omega arith) (decimal n) (decimal_printed n h)
 
 -- each word is found by its spelling
 word_back : (w : Word) → word_in (spelled w) ≡ Some w
 word_back word.Version = refl
 word_back w = refl
-
--- each number is read back from its decimal
-number_back : (n : ℕ) → n < 2 ^ 64 → number_in (decimal n) ≡ Some n
-number_back n h = let s = (digits_spell_their_number n (decimal n) h).1 refl in rw (s.0, s.1, fits_64 n h) refl
 
 -- every number is one of 64 bits
 abbrev pub Fits : Item → Type 0

@@ -1,7 +1,8 @@
 -- What is known of a text as far as it was read.
-use Rattle.std.proofs.Common.{◌≡◌, ◌<◌, ◌≤◌, ◌+◌, ℕ, true, false, List, [], ◌∷◌, ◌++◌, length, map, Option, Some, None}
+use Rattle.std.proofs.Common.{◌≡◌, ◌≤◌, ◌+◌, ℕ, true, false, List, [], ◌∷◌, ◌++◌, length, map, Option, Some, None}
 use Rattle.std.proofs.Common.{refl, sym, ap, subst, ◌∙◌, arith, append_assoc, length-append}
-use Rattle.std.proofs.lemmas.List.{append-nil, length-map, nil_from_length}
+use Rattle.std.proofs.lemmas.List.{append-nil, length-map, map-append, nil_from_length}
+use Rattle.std.proofs.lemmas.Option.{same_Some}
 use Rattle.std.proofs.lemmas.Bool.{eqb-true}
 use Rattle.std.specs.Prelude.{◌==◌, codes}
 use Rattle.std.specs.List.{AllByRecursion}
@@ -19,10 +20,10 @@ use Rattle.hsp_cert.specs.Steps.{staged, step, step_at, said_step, step_line, st
 use Rattle.hsp_cert.specs.Reading.{HasNoEnd, IsBadLine, IsEnded, IsAfterEnd}
 use Rattle.hsp_cert.proofs.AppendedLines.{spelling, spelling-append}
 use Rattle.hsp_cert.proofs.ReadItems.{item_spelled}
-use Rattle.hsp_cert.proofs.GrammarSteps.{when_taken}
+use Rattle.hsp_cert.proofs.ListSteps.{some_left, when_taken}
 use Rattle.hsp_cert.proofs.WholeRuns.{run, run-append, run_so_far}
 use Rattle.hsp_cert.proofs.Standing.{claim_ended}
-use Rattle.hsp_cert.proofs.LinesRead.{ReadsBack, item_is, map-lines, untaken, read_stand}
+use Rattle.hsp_cert.proofs.LinesRead.{ReadsBack, untaken, read_stand}
 use Rattle.hsp_text.proofs.Lists.{all_append}
 
 -- the lines that were read, of the items that made the draft, and what is left of the text
@@ -72,7 +73,7 @@ no_end_yet : (d e : Drafted) (i : Item) → ReadsBack i → step d i ≡ Some e 
     → line_of i ≡ codes "END" → ⊥
 no_end_yet d e i back taken still named =
     let said : item_in (codes "END") ≡ Some (item.Alone word.End) = refl in
-    let same = item_is i (item.Alone word.End) (sym back ∙ ap item_in named ∙ said) in
+    let same = same_Some i (item.Alone word.End) (sym back ∙ ap item_in named ∙ said) in
     let ends = end_ends_at d.stage d e (subst (λ (j : Item). step d j ≡ Some e) same taken) in
     cc (ends, still)
 
@@ -99,7 +100,7 @@ adds text rest line after lines d e g still cut t =
       count = omega (arith, g.count, length-append g.items new);
       within = omega (arith, g.within, ap length cut, length-append line (10 ∷ after));
       no_end = λ goes.
-          subst HasNoEnd (sym (map-lines g.items new))
+          subst HasNoEnd (sym (map-append line_of g.items new))
           (all_append (λ l. l ≡ codes "END" → ⊥) (map line_of g.items) (map line_of new) (g.no_end still)
           (no_end_yet d e i back p.2 goes, tt));
     }
@@ -149,11 +150,6 @@ whole_alone text rest lines d c g over none same =
       w.1 ∙ ap (λ (x : List ℕ). text_of (claimed d) ++ x) nothing ∙ append-nil (text_of (claimed d))
           ∙ ap text_of (sym same),
     )
-
--- what is not empty has an octet
-some_left : (rest : List ℕ) → (length rest == 0) ≡ false → 0 < length rest
-some_left [] h = absurd cc
-some_left (x ∷ rest) h = omega arith
 
 -- a certificate with something behind its end has a line after the end
 pub after_end : (text rest : List ℕ) (lines : ℕ) (d : Drafted) → Progress text rest lines d → has_ended d.stage ≡ true

@@ -5,6 +5,7 @@ use Rattle.std.specs.Prelude.{◌==◌, ◌&&◌, ◌||◌, nat_le, nat_lt, opti
 use Rattle.std.specs.List.{list_all}
 use Rattle.std.proofs.lemmas.Bool.{and_parts, and_from}
 use Rattle.std.proofs.lemmas.List.{append-nil}
+use Rattle.std.proofs.lemmas.Option.{same_Some}
 use Rattle.hsp_cert.specs.declared.use_line.UseLine.{UseLine}
 use Rattle.hsp_cert.specs.declared.stage.Stage.TheVariants as stage
 use Rattle.hsp_cert.specs.declared.item.Word.{Word}
@@ -17,8 +18,9 @@ use Rattle.hsp_cert.specs.Certificate.Claim.{best, short}
 use Rattle.hsp_cert.specs.Text.{use_items, price_items, row_items, body_items, items_of, version_of}
 use Rattle.hsp_cert.specs.Drafts.{Drafted, when, last, is_next}
 use Rattle.hsp_cert.specs.Steps.{with_plan, step, no_plan, no_set, start}
-use Rattle.hsp_cert.proofs.GrammarSteps.{Valid, so_far, last_push, step_next}
-use Rattle.hsp_text.proofs.Steps.{le_true, lt_true}
+use Rattle.hsp_cert.proofs.GrammarSteps.{Valid, so_far, step_next}
+use Rattle.hsp_cert.proofs.ListSteps.{last_push, next_is}
+use Rattle.hsp_text.proofs.Steps.{le_true}
 
 abbrev pub stepped : Option Drafted → Item → Option Drafted
 stepped None i = None
@@ -39,13 +41,6 @@ pub run-none : (xs : List Item) → run None xs ≡ None
 run-none [] = refl
 run-none (x ∷ xs) = run-none xs
 
-abbrev pub some_draft : Drafted → Option Drafted
-some_draft d = Some d
-
--- a draft is one only
-pub some_is : (d e : Drafted) → some_draft d ≡ Some e → d ≡ e
-some_is d e h = cc
-
 -- a run that gave a draft began with one
 pub first_step : (o : Option Drafted) (xs : List Item) (e : Drafted) → run o xs ≡ Some e → (d : Drafted) × (o ≡ Some d)
 first_step None xs e h = let n = run-none xs in absurd cc
@@ -54,7 +49,7 @@ first_step (Some d) xs e h = (d, refl)
 -- what a run of items makes is a draft of those items more
 run_next : (xs : List Item) (d e : Drafted) → Valid d → run (Some d) xs ≡ Some e → Valid e × (so_far e ≡ so_far d ++ xs)
 run_next [] d e h eq =
-    let same = some_is d e eq in (subst Valid same h, ap so_far (sym same) ∙ sym (append-nil (so_far d)))
+    let same = same_Some d e eq in (subst Valid same h, ap so_far (sym same) ∙ sym (append-nil (so_far d)))
 run_next (x ∷ xs) d e h eq =
     let f = first_step (step d x) xs e eq in
     let n = step_next d x f.0 h f.1 in
@@ -133,10 +128,7 @@ run_prices : (w : Word) (most : ℕ) (state : List ℕ → Drafted)
 run_prices w most state takes qs [] rest le h = ap (λ (l : List ℕ). run (Some (state l)) rest) (sym (append-nil qs))
 run_prices w most state takes qs (p ∷ ps) rest le h =
     let one = and_parts (is_price p) (list_all is_price ps) h in
-    let ok : is_next most qs (length qs) p ≡ true =
-    and_from (length qs == length qs && nat_lt (length qs) most) (is_price p)
-    (and_from (length qs == length qs) (nat_lt (length qs) most) (eq-eqb (length qs) (length qs) refl)
-    (lt_true (length qs) most (omega arith))) one.0 in
+    let ok = next_is most qs p (omega arith) one.0 in
     let longer : length qs + 1 ≡ length (qs ++ p ∷ []) = omega (arith, length-append qs (p ∷ [])) in
     let within : length (qs ++ p ∷ []) + length ps ≤ most = omega (arith, longer) in
     ap (λ (o : Option Drafted). run o (price_items w (length qs + 1) ps ++ rest))

@@ -31,8 +31,9 @@ cost_set b cost =
       host_prices = b.host_prices;
     }
 
-abbrev pub is_amount : ℕ → Bool
-is_amount n = nat_le n GREATEST_SUM
+-- a cost, a demand or a capacity is at most 10^16
+abbrev pub is_sum : ℕ → Bool
+is_sum n = nat_le n GREATEST_SUM
 
 abbrev pub version_step : Drafted → ℕ → Option Drafted
 version_step d v = when (v == 1 || v == 2) (record { stage = stage.Kind; version = v; plan = d.plan; set = d.set })
@@ -42,15 +43,15 @@ abbrev pub kind_step : Drafted → Option Drafted
 kind_step d = when (d.version == 1) (staged stage.Demand d)
 
 abbrev pub cost_step : Drafted → ℕ → Option Drafted
-cost_step d cost = when (is_amount cost) (with_plan stage.Body d (cost_set d.plan cost))
+cost_step d cost = when (is_sum cost) (with_plan stage.Body d (cost_set d.plan cost))
 
 abbrev pub demand_step : Drafted → ℕ → Option Drafted
 demand_step d n =
-    when (is_amount n) (with_set stage.Capacity d (record { rows = d.set.rows; demand = n; capacity = d.set.capacity }))
+    when (is_sum n) (with_set stage.Capacity d (record { rows = d.set.rows; demand = n; capacity = d.set.capacity }))
 
 abbrev pub capacity_step : Drafted → ℕ → Option Drafted
 capacity_step d n =
-    when (is_amount n) (with_set stage.Rows d (record { rows = d.set.rows; demand = d.set.demand; capacity = n }))
+    when (is_sum n) (with_set stage.Rows d (record { rows = d.set.rows; demand = d.set.demand; capacity = n }))
 
 -- the lines above the lists
 abbrev pub head_at : Stage → Drafted → Item → Option Drafted

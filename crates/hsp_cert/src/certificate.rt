@@ -2,7 +2,7 @@
 
 ghost use Rattle.std.specs.Prelude.{◌≡◌, IfSome};
 
-use crate::ranges::{are_ascending, are_prices, are_rows, are_rows_ascending, are_uses};
+use crate::ranges::{are_ascending, are_numbers_ascending, are_prices, are_rows, are_uses};
 use crate::use_line::UseLine;
 use hsp_text::limits::{GREATEST_SUM, MOST_DEMAND_ROWS, MOST_HOSTS, MOST_SERVERS};
 use std::marker::Model;
@@ -128,7 +128,7 @@ impl ShortSet {
         ensures { result ≡ is_short self.now }
     {
         are_rows(&self.rows)
-            && are_rows_ascending(&self.rows)
+            && are_numbers_ascending(&self.rows)
             && self.demand <= GREATEST_SUM
             && self.capacity <= GREATEST_SUM
     }

@@ -2,7 +2,7 @@
 
 ghost use Rattle.std.specs.Prelude.{◌≡◌, IfOk};
 ghost use Rattle.hsp_cert.specs.Drafts.{Took, may_use, may_row_price, may_server_price, may_host_price, may_row};
-ghost use Rattle.hsp_cert.specs.Drafts.{is_next, use_in, row_in, use_step, row_price_step, server_price_step};
+ghost use Rattle.hsp_cert.specs.Drafts.{use_in, row_in, use_step, row_price_step, server_price_step};
 ghost use Rattle.hsp_cert.specs.Drafts.{host_price_step, body_step, rows_step};
 ghost use Rattle.hsp_cert.specs.Certificate.{IsCertificate};
 ghost use Rattle.hsp_cert.specs.Steps.{version_step, kind_step, cost_step, demand_step, capacity_step, head_step, step};
@@ -10,7 +10,7 @@ ghost use Rattle.hsp_cert.specs.Steps.{start, has_ended, claimed};
 
 use crate::certificate::{Certificate, PricedPlan, ShortSet, Shown};
 use crate::item::{Item, Word};
-use crate::ranges::{LAST_ROW, LAST_SITE, is_after, is_price, is_row, is_row_after, is_use};
+use crate::ranges::{LAST_ROW, LAST_SITE, is_after, is_next, is_number_after, is_row, is_use};
 use crate::stage::Stage;
 use crate::use_line::UseLine;
 use crate::writing::version_of;
@@ -40,13 +40,6 @@ impl Model for Draft {
     } };
 }
 
-// Whether the number and the price can stand behind these prices.
-fn is_next(most: u64, prices: &[u64], number: u64, price: u64) -> bool
-    ensures { result ≡ is_next most prices.now number price }
-{
-    number == prices.len() as u64 && number < most && is_price(price)
-}
-
 // Whether a use may follow what the plan holds.
 fn may_use(plan: &PricedPlan, one: UseLine) -> bool
     ensures { result ≡ may_use plan.now one }
@@ -64,28 +57,28 @@ fn may_row_price(plan: &PricedPlan, number: u64, price: u64) -> bool
 {
     plan.server_prices.len() == 0
         && plan.host_prices.len() == 0
-        && is_next(MOST_DEMAND_ROWS as u64, &plan.row_prices, number, price)
+        && is_next(MOST_DEMAND_ROWS, &plan.row_prices, number, price)
 }
 
 // Whether the price of a server may follow.
 fn may_server_price(plan: &PricedPlan, number: u64, price: u64) -> bool
     ensures { result ≡ may_server_price plan.now number price }
 {
-    plan.host_prices.len() == 0 && is_next(MOST_SERVERS as u64, &plan.server_prices, number, price)
+    plan.host_prices.len() == 0 && is_next(MOST_SERVERS, &plan.server_prices, number, price)
 }
 
 // Whether the price of a host may follow.
 fn may_host_price(version: u64, plan: &PricedPlan, number: u64, price: u64) -> bool
     ensures { result ≡ may_host_price version plan.now number price }
 {
-    version == 2 && is_next(MOST_HOSTS as u64, &plan.host_prices, number, price)
+    version == 2 && is_next(MOST_HOSTS, &plan.host_prices, number, price)
 }
 
 // Whether a row may follow those of the set.
 fn may_row(set: &ShortSet, row: u32) -> bool
     ensures { result ≡ may_row set.now row }
 {
-    is_row(row) && is_row_after(set.rows.last().copied(), row)
+    is_row(row) && is_number_after(set.rows.last().copied(), row)
 }
 
 // A use whose row and site fit their fields.

@@ -1,4 +1,4 @@
-// What a line says.
+// What a line says: words and numbers with one space between them.
 
 ghost use Rattle.std.specs.Prelude.{◌≡◌, option_map};
 ghost use Rattle.hsp_cert.specs.Lexing.{cut, word_among, word_in, number_in, after_first, after_second, item_in};
@@ -6,8 +6,8 @@ ghost use Rattle.hsp_cert.specs.Lexing.{cut, word_among, word_in, number_in, aft
 use crate::item::{Item, WORDS, Word, spelled};
 use hsp_text::read_whole;
 
-// The octets before the first space, and those after it, if there is one.
-fn cut_at_space(text: &[u8]) -> (&[u8], Option<&[u8]>)
+/// The octets before the first space, and those after it: all the octets and None, where they have no space.
+pub fn cut_at_space(text: &[u8]) -> (&[u8], Option<&[u8]>)
     ensures { cut text.now ≡ (result.0.now, option_map (λ r. r.now) result.1) }
 {
     for (place, octet) in text.iter().enumerate() {
@@ -37,8 +37,9 @@ fn word_of(octets: &[u8]) -> Option<Word>
     word_among(&WORDS, octets)
 }
 
-// The whole number that octets spell, below 2^64.
-fn number_of(octets: &[u8]) -> Option<u64>
+/// The number that octets spell, or None where they spell no whole number below 2^64: digits, with no zero before
+/// others.
+pub fn number_of(octets: &[u8]) -> Option<u64>
     ensures { result ≡ number_in octets.now }
 {
     match read_whole(octets, u64::MAX) {

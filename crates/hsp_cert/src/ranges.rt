@@ -1,8 +1,10 @@
 // The orders and ranges of a certificate's numbers.
 
-ghost use Rattle.std.specs.Prelude.{◌≡◌, ◌≤◌, ◌&&◌, length, nat_le, nat_lt, Option};
+ghost use Rattle.std.specs.Prelude.{◌≡◌, nat_lt};
 ghost use Rattle.std.specs.List.{list_all};
 ghost use Rattle.hsp_cert.specs.Certificate.{is_use, is_price, is_row, is_before, goes_on_from, ascends};
+ghost use Rattle.hsp_cert.specs.Certificate.{are_prices_within};
+ghost use Rattle.hsp_cert.specs.Drafts.{is_next};
 
 use crate::use_line::UseLine;
 use hsp_text::limits::{GREATEST_COUNT, GREATEST_PRICE, MOST_DEMAND_ROWS, MOST_SITES};
@@ -19,8 +21,8 @@ pub(crate) fn is_use(one: UseLine) -> bool
     one.row <= LAST_ROW && one.site <= LAST_SITE && 1 <= one.count && one.count <= GREATEST_COUNT
 }
 
-/// Whether a price is within its range.
-pub(crate) fn is_price(price: u64) -> bool
+/// Whether a price is within its range: at most 10^12.
+pub fn is_price(price: u64) -> bool
     ensures { result ≡ is_price price }
 {
     price <= GREATEST_PRICE
@@ -43,8 +45,8 @@ pub(crate) fn is_after(last: Option<UseLine>, next: UseLine) -> bool
     }
 }
 
-/// Whether a row may follow the last one.
-pub(crate) fn is_row_after(last: Option<u32>, next: u32) -> bool
+/// Whether a number may follow the last one of a list that ascends: it is greater, or there is none.
+pub fn is_number_after(last: Option<u32>, next: u32) -> bool
     ensures { result ≡ goes_on_from nat_lt last next }
 {
     match last {
@@ -91,13 +93,13 @@ pub(crate) fn are_rows(rows: &[u32]) -> bool
     true
 }
 
-/// Whether rows ascend.
-pub(crate) fn are_rows_ascending(rows: &[u32]) -> bool
-    ensures { result ≡ ascends nat_lt rows.now }
+/// Whether each number is greater than the one before it.
+pub fn are_numbers_ascending(numbers: &[u32]) -> bool
+    ensures { result ≡ ascends nat_lt numbers.now }
 {
     let mut last = None;
-    for next in rows {
-        if !is_row_after(last, *next) {
+    for next in numbers {
+        if !is_number_after(last, *next) {
             return false;
         }
         last = Some(*next);
@@ -105,9 +107,9 @@ pub(crate) fn are_rows_ascending(rows: &[u32]) -> bool
     true
 }
 
-/// Whether there are not too many prices, and each is within its range.
-pub(crate) fn are_prices(prices: &[u64], most: usize) -> bool
-    ensures { result ≡ (nat_le (length prices.now) most && list_all is_price prices.now) }
+/// Whether there are at most so many prices, and each is within its range.
+pub fn are_prices(prices: &[u64], most: usize) -> bool
+    ensures { result ≡ are_prices_within most prices.now }
 {
     if prices.len() > most {
         return false;
@@ -118,4 +120,12 @@ pub(crate) fn are_prices(prices: &[u64], most: usize) -> bool
         }
     }
     true
+}
+
+/// Whether a price may stand behind these with its number: it is within its range, it has the next number, counted
+/// from 0, and there are then at most so many.
+pub fn is_next(most: usize, prices: &[u64], number: u64, price: u64) -> bool
+    ensures { result ≡ is_next most prices.now number price }
+{
+    number == prices.len() as u64 && number < most as u64 && is_price(price)
 }

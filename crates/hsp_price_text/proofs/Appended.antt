@@ -2,10 +2,10 @@
 use Rattle.std.proofs.Common.{◌≡◌, ◌⊎◌, inl, inr, ℕ, List, [], ◌∷◌, ◌++◌, length, map, refl, append_assoc, arith}
 use Rattle.std.specs.Prelude.{codes}
 use Rattle.hsp_cert.specs.Text.{unlines}
+use Rattle.hsp_cert.proofs.LineCuts.{unlines-append}
 use Rattle.hsp_price_text.specs.declared.certificate.PriceCertificate.TheVariants.{Plan, Shortage}
 use Rattle.hsp_price_text.specs.Claim.{Best, Short}
 use Rattle.hsp_price_text.specs.Text.{class_line, in_turn, numbered, price_lines, server_line, text_of, version}
-use Rattle.hsp_price_text.proofs.LineReading.{unlines-append}
 
 -- the lines of a plan
 pub plan_appended : (b : Best) (o p q r s t u : List ℕ) → p ≡ o ++ unlines (version ∷ codes "PLAN" ∷ [])

@@ -1,26 +1,27 @@
 -- What a draft has read so far, and what a line adds to it.
-use Rattle.std.proofs.Common.{◌≡◌, ◌<◌, ◌≤◌, ◌+◌, ◌-◌, ℕ, suc, Bool, true, false, List, [], ◌∷◌, ◌++◌, length, map}
+use Rattle.std.proofs.Common.{◌≡◌, ◌<◌, ◌≤◌, ◌+◌, ℕ, Bool, true, false, List, [], ◌∷◌, ◌++◌, length, map}
 use Rattle.std.proofs.Common.{Option, Some}
 use Rattle.std.proofs.Common.{None, inl, inr, ◌⊎◌, refl, sym, ap, subst, ◌∙◌, arith, append_assoc, append-nil}
 use Rattle.std.proofs.Common.{length-append}
-use Rattle.std.specs.Prelude.{◌==◌, ◌&&◌, codes, if◌then◌else◌, nat_le, nat_lt, option_map, slice_get}
+use Rattle.std.specs.Prelude.{◌&&◌, codes, if◌then◌else◌, nat_le, nat_lt, option_map}
 use Rattle.std.specs.List.{list_all}
 use Rattle.std.specs.Str.{bytes_eq}
-use Rattle.std.proofs.lemmas.Bool.{and_parts, and_from, eqb-true}
+use Rattle.std.proofs.lemmas.Bool.{and_parts, and_from}
 use Rattle.std.proofs.lemmas.Bool.Decides.{nat_tests}
-use Rattle.std.proofs.lemmas.List.{nil_from_length}
-use Rattle.std.proofs.lemmas.List.Folds.{list_all-append}
+use Rattle.std.proofs.lemmas.List.{map-append}
 use Rattle.std.proofs.lemmas.Slice.Eq.{bytes_eq-Decides}
-use Rattle.hsp_cert.specs.Certificate.{are_prices_within, ascends, ascends_from, goes_on_from, is_price}
-use Rattle.hsp_cert.specs.Drafts.{is_next, is_none, last, when}
-use Rattle.hsp_cert.proofs.GrammarSteps.{when_taken}
+use Rattle.hsp_cert.specs.Certificate.{are_prices_within, ascends, is_price}
+use Rattle.hsp_cert.specs.Drafts.{is_next, is_none, when}
+use Rattle.hsp_cert.specs.Steps.{is_sum}
+use Rattle.hsp_cert.proofs.ListSteps.{all_push, ascends_push, next_facts, none_is, when_taken}
+use Rattle.hsp_text.proofs.Steps.{le_true}
 use Rattle.hsp_price_text.specs.declared.stage.Stage.{Stage}
 use Rattle.hsp_price_text.specs.declared.stage.Stage.TheVariants as stage
 use Rattle.hsp_price_text.specs.declared.certificate.PriceCertificate.TheVariants.{Plan, Shortage}
 use Rattle.hsp_price_text.specs.Claim.{Best, Class, Short, are_servers, is_before, is_best, is_class, is_server}
 use Rattle.hsp_price_text.specs.Claim.{is_short}
 use Rattle.hsp_price_text.specs.Drafts.{Drafted, behind_servers_step, body_step, capacity_step, class_step}
-use Rattle.hsp_price_text.specs.Drafts.{cost_step, demand_step, fixed_step, host_price_step, is_sum, kind_step}
+use Rattle.hsp_price_text.specs.Drafts.{cost_step, demand_step, fixed_step, host_price_step, kind_step}
 use Rattle.hsp_price_text.specs.Drafts.{no_plan, no_set, or_else, plan_step, priced, server_price_step, server_step}
 use Rattle.hsp_price_text.specs.Drafts.{servers_step, step, step_at}
 use Rattle.hsp_price_text.specs.Lines.{class_in, numbers_behind, only_one, only_two}
@@ -31,37 +32,6 @@ abbrev pub Lines : Type 0
 Lines = List (List ℕ)
 
 -- ---- lists that grow
-
--- a list that is none is empty
-none_is : {A : Type 0} (xs : List A) → is_none xs ≡ true → xs ≡ []
-none_is xs h = nil_from_length xs (eqb-true (length xs) 0 h)
-
--- a test passes for all and for one more
-all_push : {A : Type 0} (p : A → Bool) (xs : List A) (x : A) → list_all p xs ≡ true → p x ≡ true
-    → list_all p (xs ++ x ∷ []) ≡ true
-all_push p xs x h k =
-    list_all-append p xs (x ∷ []) ∙ and_from (list_all p xs) (p x && true) h (and_from (p x) true k refl)
-
--- an ascending list stays so by an element that goes on from its last
-ascends_behind : {A : Type 0} (before : A → A → Bool) (y : A) (xs : List A) (x : A)
-    → ascends_from before (Some y) xs ≡ true → goes_on_from before (slice_get (y ∷ xs) (length xs)) x ≡ true
-    → ascends_from before (Some y) (xs ++ x ∷ []) ≡ true
-ascends_behind before y [] x h k = and_from (before y x) true k refl
-ascends_behind before y (z ∷ xs) x h k =
-    let b = and_parts (before y z) (ascends_from before (Some z) xs) h in
-    and_from (before y z) (ascends_from before (Some z) (xs ++ x ∷ [])) b.0 (ascends_behind before z xs x b.1 k)
-
--- an ascending list goes on where its last comes before the next
-ascends_push : {A : Type 0} (before : A → A → Bool) (xs : List A) (x : A) → ascends before xs ≡ true
-    → goes_on_from before (last xs) x ≡ true → ascends before (xs ++ x ∷ []) ≡ true
-ascends_push before [] x h k = refl
-ascends_push before (y ∷ xs) x h k =
-    let at : suc (length xs) - 1 ≡ length xs = omega arith in ascends_behind before y xs x h (rw at at k)
-
--- what a function gives one element more is one more
-map-push : {A B : Type 0} (f : A → B) (xs : List A) (x : A) → map f (xs ++ x ∷ []) ≡ map f xs ++ f x ∷ []
-map-push f [] x = refl
-map-push f (y ∷ xs) x = ap (λ l. f y ∷ l) (map-push f xs x)
 
 -- one price more is one line more, of the next number
 price_lines-push : (word : List ℕ) (n : ℕ) (ps : List ℕ) (k p : ℕ) → k ≡ n + length ps
@@ -75,16 +45,10 @@ price_lines-push word n (q ∷ ps) k p e =
 prices_push : (most : ℕ) (ps : List ℕ) (n p : ℕ) → are_prices_within most ps ≡ true → is_next most ps n p ≡ true
     → (are_prices_within most (ps ++ p ∷ []) ≡ true) × (n ≡ length ps)
 prices_push most ps n p h k =
-    let a = and_parts (n == length ps && nat_lt n most) (is_price p) k in
-    let b = and_parts (n == length ps) (nat_lt n most) a.0 in
-    let same = eqb-true n (length ps) b.0 in
-    let less : n < most = let t = b.1 in grind (arith, nat_tests) in
-    let few : length (ps ++ p ∷ []) ≤ most = omega (arith, length-append ps (p ∷ []), same) in
-    let within = and_parts (nat_le (length ps) most) (list_all is_price ps) h in (
-      and_from (nat_le (length (ps ++ p ∷ [])) most) _ (grind (arith, nat_tests, few))
-          (all_push is_price ps p within.1 a.1),
-      same,
-    )
+    let f = next_facts most ps n p k in
+    let few : length (ps ++ p ∷ []) ≤ most = omega (arith, length-append ps (p ∷ []), f.0, f.1) in
+    let within = and_parts (nat_le (length ps) most) (list_all is_price ps) h in
+    (and_from (nat_le (length (ps ++ p ∷ [])) most) _ (le_true _ most few) (all_push is_price ps p within.1 f.2), f.0)
 
 -- ---- a plan with one line more
 
@@ -209,7 +173,7 @@ class_grown b c e h taken =
             order = ascends_push is_before b.classes c p.order next.1;
           });
       lines =
-          ap (λ l. servers ++ (hosts ++ l)) (map-push class_line b.classes c) ∙ simp (append_assoc);
+          ap (λ l. servers ++ (hosts ++ l)) (map-append class_line b.classes (c ∷ [])) ∙ simp (append_assoc);
       cost = refl;
     })
 
@@ -438,7 +402,7 @@ set_next b t line e v h =
                 capacity = p.capacity;
               });
           lines =
-              ap (λ l. version ∷ codes "SHORT" ∷ l) (map-push server_line t.servers j)
+              ap (λ l. version ∷ codes "SHORT" ∷ l) (map-append server_line t.servers (j ∷ []))
               ∙ ap (λ l. version ∷ codes "SHORT" ∷ (map server_line t.servers ++ l ∷ [])) (sym (named j refl));
         })
 

@@ -11,7 +11,7 @@ use Rattle.hsp_text.proofs.Lists.{all_append}
 use Rattle.hsp_text.specs.Name.{is_name, is_name_octet}
 use Rattle.hsp_cert.specs.Lexing.{cut}
 use Rattle.hsp_cert.proofs.LineCuts.{Unbroken}
-use Rattle.hsp_cert.proofs.ReadItems.{decimal_printed, printed_apart}
+use Rattle.hsp_cert.proofs.SpelledNumbers.{decimal_unbroken}
 use Rattle.hsp_cert.proofs.SpacedText.{NoSpace, cut_rejoined, cut_spaced, rejoined}
 use Rattle.hsp_price_text.specs.Claim.{Class, are_servers, is_amount, is_class, is_server}
 use Rattle.hsp_price_text.specs.Lines.{class_from, class_in, class_left, numbers_behind, numbers_in, numbers_left}
@@ -40,7 +40,7 @@ spaced_unbroken [] h = tt
 spaced_unbroken (n ∷ ns) h = (
   (λ e. omega (arith, e)),
   all_append (λ x. x ≡ 10 → ⊥) (decimal n) (spaced ns)
-      (printed_apart 10 (omega arith) (decimal n) (decimal_printed n h.0)) (spaced_unbroken ns h.1),
+      (decimal_unbroken n h.0) (spaced_unbroken ns h.1),
 )
 
 -- nor has a word with numbers

@@ -1,15 +1,18 @@
 -- What a machine that takes a language's lines shows of a text. Five facts tie it to the language.
-use Rattle.std.proofs.Common.{◌≡◌, ◌<◌, ◌≤◌, ◌+◌, ℕ, true, false, List, [], ◌∷◌, ◌++◌, length, Option, Some, None}
+use Rattle.std.proofs.Common.{◌≡◌, ◌≤◌, ◌+◌, ℕ, true, false, List, [], ◌∷◌, ◌++◌, length, Option, Some, None}
 use Rattle.std.proofs.Common.{Ok, Err, refl, sym, ap, subst, ◌∙◌, arith, inl, inr, append_assoc, length-append}
 use Rattle.std.specs.Prelude.{◌==◌}
 use Rattle.std.specs.List.{AllByRecursion}
 use Rattle.std.proofs.lemmas.List.{append-nil, nil_from_length}
 use Rattle.std.proofs.lemmas.Bool.{eqb-true}
+use Rattle.std.proofs.lemmas.Option.{same_Some}
 use Rattle.hsp_text.specs.Lines.{IsUnbroken}
 use Rattle.hsp_text.proofs.Lists.{all_append}
 use Rattle.hsp_cert.specs.Text.{unlines}
 use Rattle.hsp_cert.specs.declared.fault.CertFault.TheVariants as fault
 use Rattle.hsp_cert.proofs.LineCuts.{GoesOn, Unbroken, by_recursion, first_line, fronts, no_line, same_line}
+use Rattle.hsp_cert.proofs.LineCuts.{unlines-append}
+use Rattle.hsp_cert.proofs.ListSteps.{all_back, all_front, some_left}
 use Rattle.hsp_price_text.specs.Language.{Agrees, HasEnded, HasNoEnd, IsAfterEnd, IsBadLine, IsEnd, Language}
 use Rattle.hsp_price_text.specs.Language.{LinesStand, Machine, MeansIn, Stepped, run, stepped, text_in}
 
@@ -47,18 +50,8 @@ module _ {Draft Claim : Type 0} (machine : Machine Draft Claim) where
   run-none [] = refl
   run-none (x ∷ xs) = run-none xs
 
--- the texts of two lists of lines stand one after the other
-pub unlines-append : (xs ys : List (List ℕ)) → unlines (xs ++ ys) ≡ unlines xs ++ unlines ys
-unlines-append [] ys = refl
-unlines-append (x ∷ xs) ys =
-    ap (λ (t : List ℕ). x ++ 10 ∷ t) (unlines-append xs ys) ∙ sym (append_assoc x (10 ∷ unlines xs) (unlines ys))
-
 abbrev some_of : {A : Type 0} → A → Option A
 some_of x = Some x
-
--- what is there is one only
-some_is : {A : Type 0} (x y : A) → some_of x ≡ Some y → x ≡ y
-some_is x y h = cc
 
 -- a step that was taken gave this
 took : {A : Type 0} (old : A) (o : Option A) (x : A) → Stepped old o true x → o ≡ Some x
@@ -69,21 +62,6 @@ took old (Some y) x h = ap some_of (sym h)
 refused : {A : Type 0} (old : A) (o : Option A) (x : A) → Stepped old o false x → o ≡ None
 refused old None x h = refl
 refused old (Some y) x h = absurd h
-
--- what holds of all of two lists holds of the first
-all_front : {A : Type 0} (P : A → Type 0) (xs ys : List A) → AllByRecursion P (xs ++ ys) → AllByRecursion P xs
-all_front P [] ys h = tt
-all_front P (x ∷ xs) ys h = (h.0, all_front P xs ys h.1)
-
--- what holds of all of two lists holds of the second
-all_back : {A : Type 0} (P : A → Type 0) (xs ys : List A) → AllByRecursion P (xs ++ ys) → AllByRecursion P ys
-all_back P [] ys h = h
-all_back P (x ∷ xs) ys h = all_back P xs ys h.1
-
--- what is not empty has an octet
-some_left : (rest : List ℕ) → (length rest == 0) ≡ false → 0 < length rest
-some_left [] h = absurd cc
-some_left (x ∷ rest) h = omega arith
 
 module _ {Draft Claim : Type 0} (language : Language Claim) (machine : Machine Draft Claim)
     (takes : Takes language machine) where
@@ -212,7 +190,7 @@ module _ {Draft Claim : Type 0} (language : Language Claim) (machine : Machine D
   claim_same c d hc hd e =
       let a = takes.whole c hc in
       let b = takes.whole d hd in
-      let one = some_is a.0 b.0 (sym a.1 ∙ ap (run machine begun) e ∙ b.1) in
+      let one = same_Some a.0 b.0 (sym a.1 ∙ ap (run machine begun) e ∙ b.1) in
       sym a.3 ∙ ap machine.claimed one ∙ b.3
 
   -- no claim's lines go on to another's

@@ -1,19 +1,14 @@
 -- The parts of a text between its spaces, and the numbers that they spell.
-use Rattle.std.proofs.Common.{◌≡◌, ◌<◌, ◌≤◌, ◌^◌, ℕ, Bool, true, false, List, [], ◌∷◌, ◌++◌, length, Option, Some}
-use Rattle.std.proofs.Common.{None, Ok, Err, decimal, refl, sym, ap, ◌∙◌, arith, eq-eqb, inl, inr, append_assoc}
+use Rattle.std.proofs.Common.{◌≡◌, ◌<◌, ◌^◌, ℕ, Bool, true, false, List, [], ◌∷◌, ◌++◌, length, Option, Some}
+use Rattle.std.proofs.Common.{None, decimal, refl, sym, ap, ◌∙◌, arith, eq-eqb, inl, inr, append_assoc}
 use Rattle.std.proofs.Common.{append-nil, length-append}
-use Rattle.std.specs.Prelude.{if◌then◌else◌, nat_le}
+use Rattle.std.specs.Prelude.{if◌then◌else◌}
 use Rattle.std.specs.List.{AllByRecursion, list_all}
 use Rattle.std.specs.Str.{bytes_eq}
-use Rattle.std.specs.Str.Parse.{digits_value}
 use Rattle.std.proofs.lemmas.Bool.{and_parts, ne_eqb, cases_eq}
-use Rattle.std.proofs.lemmas.Bool.Decides.{nat_tests}
 use Rattle.std.proofs.lemmas.Slice.Eq.{bytes_eq-Decides}
-use Rattle.hsp_text.specs.declared.whole.WholeFault.TheVariants.{NotWhole, TooLarge}
-use Rattle.hsp_text.specs.Whole.{is_whole}
-use Rattle.hsp_text.proofs.Numerals.{digits_spell_their_number}
-use Rattle.hsp_cert.specs.Lexing.{cut, number_in, number_read}
-use Rattle.hsp_cert.proofs.ReadItems.{decimal_printed, printed_apart}
+use Rattle.hsp_cert.specs.Lexing.{cut, number_in}
+use Rattle.hsp_cert.proofs.SpelledNumbers.{decimal_spaceless, number_back, number_named}
 use Rattle.hsp_cert.proofs.SpacedText.{NoSpace, cut_rejoined, cut_spaced, cut_whole, rejoined}
 use Rattle.hsp_price_text.specs.Claim.{is_server}
 use Rattle.hsp_price_text.specs.Lines.{numbers_behind, numbers_in, numbers_left, numbers_of, parts, turns_of}
@@ -109,37 +104,6 @@ turn_more servers amounts a b (Some turns) =
 -- a number is one of 64 bits
 abbrev pub Fits : ℕ → Type 0
 Fits n = n < 2 ^ 64
-
--- a number that was read is whole and within its limit
-read_parts : (w l : Bool) (v n : ℕ)
-    → number_read (if w then (if l then Ok v else Err TooLarge) else Err NotWhole) ≡ Some n
-    → (w ≡ true) × (l ≡ true) × (v ≡ n)
-read_parts true true v n h = (refl, refl, cc)
-read_parts true false v n h = absurd cc
-read_parts false l v n h = absurd cc
-
--- a number that passes the test fits in 64 bits
-below : (n : ℕ) → nat_le n 18446744073709551615 ≡ true → Fits n
-below n h = let le : n ≤ 18446744073709551615 = grind (arith, nat_tests) in omega arith
-
--- a number that fits in 64 bits passes the test
-fits_64 : (n : ℕ) → Fits n → nat_le n 18446744073709551615 ≡ true
-fits_64 n h = let le : n ≤ 18446744073709551615 = omega arith in grind (arith, nat_tests)
-
--- a number that was read is spelled so
-number_named : (o : List ℕ) (n : ℕ) → number_in o ≡ Some n → o ≡ decimal n
-number_named o n h =
-    let p = read_parts (is_whole o) (nat_le (digits_value 10 o) 18446744073709551615) (digits_value 10 o) n h in
-    let small : n < 2 ^ 64 = omega (arith, below (digits_value 10 o) p.1, p.2) in
-    (digits_spell_their_number n o small).0 (p.0, p.2)
-
--- each number is read back from its decimal
-number_back : (n : ℕ) → Fits n → number_in (decimal n) ≡ Some n
-number_back n h = let s = (digits_spell_their_number n (decimal n) h).1 refl in rw (s.0, s.1, fits_64 n h) refl
-
--- a decimal has no space
-decimal_spaceless : (n : ℕ) → Fits n → NoSpace (decimal n)
-decimal_spaceless n h = printed_apart 32 (omega arith) (decimal n) (decimal_printed n h)
 
 -- numbers that are spelled are read back
 pub numbers_back : (n : ℕ) (ns : List ℕ) → Fits n → AllByRecursion Fits ns

@@ -1,14 +1,15 @@
 -- All lines of a certificate are taken, and none holds a line feed.
 use Rattle.std.proofs.Common.{◌≡◌, ◌<◌, ◌≤◌, ◌+◌, ℕ, Bool, true, List, [], ◌∷◌, ◌++◌, length, map, Some}
-use Rattle.std.proofs.Common.{refl, sym, ap, subst, ◌∙◌, arith, append_assoc, append-nil, eq-eqb, length-append}
-use Rattle.std.specs.Prelude.{◌==◌, ◌&&◌, codes, nat_le, nat_lt, option_map}
+use Rattle.std.proofs.Common.{refl, sym, ap, subst, ◌∙◌, arith, append_assoc, append-nil, length-append}
+use Rattle.std.specs.Prelude.{◌&&◌, codes, nat_le, nat_lt, option_map}
 use Rattle.std.specs.List.{AllByRecursion, list_all}
 use Rattle.std.proofs.lemmas.Bool.{and_from, and_parts}
 use Rattle.std.proofs.lemmas.Bool.Decides.{nat_tests}
 use Rattle.hsp_text.proofs.Lists.{all_append}
 use Rattle.hsp_cert.specs.Certificate.{are_prices_within, ascends_from, goes_on_from, is_price}
-use Rattle.hsp_cert.specs.Drafts.{is_next, last, when}
-use Rattle.hsp_cert.proofs.GrammarSteps.{last_push}
+use Rattle.hsp_cert.specs.Drafts.{last, when}
+use Rattle.hsp_cert.specs.Steps.{is_sum}
+use Rattle.hsp_cert.proofs.ListSteps.{last_push, next_is}
 use Rattle.hsp_cert.proofs.LineCuts.{Unbroken}
 use Rattle.hsp_price_text.specs.declared.stage.Stage.TheVariants as stage
 use Rattle.hsp_price_text.specs.declared.certificate.PriceCertificate.{PriceCertificate}
@@ -16,7 +17,7 @@ use Rattle.hsp_price_text.specs.declared.certificate.PriceCertificate.TheVariant
 use Rattle.hsp_price_text.specs.Certificate.{IsCertificate}
 use Rattle.hsp_price_text.specs.Claim.{Best, Class, Short, is_before, is_class, is_server}
 use Rattle.hsp_price_text.specs.Drafts.{Drafted, behind_servers_step, capacity_step, class_step, claimed}
-use Rattle.hsp_price_text.specs.Drafts.{cost_step, demand_step, has_ended, host_price_step, is_sum, no_plan}
+use Rattle.hsp_price_text.specs.Drafts.{cost_step, demand_step, has_ended, host_price_step, no_plan}
 use Rattle.hsp_price_text.specs.Drafts.{no_set, or_else, priced, reader, server_price_step, server_step, step}
 use Rattle.hsp_price_text.specs.Language.{LinesStand, run}
 use Rattle.hsp_price_text.specs.Lines.{class_in, numbers_behind, only_one}
@@ -44,13 +45,6 @@ sum_fits n h = let small : n ≤ 10000000000000000 = grind (arith, nat_tests, h)
 server_fits : (j : ℕ) → is_server j ≡ true → Fits j
 server_fits j h = let small : j ≤ 1023 = grind (arith, nat_tests, h) in omega arith
 
--- the next price may stand
-next_price : (ps : List ℕ) (p : ℕ) → is_price p ≡ true → length ps < 1024 → is_next 1024 ps (length ps) p ≡ true
-next_price ps p h l =
-    let less : nat_lt (length ps) 1024 ≡ true = grind (arith, nat_tests) in
-    and_from (length ps == length ps && nat_lt (length ps) 1024) (is_price p)
-    (and_from (length ps == length ps) (nat_lt (length ps) 1024) (eq-eqb (length ps) (length ps) refl) less) h
-
 -- ---- a plan
 
 -- the next price of a server is taken
@@ -63,7 +57,7 @@ server_stepped cost ps p h l =
     ap
     (λ o. option_map (priced (in_body cost ps [] [])) (or_else (server_price_step b o) (behind_servers_step b line)))
     (two_back (codes "server") (length ps) p (letters (codes "server") refl) (omega arith) (price_fits p h))
-    ∙ rw (next_price ps p h l) refl
+    ∙ rw (next_is 1024 ps p l h) refl
 
 -- so are all of them
 run_servers : (cost : ℕ) (done more : List ℕ) (rest : Lines) → list_all is_price more ≡ true
@@ -92,7 +86,7 @@ host_stepped cost ps qs q h l =
     ap
     (λ o. option_map (priced (in_body cost ps qs [])) (or_else (host_price_step b o) (class_step b (class_in line))))
     (two_back (codes "host") (length qs) q (letters (codes "host") refl) (omega arith) (price_fits q h))
-    ∙ rw (next_price qs q h l) refl
+    ∙ rw (next_is 1024 qs q l h) refl
 
 -- so are all of them
 run_hosts : (cost : ℕ) (ps done more : List ℕ) (rest : Lines) → list_all is_price more ≡ true

@@ -1,10 +1,11 @@
 -- How a reader takes a certificate, line after line. What a certificate is stands in Claim.antt and Text.antt.
-use Rattle.std.specs.Prelude.{◌&&◌, ℕ, Bool, true, false, List, [], ◌∷◌, ◌++◌, length, nat_le, nat_lt, codes}
+use Rattle.std.specs.Prelude.{◌&&◌, ℕ, Bool, true, false, List, [], ◌∷◌, ◌++◌, length, nat_lt, codes}
 use Rattle.std.specs.Prelude.{Option, Some, None, option_map, if◌then◌else◌}
 use Rattle.std.specs.Str.{bytes_eq}
-use Rattle.hsp_text.specs.declared.limits.TheConstants.{GREATEST_SUM, MOST_HOSTS, MOST_SERVERS}
+use Rattle.hsp_text.specs.declared.limits.TheConstants.{MOST_HOSTS, MOST_SERVERS}
 use Rattle.hsp_cert.specs.Certificate.{goes_on_from}
 use Rattle.hsp_cert.specs.Drafts.{is_next, is_none, last, when}
+use Rattle.hsp_cert.specs.Steps.{is_sum}
 use Rattle.hsp_price_text.specs.declared.ranges.TheConstants.{MOST_CLASSES}
 use Rattle.hsp_price_text.specs.declared.stage.Stage.{Stage}
 use Rattle.hsp_price_text.specs.declared.stage.Stage.TheVariants as stage
@@ -34,9 +35,6 @@ listed d set = record { stage = d.stage; plan = d.plan; set = set }
 -- a line that has to be this one
 abbrev pub fixed_step : Drafted → List ℕ → List ℕ → Stage → Option Drafted
 fixed_step d line wanted next = when (bytes_eq line wanted) (at_stage next d)
-
-abbrev pub is_sum : ℕ → Bool
-is_sum n = nat_le n GREATEST_SUM
 
 abbrev pub kind_step : Drafted → List ℕ → Option Drafted
 kind_step d line =

@@ -3,7 +3,8 @@
 ghost use Rattle.std.specs.Prelude.{◌≡◌, true};
 
 use crate::class::Class;
-use crate::ranges::{MOST_CLASSES, are_classes, are_classes_ascending, are_prices, are_servers};
+use crate::ranges::{MOST_CLASSES, are_classes, are_classes_ascending, are_servers};
+use hsp_cert::ranges::are_prices;
 use hsp_text::limits::{GREATEST_SUM, MOST_HOSTS, MOST_SERVERS};
 use std::marker::Model;
 

@@ -2,7 +2,6 @@
 
 ghost use Rattle.std.specs.Prelude.{◌≡◌, IfOk, option_map};
 ghost use Rattle.hsp_price_text.specs.Certificate.{IsCertificate};
-ghost use Rattle.hsp_cert.specs.Drafts.{is_next};
 ghost use Rattle.hsp_price_text.specs.Drafts.{behind_servers_step, body_step, capacity_step, class_step, cost_step};
 ghost use Rattle.hsp_price_text.specs.Drafts.{demand_step};
 ghost use Rattle.hsp_price_text.specs.Drafts.{claimed, fixed_step, has_ended, host_price_step, kind_step, plan_step};
@@ -12,10 +11,9 @@ ghost use Rattle.hsp_price_text.specs.Language.{Stepped};
 use crate::certificate::{PriceCertificate, PricedPlan, ShortServers};
 use crate::class::Class;
 use crate::lexing::{class_in, one_behind, two_behind};
-use crate::ranges::{
-    LAST_SERVER, MOST_CLASSES, is_class, is_class_after, is_price, is_server_after,
-};
+use crate::ranges::{LAST_SERVER, MOST_CLASSES, is_class, is_class_after};
 use crate::stage::Stage;
+use hsp_cert::ranges::{is_next, is_number_after};
 use hsp_text::limits::{GREATEST_SUM, MOST_HOSTS, MOST_SERVERS};
 use std::alloc::{AllocError, Global};
 use std::marker::Model;
@@ -52,14 +50,6 @@ impl Model for Draft {
         capacity = d.capacity;
       };
     } };
-}
-
-// Whether the number and the price can stand behind these prices.
-fn is_next(most: usize, prices: &[u64], said: (u64, u64)) -> bool
-    ensures { result ≡ is_next most prices.now said.0 said.1 }
-{
-    let (number, price) = said;
-    number == prices.len() as u64 && number < most as u64 && is_price(price)
 }
 
 // Takes the line that says what follows: a plan, or a short set.
@@ -101,7 +91,7 @@ fn take_server_price(draft: &mut Draft, said: Option<(u64, u64)>) -> Result<bool
     };
     if draft.host_prices.len() != 0
         || draft.classes.len() != 0
-        || !is_next(MOST_SERVERS, &draft.server_prices, said)
+        || !is_next(MOST_SERVERS, &draft.server_prices, said.0, said.1)
     {
         return Ok(false);
     }
@@ -117,7 +107,7 @@ fn take_host_price(draft: &mut Draft, said: Option<(u64, u64)>) -> Result<bool, 
     let Some(said) = said else {
         return Ok(false);
     };
-    if draft.classes.len() != 0 || !is_next(MOST_HOSTS, &draft.host_prices, said) {
+    if draft.classes.len() != 0 || !is_next(MOST_HOSTS, &draft.host_prices, said.0, said.1) {
         return Ok(false);
     }
     draft.host_prices.push(said.1)?;
@@ -186,7 +176,7 @@ fn take_server(draft: &mut Draft, said: Option<u64>) -> Result<bool, AllocError>
         return Ok(false);
     };
     if server > u64::from(LAST_SERVER)
-        || !is_server_after(draft.servers.last().copied(), server as u32)
+        || !is_number_after(draft.servers.last().copied(), server as u32)
     {
         return Ok(false);
     }

@@ -1,36 +1,13 @@
 // What a line says.
 
 ghost use Rattle.std.specs.Prelude.{◌≡◌, IfOk, codes, option_map};
-ghost use Rattle.hsp_cert.specs.Lexing.{cut, number_in};
 ghost use Rattle.hsp_price_text.specs.Lines.{class_in, class_left, numbers_behind, numbers_in, numbers_left};
 ghost use Rattle.hsp_price_text.specs.Lines.{only_one, only_two, turns_of};
 
 use crate::class::Class;
 use crate::ranges::LAST_SERVER;
-use hsp_text::read_whole;
+use hsp_cert::lexing::{cut_at_space, number_of};
 use std::alloc::{AllocError, Global};
-
-// The octets before the first space, and those after it, if there is one.
-fn cut_at_space(text: &[u8]) -> (&[u8], Option<&[u8]>)
-    ensures { cut text.now ≡ (result.0.now, option_map (λ r. r.now) result.1) }
-{
-    for (place, octet) in text.iter().enumerate() {
-        if *octet == b' ' {
-            return (&text[..place], Some(&text[place + 1..]));
-        }
-    }
-    (text, None)
-}
-
-// The whole number that octets spell, below 2^64.
-fn number_of(octets: &[u8]) -> Option<u64>
-    ensures { result ≡ number_in octets.now }
-{
-    match read_whole(octets, u64::MAX) {
-        Ok(number) => Some(number),
-        Err(_) => None,
-    }
-}
 
 // The numbers of a text with one space between them, or None where a part is no number.
 fn numbers_of(alloc: Global, text: &[u8]) -> Result<Option<Vec<u64>>, AllocError>

@@ -1,13 +1,14 @@
 // The orders and ranges of a certificate's numbers.
 
-ghost use Rattle.std.specs.Prelude.{◌≡◌, ◌&&◌, ◌==◌, length, nat_le, nat_lt, option_map};
+ghost use Rattle.std.specs.Prelude.{◌≡◌, option_map};
 ghost use Rattle.std.specs.List.{list_all};
-ghost use Rattle.hsp_cert.specs.Certificate.{are_prices_within, ascends, goes_on_from, is_price};
+ghost use Rattle.hsp_cert.specs.Certificate.{ascends, goes_on_from};
 ghost use Rattle.hsp_price_text.specs.Claim.{are_servers, is_amount, is_before, is_class, is_server};
 
 use crate::class::Class;
+use hsp_cert::ranges::are_numbers_ascending;
 use hsp_text::is_name;
-use hsp_text::limits::{GREATEST_PRICE, MOST_SERVERS};
+use hsp_text::limits::MOST_SERVERS;
 use std::cmp::Ordering;
 
 // The number of the last server that there may be.
@@ -19,28 +20,11 @@ pub(crate) const GREATEST_AMOUNT: u64 = 1_000_000_000_000;
 // The greatest number of classes.
 pub(crate) const MOST_CLASSES: usize = 1_048_576;
 
-/// Whether a price is within its range.
-pub(crate) fn is_price(price: u64) -> bool
-    ensures { result ≡ is_price price }
-{
-    price <= GREATEST_PRICE
-}
-
 /// Whether a server is within its range.
 pub(crate) fn is_server(server: u32) -> bool
     ensures { result ≡ is_server server }
 {
     server <= LAST_SERVER
-}
-
-/// Whether a server may follow the last one.
-pub(crate) fn is_server_after(last: Option<u32>, next: u32) -> bool
-    ensures { result ≡ goes_on_from nat_lt last next }
-{
-    match last {
-        None => true,
-        Some(last) => last < next,
-    }
 }
 
 // Whether each server is within its range.
@@ -55,25 +39,11 @@ fn are_in_range(servers: &[u32]) -> bool
     true
 }
 
-// Whether servers ascend.
-fn are_ascending(servers: &[u32]) -> bool
-    ensures { result ≡ ascends nat_lt servers.now }
-{
-    let mut last = None;
-    for next in servers {
-        if !is_server_after(last, *next) {
-            return false;
-        }
-        last = Some(*next);
-    }
-    true
-}
-
 /// Whether servers are within their range and ascend.
 pub(crate) fn are_servers(servers: &[u32]) -> bool
     ensures { result ≡ are_servers servers.now }
 {
-    are_in_range(servers) && are_ascending(servers)
+    are_in_range(servers) && are_numbers_ascending(servers)
 }
 
 // Whether each amount is within its range.
@@ -139,21 +109,6 @@ pub(crate) fn are_classes_ascending(classes: &[Class]) -> bool
             return false;
         }
         last = Some(next);
-    }
-    true
-}
-
-/// Whether there are not too many prices, and each is within its range.
-pub(crate) fn are_prices(prices: &[u64], most: usize) -> bool
-    ensures { result ≡ are_prices_within most prices.now }
-{
-    if prices.len() > most {
-        return false;
-    }
-    for price in prices {
-        if !is_price(*price) {
-            return false;
-        }
     }
     true
 }
