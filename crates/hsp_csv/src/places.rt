@@ -62,7 +62,8 @@ impl<R: Read + Drop> Octets<R> {
         ensures keeps { OnOk result
             (Keeps (octets_left R.remaining self.old) (octets_left R.remaining self.new)) }
         ensures looks { IfOk result (λ is.
-            Looks wanted self.old.ahead.items self.new.ahead.items (rest_left R.remaining self.new) is) }
+            Looks wanted self.old.ahead.items self.new.ahead.items
+            (rest_left R.remaining self.new) is) }
     {
         match self.read()? {
             None => Ok(false),

@@ -90,7 +90,8 @@ fn push_kind(
     requires unit { 0 < unit }
     requires row { row < length kinds.now.rows }
     ensures pushed { OnOk result ((kind : Row) × (slice_get kinds.now.rows row ≡ Some kind)
-        × IsPushed text.old.items text.new.items kind (in_unit kinds.now.rows row unit kind.count)) }
+        × IsPushed text.old.items text.new.items kind
+        (in_unit kinds.now.rows row unit kind.count)) }
     ensures fault { IfErr result (λ fault. (fault ≡ OutOfMemory)
         ⊎ ((kind : Row) × (slice_get kinds.now.rows row ≡ Some kind)
         × (in_unit kinds.now.rows row unit kind.count ≡ Err fault))) }

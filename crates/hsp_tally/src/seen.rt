@@ -59,7 +59,8 @@ impl SeenTable {
         requires few { length self.old < MOST_SEEN }
         requires new { find (of_row region.now handle.now) self.old ≡ None }
         ensures added { OnOk result (self.new
-            ≡ self.old ++ record { region = region.now; handle = handle.now; number = number } ∷ []) }
+            ≡ self.old
+            ++ record { region = region.now; handle = handle.now; number = number } ∷ []) }
         ensures kept { OnErr result (self.new ≡ self.old) }
     {
         self.numbers.reserve(1)?;
@@ -142,7 +143,8 @@ impl SeenRows {
     ) -> Result<(), AllocError>
         requires { is_left_out self.old region.now handle.now ≡ false }
         ensures added { OnOk result (self.new
-            ≡ self.old ++ record { region = region.now; handle = handle.now; number = number } ∷ []) }
+            ≡ self.old
+            ++ record { region = region.now; handle = handle.now; number = number } ∷ []) }
         ensures kept { OnErr result (self.new ≡ self.old) }
     {
         match &mut self.table {
