@@ -4,8 +4,8 @@
     tools/gate/check_modules.py
 
 The rules: the modules of a crate do not import one another in a circle. No line of src, specs or proofs has over 120
-columns, but for an attribute, which rt fmt writes in one line. In a file of lemmas each lemma has a line above it that
-says in words what it shows.
+columns, but for an attribute, which rt fmt writes in one line, and no line of a contract's clause has over 100, but in
+crates of tests. In a file of lemmas each lemma has a line above it that says in words what it shows.
 """
 from __future__ import annotations
 
@@ -18,6 +18,10 @@ from pathlib import Path
 CRATES = Path(__file__).resolve().parents[2] / "crates"
 
 COLUMNS = 120
+CLAUSE_COLUMNS = 100
+
+# The head of a clause: its word and its name, if it has one, before the brace.
+CLAUSE = re.compile(r"\s*(?:requires|ensures)\b[^{]*\{")
 
 # The files of a function's own proof, whose names say what they answer, and the list of a folder's files.
 ANSWERS = ("Answers.antt", "Invariants.antt", "Proof.antt", "Lib.antt")
@@ -31,6 +35,24 @@ OTHERS = ("use ", "open ", "mod ", "record ", "data ", "abbrev ", "unfoldable ",
 
 def is_too_long(line: str) -> bool:
     return len(line) > COLUMNS and not line.lstrip().startswith("#[")
+
+
+def open_behind(line: str, depth: int) -> int:
+    """How many braces are open behind a line, of a clause in which `depth` are before it; none once it is closed."""
+    for brace in re.findall(r"[{}]", line):
+        depth += 1 if brace == "{" else -1
+        if depth == 0:
+            break
+    return depth
+
+
+def clauses_in(lines: list[str]) -> Iterator[int]:
+    """The lines of contracts' clauses, by their numbers."""
+    depth = 0
+    for number, line in enumerate(lines):
+        if depth or CLAUSE.match(line):
+            depth = open_behind(line, depth)
+            yield number
 
 
 def imports_of(crate: Path) -> dict[str, set[str]]:
@@ -82,11 +104,14 @@ def has_words(lines: list[str], number: int) -> bool:
 
 
 def form_faults(crate: Path) -> Iterator[str]:
-    """The lines of a crate that are too long, and its lemmas without words."""
+    """The lines and clauses of a crate that are too long, and its lemmas without words."""
     sources = [path for folder in ("src", "specs", "proofs") for path in sorted((crate / folder).rglob("*.*t*"))]
     for path in sources:
         lines, place = path.read_text("utf-8").split("\n"), path.relative_to(CRATES)
         yield from (f"{place}:{at}: {len(line)} columns" for at, line in enumerate(lines, 1) if is_too_long(line))
+        if path.is_relative_to(crate / "src") and "tests" not in crate.name:
+            wide = [at for at in clauses_in(lines) if CLAUSE_COLUMNS < len(lines[at]) <= COLUMNS]
+            yield from (f"{place}:{at + 1}: {len(lines[at])} columns in a clause" for at in wide)
         if path.is_relative_to(crate / "proofs") and path.name not in ANSWERS:
             bare = [(at, name) for at, name in lemmas_in(lines) if not has_words(lines, at)]
             yield from (f"{place}:{at + 1}: no words above {name}" for at, name in bare)
