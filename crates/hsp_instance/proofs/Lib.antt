@@ -1,8 +1,10 @@
 pub mod Lists
 pub mod ArcLists
+pub mod RegionNames
 pub mod KnownRegions
 pub mod ServerLists
 pub mod Limits
+pub mod ArcsWithin
 pub mod FirstSeen
 pub mod SiteSums
 pub mod SiteNames

@@ -24,7 +24,7 @@ use Rattle.hsp_instance.proofs.ServerLists.{own_count}
 use Rattle.hsp_text.proofs.Lists.{all_append}
 
 -- a cost is within its limit
-cost_within : (rows : List CostEntry) (region name : List ℕ) (c : ℕ) → AllByRecursion IsCostEntry rows
+pub cost_within : (rows : List CostEntry) (region name : List ℕ) (c : ℕ) → AllByRecursion IsCostEntry rows
     → cost_of rows region name ≡ Some c → c ≤ GREATEST_COST
 cost_within rows region name c all e =
     found_within IsCostEntry GREATEST_COST (λ (row : CostEntry). row.cost) (is_cost_of region name) rows c

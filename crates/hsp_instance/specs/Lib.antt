@@ -3,3 +3,4 @@ pub mod Building
 pub mod Parts
 pub mod RegionCosts
 pub mod Groups
+pub mod RowArcs

@@ -53,6 +53,32 @@ fn push_arc(
     Ok(())
 }
 
+/// Writes the arcs for a handle, by what a query costs at each site, over what the list had.
+pub(crate) fn fill_arcs(
+    arcs: &mut Vec<Arc>,
+    handle: HandleRef<'_>,
+    sites: &[Site],
+    costs: &[Option<u64>],
+) -> Result<(), AllocError>
+    requires sites { AreSites sites.now }
+    requires costs { length costs.now ≡ length sites.now }
+    ensures { OnOk result
+        (arcs.new.items ≡ arcs_by (octets_of handle.entry) 0 0 sites.now costs.now) }
+{
+    arcs.clear();
+    let mut digests = Digests::new(handle);
+    let mut first: u32 = 0;
+    for (number, site) in sites.iter().enumerate() {
+        let numbers = Numbers {
+            site: number as u32,
+            first,
+        };
+        push_arc(arcs, &mut digests, numbers, site, costs[number])?;
+        first += site.servers.len() as u32;
+    }
+    Ok(())
+}
+
 // The arcs for a handle, by what a query costs at each site.
 fn arcs_by(
     alloc: Global,
@@ -66,16 +92,7 @@ fn arcs_by(
         (λ arcs. arcs ≡ arcs_by (octets_of handle.entry) 0 0 sites.now costs.now) }
 {
     let mut arcs = Vec::with_capacity(alloc, sites.len())?;
-    let mut digests = Digests::new(handle);
-    let mut first: u32 = 0;
-    for (number, site) in sites.iter().enumerate() {
-        let numbers = Numbers {
-            site: number as u32,
-            first,
-        };
-        push_arc(&mut arcs, &mut digests, numbers, site, costs[number])?;
-        first += site.servers.len() as u32;
-    }
+    fill_arcs(&mut arcs, handle, sites, costs)?;
     Ok(ArcList { arcs })
 }
 

@@ -1,8 +1,9 @@
 // What queries from a region cost at each site.
 
-ghost use Rattle.std.specs.Prelude.{◌≡◌, ◌<◌, Some, length, map, option_map, slice_get, OnOk, IfOk};
+ghost use Rattle.std.specs.Prelude.{◌≡◌, ◌<◌, Some, length, map, option_map, slice_get, OnErr, OnOk, IfOk};
 ghost use Rattle.std.specs.List.{AllByRecursion};
 ghost use Rattle.hsp_instance.specs.RegionCosts.{HasCosts, costs_at, costs_of_entry};
+ghost use Rattle.hsp_instance.specs.RowArcs.{names_of, with_region};
 
 use crate::sites::Site;
 use hsp_tables::Costs;
@@ -38,8 +39,13 @@ pub(crate) fn place_of(
     region: &[u8],
 ) -> Result<usize, AllocError>
     requires { AllByRecursion (HasCosts costs.now sites.now) known.old.entries }
-    ensures known { OnOk result (AllByRecursion (HasCosts costs.now sites.now) known.new.entries) }
+    ensures known { AllByRecursion (HasCosts costs.now sites.now) known.new.entries }
+    ensures names { OnOk result (names_of known.new.entries
+        ≡ with_region (names_of known.old.entries) region.now) }
+    ensures kept { OnErr result (known.new.entries ≡ known.old.entries) }
     ensures within { IfOk result (λ place. place < length known.new.entries) }
+    ensures name { IfOk result
+        (λ place. slice_get (names_of known.new.entries) place ≡ Some region.now) }
     ensures place { IfOk result (λ place. option_map costs_of_entry
         (slice_get known.new.entries place) ≡ Some (costs_at costs.now region.now sites.now)) }
 {
@@ -59,4 +65,13 @@ pub(crate) fn costs_there(known: &RegionCosts, place: usize) -> &[Option<u64>]
 {
     let (_, costs) = known.get_index(place).unwrap();
     costs.as_slice()
+}
+
+// The name of the region at a place.
+pub(crate) fn name_there(known: &RegionCosts, place: usize) -> &[u8]
+    requires { place < length known.now.entries }
+    ensures { slice_get (names_of known.now.entries) place ≡ Some result.now }
+{
+    let (name, _) = known.get_index(place).unwrap();
+    name.as_slice()
 }

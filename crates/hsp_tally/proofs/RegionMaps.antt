@@ -5,7 +5,7 @@ use Rattle.std.proofs.Common.{arith}
 use Rattle.std.proofs.lemmas.Bool.{cases_Bool}
 use Rattle.std.proofs.lemmas.List.{append-nil, map-append}
 use Rattle.std.proofs.lemmas.List.Elements.{filter_more}
-use Rattle.std.proofs.lemmas.Option.{get_or_from_slice_get, slice_get_within}
+use Rattle.std.proofs.lemmas.Option.{get_or_from_slice_get, slice_get-map, slice_get_within}
 use Rattle.std.proofs.lemmas.Map.Made.{is_some-lookup}
 use Rattle.std.specs.Cmp.Lexicographic.{bytes_decides}
 use Rattle.std.specs.List.{AllByRecursion, list_any, position, position_or_len, slice_get}
@@ -19,6 +19,8 @@ use Rattle.hsp_tables.proofs.SeenNames.{seen_before}
 use Rattle.hsp_instance.specs.Building.{cost_of}
 use Rattle.hsp_instance.specs.Instance.{Site}
 use Rattle.hsp_instance.specs.Instance as instance
+use Rattle.hsp_instance.proofs.RegionNames as names
+use Rattle.hsp_instance.proofs.RegionNames.{is_name}
 use Rattle.hsp_kinds.specs.Rows.{sites_for}
 use Rattle.hsp_tally.specs.declared.region_sites.SiteHash.{SiteHash}
 use Rattle.hsp_tally.specs.Keys.{HasServer, HasSites, KnownSites, hash_of, name_of, names_of, sites_of, with_region}
@@ -78,45 +80,13 @@ all_have_servers p (site ∷ sites) all = elim (cases_Bool (p site)) [
 
 -- ---- the map
 
--- the names of the map are its keys
-pub names_are : (es : List KnownSites) → names_of es ≡ names_in (keys_of es)
-names_are [] = refl
-names_are (e ∷ es) = ap (λ t. name_of e ∷ t) (names_are es)
-
--- whether a key is the name
-abbrev pub is_name : List ℕ → Vec ℕ Global → Bool
-is_name name key = bytes_eq name key.items
-
 abbrev pub same : Vec ℕ Global → Vec ℕ Global → Bool
 same a b = bytes_eq a.items b.items
-
--- a name is in the map just where it is a key
-among_names : (name : List ℕ) (es : List KnownSites)
-    → list_any (is_name name) (keys_of es) ≡ list_any (bytes_eq name) (names_of es)
-among_names name [] = refl
-among_names name (e ∷ es) = rw (among_names name es) refl
-
--- a region is in the map where its name is among the names
-pub is_known : (name : List ℕ) (es : List KnownSites)
-    → is_some (lookup (is_name name) es) ≡ list_any (bytes_eq name) (names_of es)
-is_known name es = is_some-lookup (is_name name) es ∙ among_names name es
-
--- a region that is there changes no names
-pub known_before : (name : List ℕ) (es : List KnownSites) → is_some (lookup (is_name name) es) ≡ true
-    → names_of es ≡ with_region (names_of es) name
-known_before name es there =
-    rw (names_are es) (seen_before name (keys_of es) (sym (is_some-lookup (is_name name) es) ∙ there))
-
--- what stands at the place of a name has that name
-stands : (name : List ℕ) (es : List KnownSites) → position_or_len (is_name name) (keys_of es) < length es
-    → option_map name_of (slice_get es (position_or_len (is_name name) (keys_of es))) ≡ Some name
-stands name [] less = absurd (omega arith)
-stands name (e ∷ es) less = grind (arith, stands name es, bytes_decides name e.0.items)
 
 -- the place of a region has its name
 pub known_place : (name : List ℕ) (es : List KnownSites) (i : ℕ) → i < length es
     → position (is_name name) (keys_of es) ≡ Some i → option_map name_of (slice_get es i) ≡ Some name
-known_place name es i less at = grind (arith, stands name es)
+known_place name es i less at = sym (slice_get-map name_of es i) ∙ names.known_place name es i less at
 
 module _ (costs : List CostEntry) (sites : List Site) (key : Vec ℕ Global) (found : Vec SiteHash Global) where
   -- the sites of a region are added
@@ -129,19 +99,12 @@ module _ (costs : List CostEntry) (sites : List Site) (key : Vec ℕ Global) (fo
     | inr other ↦ rw other (all.0, sites_added es has all.1)
   ]
 
--- and its name
-pub names_added : (key : Vec ℕ Global) (found : Vec SiteHash Global) (es : List KnownSites)
-    → names_of (insert_entry same es key found) ≡ with_region (names_of es) key.items
-names_added key found [] = refl
-names_added key found (e ∷ es) = grind (arith, names_added key found es)
-
--- which stands at the place that it was given
+-- the name of a region that is added stands at the place that it was given
 pub added_place : (key : Vec ℕ Global) (found : Vec SiteHash Global) (es : List KnownSites)
     → option_map name_of
     (slice_get (insert_entry same es key found)
     (position_or_len (λ (k : Vec ℕ Global). bytes_eq key.items k.items) (keys_of es))) ≡ Some key.items
-added_place key found [] = refl
-added_place key found (e ∷ es) = grind (arith, added_place key found es, bytes_decides key.items e.0.items)
+added_place key found es = sym (slice_get-map name_of (insert_entry same es key found) _) ∙ names.added_place key found es
 
 -- what stands at the place of a region are its sites
 pub known_sites : (costs : List CostEntry) (sites : List Site) (region : List ℕ) (found : List SiteHash)

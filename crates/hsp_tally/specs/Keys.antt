@@ -7,6 +7,7 @@ use Rattle.indexmap.specs.IndexSet.{insert_key}
 use Rattle.hsp_hash.specs.Place.{server_place}
 use Rattle.hsp_tables.specs.Costs.{CostEntry}
 use Rattle.hsp_instance.specs.Instance.{Row, Site}
+pub use Rattle.hsp_instance.specs.RowArcs.{names_of, with_region}
 use Rattle.hsp_kinds.specs.Rows.{places_at, sites_for}
 use Rattle.hsp_tally.specs.declared.region_sites.SiteHash.{SiteHash}
 
@@ -28,10 +29,6 @@ KnownSites = Vec ℕ Global × Vec SiteHash Global
 abbrev pub name_of : KnownSites → List ℕ
 name_of known = known.0.items
 
--- the names of the regions that are known
-abbrev pub names_of : List KnownSites → List (List ℕ)
-names_of known = map name_of known
-
 abbrev pub sites_of : KnownSites → List SiteHash
 sites_of known = known.1.items
 
@@ -39,10 +36,6 @@ sites_of known = known.1.items
 abbrev pub HasSites : List CostEntry → List Site → KnownSites → Type 0
 HasSites costs sites known =
     (sites_of known ≡ map hash_of (sites_for costs sites (name_of known))) × AllByRecursion HasServer (sites_of known)
-
--- regions in first-seen order, with one that may be among them
-abbrev pub with_region : List (List ℕ) → List ℕ → List (List ℕ)
-with_region regions region = insert_key bytes_eq regions region
 
 -- the costs and sites that distinguish kinds, the regions that were sought, and the places that were found last
 pub record Sought : Type 0 where

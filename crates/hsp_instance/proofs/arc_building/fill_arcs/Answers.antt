@@ -5,7 +5,7 @@ use Rattle.hsp_instance.specs.Instance.{Site}
 use Rattle.hsp_instance.proofs.ArcLists.{arcs_next}
 use Rattle.hsp_instance.proofs.SiteSums.{servers_of-first, servers_of-taken, servers_within}
 use Rattle.std.proofs.lemmas.Grind.{common_steps}
-use Rattle.hsp_instance.proofs.arc_building.arcs_by.Goals as goal
+use Rattle.hsp_instance.proofs.arc_building.fill_arcs.Goals as goal
 
 pub push_arc-requires-clause-first : goal.push_arc-requires-clause-first
 push_arc-requires-clause-first c =

@@ -2,7 +2,7 @@ use Rattle.std.proofs.Common.{◌≡◌, ◌++◌, drop, take}
 use Rattle.hsp_names.specs.Lent.{octets_of}
 use Rattle.hsp_instance.specs.Instance.{servers_of}
 use Rattle.hsp_instance.specs.RegionCosts.{arcs_by}
-use Rattle.hsp_instance.proofs.arc_building.arcs_by.Given as goal
+use Rattle.hsp_instance.proofs.arc_building.fill_arcs.Given as goal
 
 abbrev pub invariant-loop-number : goal.invariant-loop-number
 invariant-loop-number l = record {
