@@ -17,7 +17,7 @@ pub(crate) fn are_met(demands: &[u64], sums: &[u128]) -> bool
 }
 
 /// Whether each sum is within its bound.
-pub(crate) fn are_within(bounds: &[u64], sums: &[u128]) -> bool
+pub fn are_within(bounds: &[u64], sums: &[u128]) -> bool
     requires { length sums.now ≡ length bounds.now }
     ensures { IsTrue result ↔ AreWithin bounds.now sums.now }
 {
@@ -30,7 +30,7 @@ pub(crate) fn are_within(bounds: &[u64], sums: &[u128]) -> bool
 }
 
 /// Whether each price is 0 where the sum is below its bound.
-pub(crate) fn idle_are_free(bounds: &[u64], sums: &[u128], prices: &[u64]) -> bool
+pub fn idle_are_free(bounds: &[u64], sums: &[u128], prices: &[u64]) -> bool
     requires sums { length sums.now ≡ length bounds.now }
     requires prices { length prices.now ≡ length bounds.now }
     ensures { IsTrue result ↔ AreIdle bounds.now sums.now prices.now }

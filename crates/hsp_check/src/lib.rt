@@ -24,9 +24,12 @@ mod verdict;
 
 pub use arc::NetworkArc;
 pub use checking::check;
+pub use conditions::{are_within, idle_are_free};
 pub use loads::Loads;
 pub use planned::planned_arcs;
 pub use reaching::reached_servers;
-pub use sums::ArcFlow;
+pub use set_check::flags_of;
+pub use shortage::{free_room, hosted_room, set_rooms};
+pub use sums::{ArcFlow, add_hosts, worth_of};
 pub use totals::{PlanSums, plan_sums};
 pub use verdict::{Reason, Verdict};

@@ -42,8 +42,8 @@ fn flag_each(reached: &mut [bool], arc_flows: &[ArcFlow], rows: &[bool])
     }
 }
 
-// The capacities of the flagged servers, 0 for the others.
-fn set_rooms(rooms: &mut [u128], capacities: &[u64], reached: &[bool])
+/// Writes the capacities of the flagged servers over zeros. The others stay 0.
+pub fn set_rooms(rooms: &mut [u128], capacities: &[u64], reached: &[bool])
     requires rooms { length rooms.old ≡ length capacities.now }
     requires reached { length reached.now ≡ length capacities.now }
     requires zero { AreZero rooms.old }
@@ -57,8 +57,8 @@ fn set_rooms(rooms: &mut [u128], capacities: &[u64], reached: &[bool])
     }
 }
 
-// The rooms of the servers on no host, added up.
-fn free_room(server_hosts: &[Option<u32>], rooms: &[u128]) -> u128
+/// The rooms of the servers on no host, added up.
+pub fn free_room(server_hosts: &[Option<u32>], rooms: &[u128]) -> u128
     requires many { length rooms.now ≡ length server_hosts.now }
     requires few { length server_hosts.now < 2 ^ 16 }
     requires small { AreSmall (2 ^ 64) (length rooms.now) rooms.now }
@@ -74,8 +74,8 @@ fn free_room(server_hosts: &[Option<u32>], rooms: &[u128]) -> u128
     sum
 }
 
-// For each host the smaller of its limit and its room, added up.
-fn hosted_room(limits: &[u64], rooms: &[u128]) -> u128
+/// For each host the smaller of its limit and its room, added up.
+pub fn hosted_room(limits: &[u64], rooms: &[u128]) -> u128
     requires many { length rooms.now ≡ length limits.now }
     requires few { length limits.now < 2 ^ 16 }
     ensures sum { result ≡ hosted_sum limits.now rooms.now (length limits.now) }

@@ -102,7 +102,7 @@ fn add_each_host(sums: &mut [u128], server_hosts: &[Option<u32>], numbers: &[u12
 }
 
 /// Numbers of servers, added up for each host below `count`.
-pub(crate) fn add_hosts(
+pub fn add_hosts(
     alloc: Global,
     server_hosts: &[Option<u32>],
     numbers: &[u128],
@@ -143,7 +143,7 @@ fn priced(number: u64, price: u64) -> u128
 }
 
 /// Numbers at their prices, added up.
-pub(crate) fn worth_of(numbers: &[u64], prices: &[u64]) -> u128
+pub fn worth_of(numbers: &[u64], prices: &[u64]) -> u128
     requires many { length prices.now ≡ length numbers.now }
     requires few { length numbers.now < 2 ^ 16 }
     requires low { ArePrices prices.now }
