@@ -18,10 +18,10 @@ use std::alloc::{AllocError, Global};
 use std::hash::Hash;
 use std::marker::Model;
 
-// What the rows of a kind share: their region, and the places of their handles at the sites where the region has a
-// cost.
+/// A region and numbers, as what the rows of a kind share: their region, and the places of their handles at the sites
+/// where the region has a cost.
 #[derive(Debug, PartialEq, Eq, Hash, Drop)]
-pub(crate) struct KindKey {
+pub struct KindKey {
     region: Vec<u8>,
     places: Vec<u32>,
 }
@@ -29,8 +29,8 @@ pub(crate) struct KindKey {
 impl KindKey {
     ghost use Rattle.hsp_tally.specs.KindKeys.{key_in};
 
-    // The key of these octets and places.
-    pub(crate) fn new(alloc: Global, region: &[u8], places: &[u32]) -> Result<KindKey, AllocError>
+    /// The key of these octets and places.
+    pub fn new(alloc: Global, region: &[u8], places: &[u32]) -> Result<KindKey, AllocError>
         ensures { IfOk result
             (λ key. key_in key ≡ record { region = region.now; places = places.now }) }
     {
@@ -40,19 +40,19 @@ impl KindKey {
         })
     }
 
-    // The region.
-    pub(crate) fn region(&self) -> &[u8]
+    /// The region.
+    pub fn region(&self) -> &[u8]
         ensures { result.now ≡ (key_in self.now).region }
     {
         self.region.as_slice()
     }
 }
 
-// The same, lent.
+/// The same, lent.
 #[derive(Clone, Copy, Debug, PartialEq, Eq, Hash)]
-pub(crate) struct LentKind<'a> {
-    pub(crate) region: &'a [u8],
-    pub(crate) places: &'a [u32],
+pub struct LentKind<'a> {
+    pub region: &'a [u8],
+    pub places: &'a [u32],
 }
 
 impl Equivalent<KindKey> for LentKind<'_> {

@@ -14,23 +14,23 @@ use indexmap::{IndexMap, IndexSet};
 use std::alloc::{AllocError, Global};
 use std::marker::Model;
 
-// The number of the first row of each kind.
-type FirstRows = IndexMap<KindKey, u32>;
+/// Keys, each with the number that it was added with first.
+pub type FirstNumbers = IndexMap<KindKey, u32>;
 
-// Adds a row by the key of its kind, where no earlier row has the key.
-fn add_row(
+/// Adds a number by a key, where none was added by the key before.
+pub fn add_first(
     alloc: Global,
-    firsts: &mut FirstRows,
+    firsts: &mut FirstNumbers,
     key: LentKind<'_>,
-    row: u32,
+    number: u32,
 ) -> Result<(), AllocError>
     ensures { OnOk result (HasAdded firsts.old.entries firsts.new.entries
-        key.entry.region.now key.entry.places.now row) }
+        key.entry.region.now key.entry.places.now number) }
 {
     if firsts.contains_key(key) {
         return Ok(());
     }
-    firsts.insert(KindKey::new(alloc, key.region, key.places)?, row)?;
+    firsts.insert(KindKey::new(alloc, key.region, key.places)?, number)?;
     Ok(())
 }
 
@@ -40,18 +40,18 @@ fn first_rows(
     alloc: Global,
     instance: &Instance,
     keys: &mut KindKeys<'_>,
-) -> Result<FirstRows, AllocError>
+) -> Result<FirstNumbers, AllocError>
     ensures costs { keys.new.costs ≡ keys.old.costs }
     ensures sites { keys.new.sites ≡ keys.old.sites }
     ensures firsts { IfOk result (λ firsts.
         HasFirsts keys.old.costs keys.old.sites instance.now.rows firsts.entries) }
 {
-    let mut firsts = FirstRows::new(alloc);
+    let mut firsts = FirstNumbers::new(alloc);
     for row in 0..instance.rows() {
         let (region, handle, _) = instance.row(row);
         keys.find(alloc, region, HandleRef::accepted(handle))?;
         let places = keys.places();
-        add_row(alloc, &mut firsts, LentKind { region, places }, row)?;
+        add_first(alloc, &mut firsts, LentKind { region, places }, row)?;
     }
     Ok(firsts)
 }
@@ -91,7 +91,7 @@ pub(crate) struct KindRows<'a> {
     instance: &'a Instance,
     keys: KindKeys<'a>,
     regions: Regions,
-    firsts: FirstRows,
+    firsts: FirstNumbers,
 }
 
 impl<'a> Model for KindRows<'a> {

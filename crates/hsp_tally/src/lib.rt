@@ -12,5 +12,7 @@ mod seen;
 
 pub use fault::KindsFault;
 pub use finder::RowFinder;
+pub use keys::{KindKey, LentKind};
+pub use kind_rows::{FirstNumbers, add_first};
 pub use kinds::Kinds;
 pub use seen::SeenRows;

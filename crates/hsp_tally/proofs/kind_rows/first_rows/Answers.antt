@@ -11,7 +11,7 @@ loop-row-preserved c =
     let region = c.row.result.0.now in
     let handle = c.row.result.1.now in
     let old = c.loop-row.firsts.entries in
-    let new = c.add_row.new.firsts.entries in
+    let new = c.add_first.new.firsts.entries in
     let places : c.places-places.result.now ≡ places_at (sites_for costs sites region) handle =
     c.places-places.ensures ∙ c.in_ok-find.ensures.places
     ∙ ap (places_at (sites_for c.loop-row.keys.costs c.loop-row.keys.sites region)) c.accepted.ensures
@@ -22,5 +22,5 @@ loop-row-preserved c =
       sites = c.in_ok-find.ensures.sites ∙ c.loop-row.invariant.sites;
       has =
           one_first costs sites c.args.instance.now.rows c.loop-row.row _ old new c.row.ensures c.loop-row.invariant.has
-          (subst (λ p. HasAdded old new region p c.loop-row.row) places c.in_ok-add_row.ensures);
+          (subst (λ p. HasAdded old new region p c.loop-row.row) places c.in_ok-add_first.ensures);
     }
