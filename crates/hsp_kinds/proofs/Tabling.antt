@@ -1,28 +1,24 @@
 -- The table of rows has their kinds.
-use Rattle.std.proofs.Common.{◌≡◌, ℕ, ◌+◌, ◌<◌, ◌≤◌, ◌==◌, ◌&&◌, inl, inr, true, List, [], ◌∷◌, length, map, sum_by}
-use Rattle.std.proofs.Common.{slice_index, slice_index_or, All, refl, ap, sym, ◌∙◌, subst, arith}
+use Rattle.std.proofs.Common.{◌≡◌, ℕ, ◌+◌, ◌<◌, ◌≤◌, ◌==◌, ◌&&◌, true, List, [], ◌∷◌, length, map, refl, ap, sym, ◌∙◌}
+use Rattle.std.proofs.Common.{arith}
 use Rattle.std.specs.Prelude.{◌↔◌}
 use Rattle.std.specs.Str.{bytes_eq}
 use Rattle.std.proofs.lemmas.Slice.Eq.{bytes_eq-Decides}
-use Rattle.std.proofs.lemmas.List.{length-map, get_or-map}
 use Rattle.std.proofs.lemmas.List.Sums.{sum_by_from}
 use Rattle.std.proofs.lemmas.Bool.{and_parts, and_from}
 use Rattle.hsp_tables.specs.Costs.{CostEntry}
 use Rattle.hsp_instance.specs.Building.{arcs_from}
 use Rattle.hsp_instance.specs.Instance.{Row, Site}
-use Rattle.hsp_check.specs.declared.arc.NetworkArc.{NetworkArc}
-use Rattle.hsp_check.specs.Network.{IsNetwork, site_of, transport}
-use Rattle.hsp_check.proofs.RowLinks.{link, links_of_row, rows_below}
+use Rattle.hsp_instance.specs.declared.arc.Arc.{Arc}
+use Rattle.hsp_check.specs.Network.{IsNetwork}
+use Rattle.hsp_check.proofs.RowLinks.{link}
 use Rattle.hsp_transport.specs.Kinds.{Link, links_to}
-use Rattle.hsp_transport.specs.Sums.{sum_below}
-use Rattle.hsp_transport.proofs.Summing.{by_place, sum_below_same}
-use Rattle.hsp_kinds.specs.Kinds.{AreKinds, HasOneArcASite, links_of}
+use Rattle.hsp_transport.proofs.Rowwise.{when}
+use Rattle.hsp_kinds.specs.Kinds.{AreKinds, HasOneArcASite}
 use Rattle.hsp_kinds.specs.Tables.{IsKinding}
 use Rattle.hsp_kinds.specs.Rows.{KindsAreClasses, KindsHaveArcs, Service, TablesAreOfKinds, by_kind, is_same_kind}
 use Rattle.hsp_kinds.specs.Rows.{kinds_of, network_for, places_at, sites_for, with_count_of}
-use Rattle.hsp_transport.proofs.Rowwise.{when}
-use Rattle.hsp_transport.proofs.KindPrices.{of_row, of_all}
-use Rattle.hsp_kinds.proofs.Placing.{place_in, place_within, placed_same, all_more, all_there, all_seen}
+use Rattle.hsp_kinds.proofs.ByTables.{are_kinds, is_network_of, one_arc, place_of}
 
 -- ---- kinds are classes
 
@@ -33,7 +29,7 @@ SamePlaces costs sites a b =
     × (places_at (sites_for costs sites a.region) a.handle ≡ places_at (sites_for costs sites a.region) b.handle)
 
 -- two pairs of texts equal one another just where both are the same
-both_equal : (a b c d : List ℕ) → ((bytes_eq a b && bytes_eq c d) ≡ true) ↔ ((a ≡ b) × (c ≡ d))
+pub both_equal : (a b c d : List ℕ) → ((bytes_eq a b && bytes_eq c d) ≡ true) ↔ ((a ≡ b) × (c ≡ d))
 both_equal a b c d = (
   (λ e.
       let parts = and_parts (bytes_eq a b) (bytes_eq c d) e in
@@ -110,112 +106,34 @@ one_a_site costs row n first (site ∷ more) s =
 
 -- ---- the two networks
 
-abbrev no_row : Row
-no_row = record { region = []; handle = []; count = 0 }
-
-abbrev row_at : List Row → ℕ → Row
-row_at rows i = slice_index_or rows i no_row
-
 module _ (at : Service) (rows : List Row) where
+  abbrev arcs : Row → List Arc
+  arcs row = arcs_from at.costs row 0 0 at.sites
+
   abbrev table : List Row
   table = kinds_of at.costs at.sites rows
 
   abbrev classes : IsKinding (by_kind at.costs at.sites)
   classes = kinds_are_classes at.costs at.sites
 
-  abbrev count : Row → ℕ
-  count row = row.count
+  abbrev same : (a b : Row) → is_same_kind at.costs at.sites a b ≡ true → arcs a ≡ arcs b
+  same = kinds_have_arcs at.costs at.sites
 
+  -- the kind of a row
   abbrev kind : ℕ → ℕ
-  kind i = place_in (by_kind at.costs at.sites) classes count (λ a b. refl) table (row_at rows i)
-
-  -- the links of a row
-  links_are : (list : List Row) (i : ℕ) → i < length list
-      → links_of (network_for at list) i ≡ map link (arcs_from at.costs (row_at list i) 0 0 at.sites)
-  links_are list i l =
-      links_of_row (network_for at list) (map (λ row. arcs_from at.costs row 0 0 at.sites) list) i
-      ∙ ap (λ arcs. map link arcs) (get_or-map (λ row. arcs_from at.costs row 0 0 at.sites) list i no_row [] l)
-
-  -- each row's kind is in the table
-  there : (i : ℕ) → i < length rows → kind i < length table
-  there i l =
-      place_within (by_kind at.costs at.sites) classes count (λ a b. refl) table (row_at rows i)
-      (all_there (by_kind at.costs at.sites) classes count (λ a b. refl) rows [] i no_row l)
-
-  -- each row has the links of its kind
-  alike : (i : ℕ) → i < length rows → links_of (network_for at rows) i ≡ links_of (network_for at table) (kind i)
-  alike i l =
-      let same =
-      placed_same (by_kind at.costs at.sites) classes count (λ a b. refl) table (row_at rows i) no_row
-      (all_there (by_kind at.costs at.sites) classes count (λ a b. refl) rows [] i no_row l) in
-      links_are rows i l
-      ∙ sym
-      (ap (λ arcs. map link arcs) (kinds_have_arcs at.costs at.sites (row_at table (kind i)) (row_at rows i) same))
-      ∙ sym (links_are table (kind i) (there i l))
-
-  -- a demand is that of a row
-  in_rows : (i : ℕ) → i < length (map count rows) → i < length rows
-  in_rows i l = omega (arith, l, length-map rows count)
-
-  -- a demand of the table is that of a kind
-  in_table : (k : ℕ) → k < length (map count table) → k < length table
-  in_table k l = omega (arith, l, length-map table count)
+  kind = place_of (by_kind at.costs at.sites) classes (λ a b. refl) rows
 
   -- the table is one of kinds of the rows
   pub table_kinds : AreKinds (network_for at rows) (network_for at table) kind
-  table_kinds = record {
-    inside = λ i l. omega (arith, there i (in_rows i l), length-map table count);
-    seen =
-        λ k l. elim (all_seen (by_kind at.costs at.sites) classes count (λ a b. refl) rows [] no_row k (in_table k l)) [
-          | inl early ↦ absurd (omega (arith, early))
-          | inr row ↦ (row.0, omega (arith, row.1, length-map rows count), row.2)
-        ];
-    arcs = λ i l. alike i (in_rows i l);
-    demands = λ k l.
-        let all = all_more (by_kind at.costs at.sites) classes count (λ a b. refl) rows [] k in
-        let place : Row → ℕ = λ row. place_in (by_kind at.costs at.sites) classes count (λ a b. refl) table row in
-        let each : sum_by (λ row. when (place row == k) (count row)) rows
-        ≡ sum_below (length rows) (λ i. when (kind i == k) (count (row_at rows i))) =
-        by_place (λ row. when (place row == k) (count row)) no_row rows in
-        let listed : sum_below (length rows) (λ i. when (kind i == k) (count (row_at rows i)))
-        ≡ sum_below (length rows) (λ i. when (kind i == k) (slice_index (map count rows) i)) =
-        sum_below_same (length rows) _ _
-        (λ i m. ap (λ v. when (kind i == k) v) (sym (get_or-map count rows i no_row 0 m))) in
-        let many : sum_below (length rows) (λ i. when (kind i == k) (slice_index (map count rows) i))
-        ≡ sum_below (length (map count rows)) (λ i. when (kind i == k) (slice_index (map count rows) i)) =
-        ap (λ n. sum_below n (λ i. when (kind i == k) (slice_index (map count rows) i)))
-        (sym (length-map rows count)) in
-        omega (arith, all, each, listed, many);
-    capacities = refl;
-    limits = refl;
-    host_of = λ j. refl;
-  }
+  table_kinds = are_kinds at (by_kind at.costs at.sites) classes (λ a b. refl) rows arcs same
 
   -- where the table has a network whose numbers fit, so have the rows
   pub rows_are : IsNetwork (network_for at table) → IsNetwork (network_for at rows)
-  rows_are is = record {
-    sources = below;
-    servers =
-        of_all site_of (transport (network_for at rows)) (λ i a. a.server < length (map (λ s. s.capacity) at.servers))
-        (length (map count rows)) (network_for at rows).arcs below
-        (λ i l.
-        subst (All (λ (a : Link). a.server < length (map (λ s. s.capacity) at.servers)))
-        (sym (alike i (in_rows i l)))
-        (of_row site_of (transport (network_for at table)) (λ i a. a.server < length (map (λ s. s.capacity) at.servers))
-        (network_for at table).arcs is.servers (kind i)));
-    hosts = is.hosts;
-  }
-    where
-      below : All (λ (a : NetworkArc). a.row < length (map count rows)) (network_for at rows).arcs
-      below =
-          rows_below (map (λ row. arcs_from at.costs row 0 0 at.sites) rows) 0 (length (map count rows))
-          (omega (arith, length-map rows count, length-map rows (λ row. arcs_from at.costs row 0 0 at.sites)))
+  rows_are is = is_network_of at (by_kind at.costs at.sites) classes (λ a b. refl) rows arcs same is
 
   -- at most one arc of a row leads to a site, for all rows
   pub one_site : HasOneArcASite (network_for at rows)
-  one_site i s l =
-      subst (λ links. links_to links s ≤ 1) (sym (links_are rows i (in_rows i l)))
-      (one_a_site at.costs (row_at rows i) 0 0 at.sites s)
+  one_site = one_arc at arcs rows (λ row s. one_a_site at.costs row 0 0 at.sites s)
 
 -- the table of rows is one of their kinds
 pub tables_are_of_kinds : TablesAreOfKinds

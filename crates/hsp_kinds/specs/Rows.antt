@@ -5,6 +5,7 @@ use Rattle.hsp_hash.specs.Place.{server_place}
 use Rattle.hsp_tables.specs.Costs.{CostEntry}
 use Rattle.hsp_instance.specs.Building.{arcs_from, cost_of}
 use Rattle.hsp_instance.specs.Instance.{Host, Row, Server, Site}
+use Rattle.hsp_instance.specs.declared.arc.Arc.{Arc}
 use Rattle.hsp_check.specs.Network.{Network, IsNetwork}
 use Rattle.hsp_check.specs.Instance.{network_of}
 use Rattle.hsp_kinds.specs.Kinds.{AreKinds, HasOneArcASite}
@@ -44,17 +45,15 @@ pub record Service : Type 0 where
   pub servers : List Server
   pub hosts : List Host
 
--- the network of rows
-abbrev pub network_for : Service → List Row → Network
-network_for at rows =
+-- the network of rows, where a function says which arcs a row has
+abbrev pub network_by : Service → (Row → List Arc) → List Row → Network
+network_by at arcs rows =
     network_of
-    (record {
-      rows = rows;
-      sites = at.sites;
-      servers = at.servers;
-      hosts = at.hosts;
-      arcs = map (λ row. arcs_from at.costs row 0 0 at.sites) rows;
-    })
+    (record { rows = rows; sites = at.sites; servers = at.servers; hosts = at.hosts; arcs = map arcs rows })
+
+-- the network of rows with all their arcs
+abbrev pub network_for : Service → List Row → Network
+network_for at rows = network_by at (λ row. arcs_from at.costs row 0 0 at.sites) rows
 
 -- the rows of the table are the kinds of the rows; where its network is one, the network of the rows is one, with at
 -- most one arc from a row to a site
