@@ -1,21 +1,17 @@
 -- The sites where a region has costs, and the map that holds those of the regions that were sought.
 use Rattle.std.proofs.Common.{◌≡◌, ◌∙◌, ◌+◌, ◌<◌, ℕ, Bool, true, false, cond, List, [], ◌∷◌, ◌++◌, Option, Some, None}
-use Rattle.std.proofs.Common.{inl, inr, Vec, Global, is_some, length, map, filter, option_map, take, refl, ap, sym}
-use Rattle.std.proofs.Common.{arith}
+use Rattle.std.proofs.Common.{inl, inr, Vec, Global, is_some, length, map, filter, option_map, take, refl, sym}
 use Rattle.std.proofs.lemmas.Bool.{cases_Bool}
 use Rattle.std.proofs.lemmas.List.{append-nil, map-append}
 use Rattle.std.proofs.lemmas.List.Elements.{filter_more}
 use Rattle.std.proofs.lemmas.Option.{get_or_from_slice_get, slice_get-map, slice_get_within}
-use Rattle.std.proofs.lemmas.Map.Made.{is_some-lookup}
 use Rattle.std.specs.Cmp.Lexicographic.{bytes_decides}
-use Rattle.std.specs.List.{AllByRecursion, list_any, position, position_or_len, slice_get}
-use Rattle.std.specs.Map.{keys_of, lookup}
+use Rattle.std.specs.List.{AllByRecursion, position, position_or_len, slice_get}
+use Rattle.std.specs.Map.{keys_of}
 use Rattle.std.specs.Str.{bytes_eq}
 use Rattle.indexmap.specs.IndexMap.{insert_entry}
 use Rattle.hsp_hash.specs.declared.option.HashOption.{HashOption}
 use Rattle.hsp_tables.specs.Costs.{CostEntry}
-use Rattle.hsp_tables.specs.KeyedRows.{names_in}
-use Rattle.hsp_tables.proofs.SeenNames.{seen_before}
 use Rattle.hsp_instance.specs.Building.{cost_of}
 use Rattle.hsp_instance.specs.Instance.{Site}
 use Rattle.hsp_instance.specs.Instance as instance
@@ -23,7 +19,7 @@ use Rattle.hsp_instance.proofs.RegionNames as names
 use Rattle.hsp_instance.proofs.RegionNames.{is_name}
 use Rattle.hsp_kinds.specs.Rows.{sites_for}
 use Rattle.hsp_tally.specs.declared.region_sites.SiteHash.{SiteHash}
-use Rattle.hsp_tally.specs.Keys.{HasServer, HasSites, KnownSites, hash_of, name_of, names_of, sites_of, with_region}
+use Rattle.hsp_tally.specs.Keys.{HasServer, HasSites, KnownSites, hash_of, name_of, sites_of}
 
 -- ---- sites where a region has costs
 

@@ -1,9 +1,7 @@
 -- The sites where regions have costs, and what rows of a kind share.
 use Rattle.std.specs.Prelude.{◌≡◌, ◌<◌, ℕ, List, length, map, Vec}
 use Rattle.std.specs.List.{AllByRecursion}
-use Rattle.std.specs.Str.{bytes_eq}
 use Rattle.std.specs.declared.alloc.Global.{Global}
-use Rattle.indexmap.specs.IndexSet.{insert_key}
 use Rattle.hsp_hash.specs.Place.{server_place}
 use Rattle.hsp_tables.specs.Costs.{CostEntry}
 use Rattle.hsp_instance.specs.Instance.{Row, Site}

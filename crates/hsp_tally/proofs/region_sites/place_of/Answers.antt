@@ -1,7 +1,8 @@
 use Rattle.std.proofs.Common.{◌∙◌, ap, sym, Some, map, List, ℕ}
 use Rattle.hsp_kinds.specs.Rows.{sites_for}
 use Rattle.hsp_tally.specs.Keys.{hash_of, names_of, with_region}
-use Rattle.hsp_tally.proofs.RegionMaps.{added_place, known_before, known_place, names_added, sites_added}
+use Rattle.hsp_instance.proofs.RegionNames.{known_before, names_added}
+use Rattle.hsp_tally.proofs.RegionMaps.{added_place, known_place, sites_added}
 use Rattle.hsp_tally.proofs.region_sites.place_of.Goals as goal
 
 pub returns-in-Some-clause-names : goal.returns-in-Some-clause-names

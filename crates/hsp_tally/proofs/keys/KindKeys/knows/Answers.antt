@@ -1,5 +1,5 @@
 use Rattle.std.proofs.Common.{◌∙◌}
-use Rattle.hsp_tally.proofs.RegionMaps.{is_known}
+use Rattle.hsp_instance.proofs.RegionNames.{is_known}
 use Rattle.hsp_tally.proofs.keys.KindKeys.knows.Goals as goal
 
 pub returns : goal.returns
