@@ -1,0 +1,14 @@
+mod Lists
+mod Once
+mod TableSums
+mod Sites
+mod ServerArcs
+mod LeastPay
+mod ClassKinds
+mod GivenClasses
+mod Flows
+mod Served
+mod Networks
+mod ClassPlan
+mod Shown
+mod Short

@@ -1,0 +1,4 @@
+pub mod Least
+pub mod Sums
+pub mod Verdict
+pub mod Shown
