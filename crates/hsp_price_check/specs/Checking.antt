@@ -1,0 +1,44 @@
+-- The check of a certificate by prices, as rows come in.
+use Rattle.std.specs.Prelude.{◌≡◌, ◌<◌, ◌≤◌, List, length}
+use Rattle.hsp_tables.specs.Costs.{AreCosts}
+use Rattle.hsp_text.specs.declared.limits.TheConstants.{MOST_REGIONS}
+use Rattle.hsp_instance.specs.Instance.{Row, regions_of}
+use Rattle.hsp_kinds.specs.Rows.{Service}
+use Rattle.hsp_price_text.specs.Claim.{Best, Short}
+use Rattle.hsp_price_text.specs.declared.certificate.PriceCertificate.{PriceCertificate}
+use Rattle.hsp_price_text.specs.declared.certificate.PriceCertificate.TheVariants as certificate
+use Rattle.hsp_classes.specs.Shown.{IsService}
+use Rattle.hsp_classes.specs.Verdict.{IsVerdict}
+use Rattle.hsp_classes.specs.declared.verdict.PriceVerdict.TheVariants.{No}
+use Rattle.hsp_price_check.specs.PlanPass.{IsPlanPass}
+use Rattle.hsp_price_check.specs.SetPass.{IsSetPass}
+use Rattle.hsp_price_check.specs.declared.checking.Judge.{Judge}
+use Rattle.hsp_price_check.specs.declared.checking.Judge.TheVariants as judge
+use Rattle.hsp_price_check.specs.declared.checking.PriceCheck.{PriceCheck}
+
+-- there are more regions than rows may name
+abbrev pub HasTooMany : List Row → Type 0
+HasTooMany rows = MOST_REGIONS < length (regions_of rows)
+
+-- Who judges a certificate has passed over these rows.
+abbrev pub IsJudge : Service → PriceCertificate → List Row → Judge → Type 0
+-- a reason stands whatever the rows are
+IsJudge at claim rows (judge.Refused reason) = (any : List Row) → IsVerdict at any claim (No reason)
+IsJudge at claim rows (judge.Plan pass) =
+    (plan : Best) × (claim ≡ certificate.Plan plan) × IsPlanPass at plan rows pass
+IsJudge at claim rows (judge.Set pass) =
+    (set : Short) × (claim ≡ certificate.Shortage set) × IsSetPass at set rows pass
+
+-- the check has passed over these rows, which name no more regions than they may
+pub record IsPassed (at : Service) (certificate : PriceCertificate) (rows : List Row) (check : PriceCheck) : Type 0 where
+  pub service : IsService at
+  pub costs : AreCosts at.costs
+  pub costs_are : check.arcs.costs ≡ at.costs
+  pub sites_are : check.arcs.sites ≡ at.sites
+  pub regions_are : check.arcs.regions ≡ regions_of rows
+  pub few_regions : length (regions_of rows) ≤ MOST_REGIONS
+  pub judge : IsJudge at certificate rows check.judge
+
+abbrev pub IsOfSomeRows : PriceCheck → Type 0
+IsOfSomeRows check =
+    (at : Service) × (certificate : PriceCertificate) × (rows : List Row) × IsPassed at certificate rows check

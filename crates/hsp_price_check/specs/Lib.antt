@@ -1,0 +1,9 @@
+pub mod Extras
+pub mod LeastPay
+pub mod ClassNumbers
+pub mod Passed
+pub mod Classes
+pub mod PlanPass
+pub mod SetPass
+pub mod Verdicts
+pub mod Checking

@@ -1,0 +1,253 @@
+// The check of a certificate by prices, row by row.
+
+ghost use Rattle.std.specs.Prelude.{◌≡◌, ◌⊎◌, ◌↔◌, ◌++◌, ◌∷◌, ◌<◌, [], All, IfErr, IfOk, IsTrue, List, OnOk, length};
+ghost use Rattle.hsp_names.specs.Lent.{octets_of};
+ghost use Rattle.hsp_instance.specs.Instance.{Row, regions_of};
+ghost use Rattle.hsp_instance.specs.RowArcs.{row_named};
+ghost use Rattle.hsp_kinds.specs.Rows.{Service};
+ghost use Rattle.hsp_price_text.specs.declared.certificate.PriceCertificate.{PriceCertificate};
+ghost use Rattle.hsp_price_text.specs.declared.certificate.PriceCertificate.TheVariants.{Plan, Shortage};
+ghost use Rattle.hsp_tables.specs.Costs.{AreCosts};
+ghost use Rattle.hsp_check.specs.Instance.{capacities_in, limits_in, server_hosts_in};
+ghost use Rattle.hsp_classes.specs.Verdict.{IsVerdict, PlanMeets};
+ghost use Rattle.hsp_classes.specs.declared.verdict.PriceReason.TheVariants.{NoSuchServer, Shape};
+ghost use Rattle.hsp_price_check.specs.Checking.{HasTooMany, IsJudge, IsOfSomeRows, IsPassed};
+ghost use Rattle.hsp_price_check.specs.PlanPass.{AreNumbersOf, IsOfRow, IsPlanPass};
+ghost use Rattle.hsp_price_check.specs.Classes.{service_of};
+ghost use Rattle.hsp_price_check.specs.declared.fault.PassFault.TheVariants.{OutOfMemory, TooManyRegions};
+
+use crate::capacity::capacity_of_set;
+use crate::class_costs::{class_costs, class_loads};
+use crate::extras::extras_of;
+use crate::fault::PassFault;
+use crate::finding::class_numbers;
+use crate::numbers::{ServiceNumbers, numbers_of};
+use crate::plan_pass::PlanPass;
+use crate::set_pass::SetPass;
+use crate::sums::PassSums;
+use hsp_check::flags_of;
+use hsp_classes::{PriceReason, PriceVerdict};
+use hsp_instance::{Arc, Instance, RowArcs};
+use hsp_names::HandleRef;
+use hsp_price_text::{Class, PriceCertificate, PricedPlan, ShortServers};
+use hsp_tables::Costs;
+use hsp_text::limits::MOST_REGIONS;
+use std::alloc::{AllocError, Global};
+
+// Who judges a certificate.
+#[derive(Drop)]
+pub(crate) enum Judge<'a> {
+    // A reason that stands whatever the rows are.
+    Refused(PriceReason),
+    Plan(PlanPass<'a>),
+    Set(SetPass<'a>),
+}
+
+/// The check of a certificate by prices, in one pass over rows of any number. It holds servers, regions and classes, and
+/// no rows.
+#[derive(Drop)]
+pub struct PriceCheck<'a> {
+    arcs: RowArcs<'a>,
+    judge: Judge<'a>,
+}
+
+// Whether the servers of each class are below a number.
+fn are_there(classes: &[Class], count: usize) -> bool
+    ensures { IsTrue result ↔ All (λ class. All (λ j. j < count) class.servers) classes.now }
+{
+    for class in classes {
+        if !class
+            .servers
+            .iter()
+            .all(|server| (*server as usize) < count)
+        {
+            return false;
+        }
+    }
+    true
+}
+
+// The pass for a plan whose prices and servers fit.
+fn plan_pass<'a>(
+    alloc: Global,
+    instance: &Instance,
+    costs: &Costs,
+    numbers: ServiceNumbers,
+    plan: &'a PricedPlan,
+) -> Result<PlanPass<'a>, AllocError>
+    requires costs { AreCosts costs.now }
+    requires numbers { AreNumbersOf (service_of costs.now instance.now) numbers }
+    requires shape { PlanMeets (service_of costs.now instance.now) [] plan.now Shape }
+    requires there { PlanMeets (service_of costs.now instance.now) [] plan.now NoSuchServer }
+    ensures { IfOk result (IsPlanPass (service_of costs.now instance.now) plan.now []) }
+{
+    let classes = plan.classes();
+    let loads = class_loads(alloc, classes, numbers.capacities.len())?;
+    let sums = PassSums {
+        loads,
+        cost: class_costs(instance, costs, classes),
+        asked: vec![in alloc; 0u128; classes.len()]?,
+        seen: vec![in alloc; false; classes.len()]?,
+        placed: true,
+    };
+    let extras = extras_of(
+        alloc,
+        &numbers.server_hosts,
+        plan.server_prices(),
+        plan.host_prices(),
+    )?;
+    Ok(PlanPass {
+        plan,
+        numbers,
+        extras,
+        classes: class_numbers(alloc, classes)?,
+        least: Vec::new(alloc),
+        servers: Vec::new(alloc),
+        sums,
+    })
+}
+
+// Who judges a plan.
+fn judge_of_plan<'a>(
+    alloc: Global,
+    instance: &Instance,
+    costs: &Costs,
+    plan: &'a PricedPlan,
+) -> Result<Judge<'a>, AllocError>
+    requires { AreCosts costs.now }
+    ensures { IfOk result (IsJudge (service_of costs.now instance.now) (Plan plan.now) []) }
+{
+    let numbers = numbers_of(alloc, instance)?;
+    if plan.server_prices().len() != numbers.capacities.len()
+        || plan.host_prices().len() != numbers.limits.len()
+    {
+        return Ok(Judge::Refused(PriceReason::Shape));
+    }
+    if !are_there(plan.classes(), numbers.capacities.len()) {
+        return Ok(Judge::Refused(PriceReason::NoSuchServer));
+    }
+    Ok(Judge::Plan(plan_pass(alloc, instance, costs, numbers, plan)?))
+}
+
+// Who judges a short set of servers.
+fn judge_of_set<'a>(
+    alloc: Global,
+    instance: &Instance,
+    set: &'a ShortServers,
+) -> Result<Judge<'a>, AllocError>
+    ensures { IfOk result ((costs : List CostEntry)
+        → IsJudge (service_of costs instance.now) (Shortage set.now) []) }
+{
+    let numbers = numbers_of(alloc, instance)?;
+    let Some(flags) = flags_of(alloc, set.servers(), numbers.capacities.len())? else {
+        return Ok(Judge::Refused(PriceReason::NoSuchServer));
+    };
+    let capacity = capacity_of_set(alloc, &numbers, &flags)?;
+    Ok(Judge::Set(SetPass {
+        set,
+        flags,
+        capacity,
+        demand: 0,
+    }))
+}
+
+impl Judge<'_> {
+    // Passes over a row of this region with these arcs, which asks for `count` queries.
+    fn add(&mut self, region: &[u8], arcs: &[Arc], count: u64) -> Result<(), AllocError>
+        requires judge { (at : Service) × (certificate : PriceCertificate) × (rows : List Row)
+            × IsJudge at certificate rows self.old
+            × AllByRecursion (IsWithin (length at.servers)) arcs.now }
+        ensures { OnOk result ((at : Service) (certificate : PriceCertificate) (rows : List Row)
+            (row : Row) → IsJudge at certificate rows self.old
+            → IsOfRow at row region.now arcs.now count
+            → IsJudge at certificate (rows ++ row ∷ []) self.new) }
+    {
+        match self {
+            Judge::Refused(_) => Ok(()),
+            Judge::Plan(pass) => pass.add(region, arcs, count),
+            Judge::Set(pass) => {
+                pass.add(arcs, count);
+                Ok(())
+            }
+        }
+    }
+
+    // The verdict by the rows that were passed over.
+    fn verdict(&self, alloc: Global) -> Result<PriceVerdict, AllocError>
+        requires { (at : Service) × (certificate : PriceCertificate) × (rows : List Row)
+            × IsJudge at certificate rows self.now }
+        ensures { IfOk result (λ verdict. (at : Service) (certificate : PriceCertificate)
+            (rows : List Row) → IsJudge at certificate rows self.now
+            → IsVerdict at rows certificate verdict) }
+    {
+        match self {
+            Judge::Refused(reason) => Ok(PriceVerdict::No(*reason)),
+            Judge::Plan(pass) => pass.verdict(alloc),
+            Judge::Set(pass) => Ok(pass.verdict()),
+        }
+    }
+}
+
+impl<'a> PriceCheck<'a> {
+    /// The check of a certificate before the first row.
+    pub fn new(
+        alloc: Global,
+        instance: &'a Instance,
+        costs: &'a Costs,
+        certificate: &'a PriceCertificate,
+    ) -> Result<PriceCheck<'a>, AllocError>
+        ensures { IfOk result
+            (IsPassed (service_of costs.now instance.now) certificate.now []) }
+    {
+        // The table of costs is within its limits.
+        let _rows = costs.len();
+        let judge = match certificate {
+            PriceCertificate::Plan(plan) => judge_of_plan(alloc, instance, costs, plan)?,
+            PriceCertificate::Shortage(set) => judge_of_set(alloc, instance, set)?,
+        };
+        Ok(PriceCheck {
+            arcs: RowArcs::new(alloc, instance.sites(), costs),
+            judge,
+        })
+    }
+
+    /// Passes over a row. The region is a name, and the count a whole number.
+    ///
+    /// The fault is TooManyRegions where the rows have 65 regions with this one. After a fault the check judges no
+    /// further row.
+    pub fn add(
+        &mut self,
+        alloc: Global,
+        region: &[u8],
+        handle: HandleRef<'_>,
+        count: u64,
+    ) -> Result<(), PassFault>
+        requires { IsOfSomeRows self.old }
+        ensures passed { OnOk result ((at : Service) (certificate : PriceCertificate)
+            (rows : List Row) → IsPassed at certificate rows self.old
+            → IsPassed at certificate
+            (rows ++ row_named region.now (octets_of handle.entry) count ∷ []) self.new) }
+        ensures fault { IfErr result (λ fault. (fault ≡ OutOfMemory)
+            ⊎ ((fault ≡ TooManyRegions)
+            × ((at : Service) (certificate : PriceCertificate) (rows : List Row)
+            → IsPassed at certificate rows self.old
+            → HasTooMany (rows ++ row_named region.now (octets_of handle.entry) count ∷ [])))) }
+    {
+        if self.arcs.regions() >= MOST_REGIONS && !self.arcs.knows(region) {
+            return Err(PassFault::TooManyRegions);
+        }
+        self.arcs.find(alloc, region, handle)?;
+        self.judge.add(region, self.arcs.arcs(), count)?;
+        Ok(())
+    }
+
+    /// The verdict on the certificate, by the rows that were passed over.
+    pub fn verdict(&self, alloc: Global) -> Result<PriceVerdict, AllocError>
+        requires { IsOfSomeRows self.now }
+        ensures { IfOk result (λ verdict. (at : Service) (certificate : PriceCertificate)
+            (rows : List Row) → IsPassed at certificate rows self.now
+            → IsVerdict at rows certificate verdict) }
+    {
+        self.judge.verdict(alloc)
+    }
+}

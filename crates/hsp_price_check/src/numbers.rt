@@ -1,0 +1,38 @@
+// The numbers of a service, as lists.
+
+ghost use Rattle.std.specs.Prelude.{◌≡◌, ◌<◌, ◌≤◌, ◌^◌, IfOk, length};
+ghost use Rattle.hsp_check.specs.Instance.{capacities_in, limits_in, server_hosts_in};
+ghost use Rattle.hsp_check.specs.Lists.{HostsAreBelow};
+
+use hsp_instance::{Instance, capacities_of, limits_of, server_hosts_of};
+use std::alloc::{AllocError, Global};
+
+/// What each server and each host can take, and the host that each server stands on.
+#[derive(Drop)]
+pub(crate) struct ServiceNumbers {
+    pub(crate) capacities: Vec<u64>,
+    pub(crate) limits: Vec<u64>,
+    pub(crate) server_hosts: Vec<Option<u32>>,
+    ghost servers_many: { length capacities.items ≡ length server_hosts.items },
+    ghost few_servers: { length server_hosts.items < 2 ^ 16 },
+    ghost few_hosts: { length limits.items < 2 ^ 16 },
+    ghost hosts_in: { HostsAreBelow (length limits.items) server_hosts.items },
+}
+
+/// The numbers of an instance's servers and hosts.
+pub(crate) fn numbers_of(alloc: Global, instance: &Instance) -> Result<ServiceNumbers, AllocError>
+    ensures capacities { IfOk result (λ numbers.
+        numbers.capacities.items ≡ capacities_in instance.now) }
+    ensures limits { IfOk result (λ numbers. numbers.limits.items ≡ limits_in instance.now) }
+    ensures server_hosts { IfOk result (λ numbers.
+        numbers.server_hosts.items ≡ server_hosts_in instance.now) }
+{
+    let capacities = capacities_of(alloc, instance)?;
+    let limits = limits_of(alloc, instance)?;
+    let server_hosts = server_hosts_of(alloc, instance)?;
+    Ok(ServiceNumbers {
+        capacities,
+        limits,
+        server_hosts,
+    })
+}
