@@ -1,13 +1,14 @@
 // The check of a certificate by prices, row by row.
 
 ghost use Rattle.std.specs.Prelude.{◌≡◌, ◌⊎◌, ◌↔◌, ◌++◌, ◌∷◌, ◌<◌, [], All, IfErr, IfOk, IsTrue, List, OnOk, length};
+ghost use Rattle.std.specs.List.{AllByRecursion};
 ghost use Rattle.hsp_names.specs.Lent.{octets_of};
 ghost use Rattle.hsp_instance.specs.Instance.{Row, regions_of};
 ghost use Rattle.hsp_instance.specs.RowArcs.{row_named};
 ghost use Rattle.hsp_kinds.specs.Rows.{Service};
 ghost use Rattle.hsp_price_text.specs.declared.certificate.PriceCertificate.{PriceCertificate};
 ghost use Rattle.hsp_price_text.specs.declared.certificate.PriceCertificate.TheVariants.{Plan, Shortage};
-ghost use Rattle.hsp_tables.specs.Costs.{AreCosts};
+ghost use Rattle.hsp_tables.specs.Costs.{AreCosts, CostEntry};
 ghost use Rattle.hsp_check.specs.Instance.{capacities_in, limits_in, server_hosts_in};
 ghost use Rattle.hsp_classes.specs.Verdict.{IsVerdict, PlanMeets};
 ghost use Rattle.hsp_classes.specs.declared.verdict.PriceReason.TheVariants.{NoSuchServer, Shape};
