@@ -4,7 +4,7 @@ ghost use Rattle.std.specs.Prelude.{◌≡◌, ◌⊎◌, ◌↔◌, ◌++◌, �
 ghost use Rattle.std.specs.List.{AllByRecursion};
 ghost use Rattle.hsp_names.specs.Lent.{octets_of};
 ghost use Rattle.hsp_instance.specs.Instance.{Row, regions_of};
-ghost use Rattle.hsp_instance.specs.RowArcs.{row_named};
+ghost use Rattle.hsp_instance.specs.RowArcs.{IsWithin, row_named};
 ghost use Rattle.hsp_kinds.specs.Rows.{Service};
 ghost use Rattle.hsp_price_text.specs.declared.certificate.PriceCertificate.{PriceCertificate};
 ghost use Rattle.hsp_price_text.specs.declared.certificate.PriceCertificate.TheVariants.{Plan, Shortage};
@@ -136,8 +136,8 @@ fn judge_of_set<'a>(
     instance: &Instance,
     set: &'a ShortServers,
 ) -> Result<Judge<'a>, AllocError>
-    ensures { IfOk result ((costs : List CostEntry)
-        → IsJudge (service_of costs instance.now) (Shortage set.now) []) }
+    ensures { IfOk result (λ judge. (costs : List CostEntry)
+        → IsJudge (service_of costs instance.now) (Shortage set.now) [] judge) }
 {
     let numbers = numbers_of(alloc, instance)?;
     let Some(flags) = flags_of(alloc, set.servers(), numbers.capacities.len())? else {
