@@ -1,4 +1,4 @@
-mod Lists
+pub mod Lists
 pub mod Once
 mod TableSums
 mod Sites
