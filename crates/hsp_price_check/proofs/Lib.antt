@@ -1,0 +1,5 @@
+mod Positions
+mod OneRow
+mod SumSteps
+mod PassSteps
+mod PlanRows

@@ -1,11 +1,10 @@
 -- What a pass over rows has added up.
-use Rattle.std.specs.Prelude.{◌≡◌, ◌≤◌, ◌<◌, ◌+◌, ◌-◌, ◌*◌, ◌^◌, ◌==◌, ◌&&◌, ◌||◌, ◌↔◌, ℕ, Bool, true, false, ⊤}
-use Rattle.std.specs.Prelude.{List, [], ◌∷◌, length, min, position, slice_index, slice_index_or, sum_by, All, IsTrue}
+use Rattle.std.specs.Prelude.{◌≡◌, ◌≤◌, ◌<◌, ◌+◌, ◌-◌, ◌*◌, ◌^◌, ◌==◌, ◌&&◌, ◌||◌, ◌↔◌, ℕ, Bool, false, ⊤}
+use Rattle.std.specs.Prelude.{List, [], ◌∷◌, length, min, position, slice_index, slice_index_or, All, IsTrue}
 use Rattle.std.specs.Prelude.{Some, None, if◌then◌else◌}
 use Rattle.std.specs.List.{list_any}
 use Rattle.hsp_text.specs.declared.limits.TheConstants.{GREATEST_COST}
 use Rattle.hsp_instance.specs.Instance.{Row}
-use Rattle.hsp_instance.specs.declared.arc.Arc.{Arc}
 use Rattle.hsp_check.specs.ArcFlows.{flag_at}
 use Rattle.hsp_kinds.specs.Rows.{Service}
 use Rattle.hsp_price_text.specs.Claim.{Best, Class}
