@@ -3,3 +3,5 @@ mod OneRow
 mod SumSteps
 mod PassSteps
 mod PlanRows
+mod InOrder
+mod Judging
