@@ -31,7 +31,7 @@ from hsp.intake.times import Span
 
 import clusters
 from clusters import Cluster
-from conftest import TOP, WITH_SIGNALS, Hsp, variables
+from conftest import TOP, WITH_SIGNALS, Hsp, children, named, variables
 from test_demand import Asked, asked, regions_file, server_line, service
 from test_sites import invoke
 
@@ -57,18 +57,6 @@ def ended(run: "subprocess.Popen[str]", status: int) -> str:
 
 def fleet(*words: object, status: int = 0) -> str:
     return ended(started(*words), status)
-
-
-def children(process: int) -> list[int]:
-    done = subprocess.run(["pgrep", "-P", str(process)], capture_output=True, text=True)
-    return [int(it) for it in done.stdout.split()]
-
-
-def named(process: int, word: str) -> bool:
-    try:
-        return word in Path(f"/proc/{process}/cmdline").read_text()
-    except OSError:
-        return False
 
 
 def at_work(run: "subprocess.Popen[str]") -> int:

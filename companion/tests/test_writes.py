@@ -20,7 +20,7 @@ from hsp.base import files, signals
 from hsp.base.programs import Missing, Programs
 from hsp.base.unfit import Unfit
 
-from conftest import WITH_SIGNALS, variables
+from conftest import WITH_SIGNALS, children, named, variables
 from test_sites import PARIS, RESTON
 
 Example = Callable[[str], Path]
@@ -154,12 +154,6 @@ def test_files_that_are_not_there_yet_are_compared_too(tmp_path: Path) -> None:
 STOPS = {signal.SIGTERM: 143, signal.SIGHUP: 129, signal.SIGINT: 130}
 
 
-def is_at_work(run: "subprocess.Popen[str]") -> bool:
-    """Whether a run waits for the program that never ends."""
-    own = subprocess.run(["pgrep", "-P", str(run.pid), "-x", "sleep"], stdout=subprocess.DEVNULL)
-    return own.returncode == 0
-
-
 def slow_program(tmp_path: Path, name: str) -> Path:
     """A program in place of hsplan's that never ends by itself."""
     path = tmp_path / name
@@ -186,7 +180,9 @@ def test_a_stopped_command_leaves_nothing(
     slow = str(slow_program(tmp_path, "slow"))
     run = started(*own.get(command, [command, folder]), TMPDIR=str(room), HSPLAN=slow)
     until = time.monotonic() + 20
-    while not (list(room.glob("hsp-*")) if command == "demand" else is_at_work(run)) and time.monotonic() < until:
+    while time.monotonic() < until:
+        if list(room.glob("hsp-*")) if command == "demand" else any(named(it, "sleep") for it in children(run.pid)):
+            break
         time.sleep(0.02)
     time.sleep(0.3 if command == "demand" else 0)  # it waits for the other end of the pipe
     assert run.poll() is None and list(room.glob("hsp-*/*" if command == "sites" else "hsp-*"))
