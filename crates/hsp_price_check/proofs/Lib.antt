@@ -1,0 +1,5 @@
+mod ServiceHosts
+mod Capping
+mod ClassSums
+mod LeastPays
+mod ClassPlaces
