@@ -1,3 +1,9 @@
+mod Capping
+mod LeastPays
+mod ClassPlaces
+mod ClassSums
+mod ServiceHosts
+mod SetCapacity
 mod Positions
 mod OneRow
 mod SumSteps
@@ -5,3 +11,6 @@ mod PassSteps
 mod PlanRows
 mod InOrder
 mod Judging
+mod SetRows
+mod Starting
+mod JudgedClasses
