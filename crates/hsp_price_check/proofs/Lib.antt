@@ -3,3 +3,4 @@ mod Capping
 mod ClassSums
 mod LeastPays
 mod ClassPlaces
+mod SetCapacity
