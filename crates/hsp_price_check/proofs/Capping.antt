@@ -1,9 +1,5 @@
 -- Sums that a pass keeps up to a greatest one.
-use Rattle.std.proofs.Common.{◌≡◌, ◌≢◌, ◌+◌, ◌<◌, ◌∙◌, ℕ, List, [], ◌∷◌, length, slice_index, slice_set, sum_by}
-use Rattle.std.proofs.Common.{if◌then◌else◌, inl, inr, ap, sym, arith, eq-eqb, ne_eqb, get_or-set_other, get_or-set_same}
-use Rattle.std.specs.Prelude.{◌==◌}
-use Rattle.std.specs.List.{zip}
-use Rattle.std.proofs.lemmas.Bool.{cases_eq}
+use Rattle.std.proofs.Common.{◌≡◌, ◌+◌, ◌∷◌, ℕ, List, arith, sum_by}
 use Rattle.std.proofs.lemmas.List.Sums.{sum_by-cons}
 use Rattle.hsp_price_check.specs.Passed.{capped}
 

@@ -1,14 +1,13 @@
 -- The classes of a plan, found by their regions and servers, as one after another is added.
-use Rattle.std.proofs.Common.{◌≡◌, ◌∙◌, ◌+◌, ◌<◌, ◌∷◌, ◌++◌, [], ℕ, Bool, List, None, Some, ap, ap₂, cond, get_or, length}
+use Rattle.std.proofs.Common.{◌≡◌, ◌∙◌, ◌+◌, ◌<◌, ℕ, List, None, Some, ap, ap₂, cond, get_or, length}
 use Rattle.std.proofs.Common.{sym, take, arith}
 use Rattle.std.specs.Prelude.{◌&&◌, position}
-use Rattle.std.specs.Map.{lookup}
 use Rattle.std.specs.Str.{bytes_eq}
 use Rattle.std.proofs.lemmas.Cmp.{nat_list_eq_equiv}
 use Rattle.std.proofs.lemmas.List.{length-take, take_more}
 use Rattle.hsp_instance.specs.Building.{or_else}
 use Rattle.hsp_price_text.specs.Claim.{Class}
-use Rattle.hsp_tally.specs.FirstRows.{FirstRow, HasAdded, is_key_of}
+use Rattle.hsp_tally.specs.FirstRows.{FirstRow, HasAdded}
 use Rattle.hsp_tally.proofs.FirstOfKinds.{place_next}
 use Rattle.hsp_price_check.specs.ClassNumbers.{HasClasses, is_named}
 

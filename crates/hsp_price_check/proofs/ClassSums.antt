@@ -1,9 +1,9 @@
 -- What the classes of a plan bring to servers and cost.
 use Rattle.std.proofs.Common.{◌≡◌, ◌≢◌, ◌+◌, ◌^◌, ◌<◌, ◌≤◌, ◌∙◌, ◌⊎◌, ℕ, List, [], ◌∷◌, length, slice_index, slice_set}
 use Rattle.std.proofs.Common.{sum_by, if◌then◌else◌, inl, inr, refl, ap, sym, arith, eq-eqb, ne_eqb, get_or-set_other}
-use Rattle.std.proofs.Common.{get_or-set_same, Option, None, Some, cond}
+use Rattle.std.proofs.Common.{get_or-set_same, Option, None, Some}
 use Rattle.std.specs.Prelude.{◌==◌, option_map, slice_get}
-use Rattle.std.specs.List.{find, zip}
+use Rattle.std.specs.List.{zip}
 use Rattle.std.specs.Option.{unwrap_or}
 use Rattle.std.proofs.lemmas.Bool.{cases_eq}
 use Rattle.hsp_tables.specs.Costs.{AreCosts, CostEntry, IsCostEntry}
@@ -96,6 +96,7 @@ set_small numbers at number j bound inside low all = elim (cases_eq at j) [
 
 -- where no pair is left, the sum so far is all
 pub all_added : {A B : Type 0} (f : A × B → ℕ) (xs : List A) (ys : List B) (sum all : ℕ)
-    → (length xs ≡ 0) ⊎ (length ys ≡ 0) → sum < 2 ^ 128 → capped (sum + sum_by f (zip xs ys)) ≡ capped all → sum ≡ capped all
+    → (length xs ≡ 0) ⊎ (length ys ≡ 0) → sum < 2 ^ 128 → capped (sum + sum_by f (zip xs ys)) ≡ capped all
+    → sum ≡ capped all
 all_added f xs ys sum all none low so =
     let last : capped (sum + 0) ≡ capped all = rw (none_left xs ys none) at so in omega (arith, last, low)

@@ -11,6 +11,7 @@ mod PassSteps
 mod PlanRows
 mod InOrder
 mod Judging
+mod SmallAmounts
+mod JudgedClasses
 mod SetRows
 mod Starting
-mod JudgedClasses

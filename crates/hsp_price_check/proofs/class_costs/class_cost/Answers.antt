@@ -1,8 +1,7 @@
-use Rattle.std.proofs.Common.{◌≡◌, ◌+◌, ◌*◌, ◌∙◌, ℕ, ap, ap₂, inl, inr, arith}
+use Rattle.std.proofs.Common.{◌≡◌, ◌*◌, ◌∙◌, ℕ, ap, ap₂, inl, inr}
 use Rattle.std.specs.List.{zip}
 use Rattle.hsp_classes.specs.Sums.{class_cost, cost_at}
 use Rattle.hsp_price_check.specs.Classes.{service_of}
-use Rattle.hsp_price_check.specs.Passed.{capped}
 use Rattle.hsp_price_check.proofs.Capping.{term_added}
 use Rattle.hsp_price_check.proofs.ClassSums.{all_added}
 use Rattle.hsp_price_check.proofs.class_costs.class_cost.Goals as goal
@@ -13,10 +12,9 @@ loop-server-preserved c =
     let class = c.args.class.now in
     let server = c.in-Some.server.now in
     let amount = c.in-Some.amount.now in
+    let region = c.deref-in-loop-server.ensures.value ∙ ap (λ class. class.region) c.class.view_is in
     let term : c.from-cost.result * c.from.result ≡ cost_at at class.region server * amount =
-    ap₂ (λ m n. m * n)
-    (c.from-cost.ensures ∙ c.cost_at.ensures.cost
-    ∙ ap (λ region. cost_at at region server) (c.deref-in-loop-server.ensures.value ∙ ap (λ class. class.region) c.class.view_is))
+    ap₂ (λ m n. m * n) (c.from-cost.ensures ∙ c.cost_at.ensures.cost ∙ ap (λ r. cost_at at r server) region)
     c.from.ensures in
     let before = rw (c.in-Some.ensures.steps.0, c.in-Some.ensures.steps.1) at c.loop-server.invariant.cost in
     record {

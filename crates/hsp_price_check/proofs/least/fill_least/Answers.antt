@@ -1,4 +1,4 @@
-use Rattle.std.proofs.Common.{◌≡◌, ◌∙◌, ap, arith, filter, take, take_all}
+use Rattle.std.proofs.Common.{◌∙◌, ap, filter, take_all}
 use Rattle.std.specs.Prelude.{◌==◌}
 use Rattle.hsp_instance.specs.declared.arc.Arc.{Arc}
 use Rattle.hsp_price_check.specs.Extras.{pay_by}

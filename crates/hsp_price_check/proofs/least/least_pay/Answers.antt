@@ -1,5 +1,4 @@
 use Rattle.std.proofs.Common.{◌≡◌, ◌<◌, ◌^◌, ◌∙◌, ap, arith, get_or, inr, min}
-use Rattle.hsp_instance.specs.declared.arc.Arc.{Arc}
 use Rattle.hsp_price_check.specs.Extras.{pay_by}
 use Rattle.hsp_price_check.proofs.LeastPays.{attained_more, no_arc, none_less_more}
 use Rattle.hsp_price_check.proofs.least.least_pay.Goals as goal
