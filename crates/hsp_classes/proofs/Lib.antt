@@ -5,7 +5,7 @@ mod Sites
 mod ServerArcs
 mod LeastPay
 pub mod ClassKinds
-mod GivenClasses
+pub mod GivenClasses
 pub mod ByRow
 mod Flows
 mod Served

@@ -1,29 +1,23 @@
 -- What a plan's pass tests at its end is what the certificate has to meet.
-use Rattle.std.proofs.Common.{◌≡◌, ◌≤◌, ◌<◌, ◌+◌, ◌-◌, ◌^◌, ℕ, Bool, true, false, List, [], ◌∷◌, Option, length, map}
-use Rattle.std.proofs.Common.{zero, suc, nat_le, slice_index, All, if◌then◌else◌, ap, sym, ◌∙◌, arith}
-use Rattle.std.specs.List.{AllByRecursion, list_any}
-use Rattle.std.proofs.lemmas.List.{get_or_default, length-map}
+use Rattle.std.proofs.Common.{◌≡◌, ◌≤◌, ◌<◌, ◌^◌, ℕ, true, List, [], ◌∷◌, length, map}
+use Rattle.std.proofs.Common.{zero, suc, nat_le, slice_index, if◌then◌else◌, ap, sym, ◌∙◌, arith}
+use Rattle.std.specs.List.{AllByRecursion}
+use Rattle.std.proofs.lemmas.List.{length-map}
 use Rattle.std.proofs.lemmas.Bool.{and_parts}
 use Rattle.hsp_text.specs.declared.limits.TheConstants.{GREATEST_CAPACITY, GREATEST_SUM}
 use Rattle.hsp_transport.specs.Sums.{sum_below}
 use Rattle.hsp_instance.specs.Instance.{IsServer, Row, Server}
-use Rattle.hsp_check.specs.ArcFlows.{flag_at, host_in}
+use Rattle.hsp_check.specs.ArcFlows.{host_in}
 use Rattle.hsp_check.specs.Lists.{AreHosted, AreIdle, AreWithin}
 use Rattle.hsp_check.specs.Plan.{is_on}
 use Rattle.hsp_kinds.specs.Rows.{Service}
-use Rattle.hsp_price_text.specs.Claim.{Best, Class}
-use Rattle.hsp_price_text.specs.declared.certificate.PriceCertificate.TheVariants.{Plan}
+use Rattle.hsp_price_text.specs.Claim.{Best}
 use Rattle.hsp_transport.proofs.Summing.{sum_below_same}
-use Rattle.hsp_classes.specs.Least.{host_at, is_of}
-use Rattle.hsp_classes.specs.Sums.{asked_of, cost_in_all, host_load_at, load_at}
-use Rattle.hsp_classes.specs.Verdict.{IsVerdict, PlanMeets, number}
-use Rattle.hsp_classes.specs.declared.verdict.PriceReason.{PriceReason}
-use Rattle.hsp_classes.specs.declared.verdict.PriceReason.TheVariants.{Shape, NoSuchServer, NotLeast, NoClass, ClassSum}
-use Rattle.hsp_classes.specs.declared.verdict.PriceReason.TheVariants.{Load, Cost, IdlePrice, DemandSum, CapacitySum}
-use Rattle.hsp_classes.specs.declared.verdict.PriceReason.TheVariants.{NotShort}
-use Rattle.hsp_price_check.specs.Passed.{capped, class_at, no_class}
+use Rattle.hsp_classes.specs.Sums.{cost_in_all, host_load_at, load_at}
+use Rattle.hsp_classes.specs.Verdict.{PlanMeets}
+use Rattle.hsp_classes.specs.declared.verdict.PriceReason.TheVariants.{Load, Cost, IdlePrice}
+use Rattle.hsp_price_check.specs.Passed.{capped}
 use Rattle.hsp_price_check.specs.PlanPass.{IsPlanPass}
-use Rattle.hsp_price_check.specs.Verdicts.{AreAskedFor, MeetsClasses}
 use Rattle.hsp_price_check.specs.declared.plan_pass.PlanPass.{PlanPass}
 
 -- a sum that is kept as a small number is that number

@@ -1,4 +1,4 @@
-use Rattle.std.proofs.Common.{◌≡◌, ◌∙◌, ◌⊎◌, ◌<◌, ◌∷◌, ◌++◌, [], List, ℕ, Bool, true, inl, inr, length, ap, sym, subst, refl, arith}
+use Rattle.std.proofs.Common.{◌≡◌, ◌∙◌, ◌⊎◌, ◌<◌, List, true, inl, inr, length, ap, sym, subst, refl, arith}
 use Rattle.std.specs.List.{AllByRecursion, list_any}
 use Rattle.std.specs.Str.{bytes_eq}
 use Rattle.hsp_names.specs.Lent.{octets_of}
@@ -44,14 +44,13 @@ add-requires c =
 pub returns-clause-passed : goal.returns-clause-passed
 returns-clause-passed c at certificate rows passed =
     let row = row_named c.args.region.now (octets_of c.args.handle) c.args.count in
-    let old = c.args.self.now.arcs.regions in
     let known : (list_any (bytes_eq c.args.region.now) (regions_of rows) ≡ true)
     ⊎ (length (regions_of rows) < MOST_REGIONS) =
     elim c.else-regions-ge-MOST_REGIONS.branch [
       | else-regions-ge-MOST_REGIONS-via-then-regions-ge-MOST_REGIONS+else-not-knows w ↦
-          inl (rw (← passed.regions_are) ?)
+          inl (rw (← passed.regions_are) (sym w.if-not-knows.ensures))
       | else-regions-ge-MOST_REGIONS-via-else-regions-ge-MOST_REGIONS w ↦
-          inr ?
+          inr (rw (← passed.regions_are) (omega (arith, w.if-regions-ge-MOST_REGIONS.false, c.regions.ensures)))
     ] in
     record {
       service = passed.service;
@@ -66,7 +65,7 @@ returns-clause-passed c at certificate rows passed =
       judge =
           c.in_ok-add.ensures at certificate rows row passed.judge (record {
             region_is = refl;
-            arcs_are = found ? at certificate rows passed;
+            arcs_are = found (goal.at.returns-clause-passed c).After-arcs at certificate rows passed;
             count_is = refl;
           });
     }

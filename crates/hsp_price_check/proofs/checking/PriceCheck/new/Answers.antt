@@ -1,4 +1,4 @@
-use Rattle.std.proofs.Common.{◌∙◌, [], subst, sym, arith}
+use Rattle.std.proofs.Common.{◌∙◌, [], arith}
 use Rattle.hsp_price_check.specs.Checking.{IsJudge}
 use Rattle.hsp_price_check.specs.Classes.{service_of}
 use Rattle.hsp_price_check.proofs.checking.PriceCheck.new.Goals as goal
@@ -9,8 +9,10 @@ returns c =
     let at = service_of c.args.costs.now c.args.instance.now in
     let judge : IsJudge at c.args.certificate.now [] c.match-certificate.judge =
     elim c.match-certificate.branch [
-      | in-Plan+in_ok-judge-in-Plan w ↦ ?
-      | in-Shortage+in_ok-judge-in-Shortage w ↦ ?
+      | in-Plan+in_ok-judge-in-Plan w ↦
+          rw (w.judge-is, w.in-Plan.is) w.in_ok-judge-in-Plan.ensures
+      | in-Shortage+in_ok-judge-in-Shortage w ↦
+          rw (w.judge-is, w.in-Shortage.is) (w.in_ok-judge-in-Shortage.ensures c.args.costs.now)
     ] in
     record {
       service =

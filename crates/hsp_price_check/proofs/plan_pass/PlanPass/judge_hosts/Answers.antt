@@ -1,8 +1,5 @@
-use Rattle.std.proofs.Common.{◌≡◌, ◌∙◌, List, ap, sym, arith}
-use Rattle.hsp_instance.specs.Instance.{Row}
-use Rattle.hsp_kinds.specs.Rows.{Service}
+use Rattle.std.proofs.Common.{◌≡◌, ◌∙◌, ap, sym, arith}
 use Rattle.hsp_price_text.specs.Claim.{Best}
-use Rattle.hsp_price_check.specs.PlanPass.{IsPlanPass}
 use Rattle.std.proofs.lemmas.Bool.{true≢false}
 use Rattle.hsp_check.specs.Lists.{AreIdle, AreWithin}
 use Rattle.hsp_classes.specs.Verdict.{PlanMeets}

@@ -1,4 +1,4 @@
-use Rattle.std.proofs.Common.{◌≡◌, ◌∙◌, List, ℕ, subst₂, sym, arith}
+use Rattle.std.proofs.Common.{◌∙◌, sym, arith}
 use Rattle.std.proofs.lemmas.Bool.{true≢false}
 use Rattle.hsp_check.specs.Lists.{AreWithin}
 use Rattle.hsp_price_check.proofs.InOrder.{of_loads}

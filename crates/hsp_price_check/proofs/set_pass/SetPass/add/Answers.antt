@@ -1,4 +1,4 @@
-use Rattle.std.proofs.Common.{◌≡◌, ◌∙◌, ap, sym, arith, refl}
+use Rattle.std.proofs.Common.{refl}
 use Rattle.hsp_price_check.proofs.SetRows.{set_more}
 use Rattle.hsp_price_check.proofs.set_pass.SetPass.add.Goals as goal
 
