@@ -82,6 +82,9 @@ fn plan_pass<'a>(
     requires there { PlanMeets (service_of costs.now instance.now) [] plan.now NoSuchServer }
     ensures { IfOk result (IsPlanPass (service_of costs.now instance.now) plan.now []) }
 {
+    // The plan and the instance are within their limits.
+    let _cost = plan.cost();
+    let _servers = instance.servers();
     let classes = plan.classes();
     let loads = class_loads(alloc, classes, numbers.capacities.len())?;
     let sums = PassSums {
