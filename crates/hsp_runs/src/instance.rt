@@ -128,7 +128,7 @@ fn read_in_turn(alloc: Global, inputs: &Inputs) -> Result<Instance, Fault>
 ///
 /// Faults in this order: `Settings`, `Values`, `Demand`, `Costs`, `Capacity`, `Build`. Where the inputs define an
 /// instance the only fault is that memory runs out.
-pub(crate) fn instance_in(alloc: Global, inputs: &Inputs) -> Result<Instance, Fault>
+pub fn instance_in(alloc: Global, inputs: &Inputs) -> Result<Instance, Fault>
     ensures instance { OrNoMemory (IsInstanceOf inputs.now) result }
     // The inputs define it, as the page of the headline states.
     ensures defines { IfOk result (λ instance. Defines inputs.now instance) }

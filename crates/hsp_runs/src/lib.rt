@@ -24,7 +24,7 @@ pub use fronts::fronts_run;
 pub use hsp_faults::{Fault, fault_line, status_of, sums_line, verdict_line, verdict_status};
 pub use hsp_headline::Inputs;
 pub use hsp_text::{first_line, read_file};
-pub use instance::costs_in;
+pub use instance::{costs_in, instance_in};
 pub use locate::{Locate, locate_run};
 pub use plan::{PlanText, plan_run};
 pub use readings::{settings_in, sites_in, sites_of, values_in};

@@ -49,7 +49,7 @@ count_any : (n m : ℕ) (o : Option (List ℕ)) (count : ℕ) → count_in n o �
 count_any n m o count e = grind arith
 
 -- a row is read the same at any number
-row_any : (n m : ℕ) (parts : Parts) (row : Row) → row_of n parts ≡ Ok row → row_of m parts ≡ Ok row
+pub row_any : (n m : ℕ) (parts : Parts) (row : Row) → row_of n parts ≡ Ok row → row_of m parts ≡ Ok row
 row_any n m parts row e =
     let name = first_step (name_in n parts.region) _ row e in
     let handle = first_step (handle_or n (names.handle_in parts.handle)) _ row name.2 in

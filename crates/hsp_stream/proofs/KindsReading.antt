@@ -91,7 +91,7 @@ pub log_more : (P Q : List Fields → Type 0) (log : Option (List ℕ)) → ((re
 log_more P Q log all (records, are, is) = (records, are, all records is)
 
 -- the records that a reader has left at the start of a log are those of the log
-at_start : {R : Type 0} (remaining : R → Option (List ℕ)) (log : Option (List ℕ)) (reader : Reader R)
+pub at_start : {R : Type 0} (remaining : R → Option (List ℕ)) (log : Option (List ℕ)) (reader : Reader R)
     (records : List Fields) → IfSome log (λ octets. IsKnown remaining reader)
     → IfSome log (λ octets. records_left remaining reader ≡ records_of octets)
     → (IsKnown remaining reader → records ≡ records_left remaining reader)

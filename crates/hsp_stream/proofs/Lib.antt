@@ -1,8 +1,8 @@
 pub mod KindsBack
 pub mod KindsParts
 pub mod KindsRows
-mod KindsReading
-mod LogTables
+pub mod KindsReading
+pub mod LogTables
 pub mod KindsRuns
 pub mod KindsText
 pub mod KindsWhole
@@ -15,7 +15,7 @@ mod Accepting
 mod TalkEnds
 mod TalkFails
 pub mod OwnHash
-mod PageCosts
+pub mod PageCosts
 mod SpelledPortions
 mod AnswersShown
 mod Machines

@@ -236,7 +236,7 @@ uncapped unit some most (row ∷ rows) few =
     cc (first, rest)
 
 -- the header of a form is that form's
-header_is : (first : Fields) (form : CountForm) → form_of first ≡ Ok form → first ≡ header_of form
+pub header_is : (first : Fields) (form : CountForm) → form_of first ≡ Ok form → first ≡ header_of form
 header_is first form e = elim (cases_Bool (same_fields first (header_of Ones))) [
   | inl ones ↦
       let is : ◌≡◌ {A = Result CountForm StreamFault} (Ok Ones) (Ok form) = rw ones at e in

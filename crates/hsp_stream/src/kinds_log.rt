@@ -26,27 +26,27 @@ pub const GREATEST_ROW_COUNT: u64 = 1_000_000_000_000;
 
 /// What the header of a log names.
 #[derive(Clone, Copy, Debug, PartialEq, Eq)]
-pub(crate) enum CountForm {
+pub enum CountForm {
     /// A region and a handle. Each row counts 1.
     Ones,
     /// A region, a handle and a count.
     Counts,
 }
 
-// The fields of a row.
+/// The fields of a row.
 #[derive(Clone, Copy)]
-pub(crate) struct Parts<'a> {
+pub struct Parts<'a> {
     region: &'a [u8],
     handle: &'a [u8],
     count: Option<&'a [u8]>,
 }
 
-// A row.
+/// A row.
 #[derive(Clone, Copy)]
-pub(crate) struct LogRow<'a> {
-    region: &'a [u8],
-    handle: HandleRef<'a>,
-    count: u64,
+pub struct LogRow<'a> {
+    pub region: &'a [u8],
+    pub handle: HandleRef<'a>,
+    pub count: u64,
 }
 
 impl From<RecordsFault> for StreamFault {
@@ -62,8 +62,8 @@ impl From<RecordsFault> for StreamFault {
     }
 }
 
-// The form of a log, by its first record.
-fn form_of(record: &ByteRecord) -> Result<CountForm, StreamFault>
+/// The form of a log, by its first record, or that this isn't the header of a log.
+pub fn form_of(record: &ByteRecord) -> Result<CountForm, StreamFault>
     ensures { Gives (λ form. form) result (form_of (fields_of «record».now)) }
 {
     if is_header(record, &[b"region", b"handle"]) {
@@ -102,7 +102,7 @@ fn three_in(record: &ByteRecord) -> Option<Parts<'_>>
 }
 
 /// The fields of a row, where there are as many as the header names.
-pub(crate) fn parts_in(record: &ByteRecord, form: CountForm) -> Option<Parts<'_>>
+pub fn parts_in(record: &ByteRecord, form: CountForm) -> Option<Parts<'_>>
     ensures { option_map parts_shown result ≡ parts_in form (fields_of «record».now) }
 {
     match form {
@@ -124,8 +124,8 @@ fn count_in(row: u64, count: Option<&[u8]>) -> Result<u64, RowFault>
     }
 }
 
-/// The row that fields spell, or its first fault.
-pub(crate) fn row_of(row: u64, parts: Parts<'_>) -> Result<LogRow<'_>, RowFault>
+/// The row that fields spell, or its first fault: `BadName`, `BadHandle`, `BadNumber`. It has the number `row`.
+pub fn row_of(row: u64, parts: Parts<'_>) -> Result<LogRow<'_>, RowFault>
     ensures row { Gives row_shown result (row_of row (parts_shown parts.entry)) }
     ensures named { IfOk result (λ row. is_name row.region.now ≡ true) }
 {

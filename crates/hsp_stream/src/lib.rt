@@ -32,6 +32,7 @@ pub use fault_text::{push_fault_words, stream_fault_line, stream_status};
 pub use given::StreamSums;
 pub use kinds::kinds_run;
 pub use kinds_files::KindsInputs;
+pub use kinds_log::{CountForm, LogRow, Parts, form_of, parts_in, row_of};
 pub use places::places_run;
 pub use portions::PortionWords;
 pub use row_check::{count_fault, handle_fault, is_count_header, is_handle_header};

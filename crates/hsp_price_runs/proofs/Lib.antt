@@ -1,0 +1,5 @@
+mod RowsTaken
+mod LogReading
+mod Judged
+mod RowsSpelled
+mod Shown

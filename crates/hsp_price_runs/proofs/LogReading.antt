@@ -1,0 +1,140 @@
+-- The records of a log, as a check passes over their rows.
+use Rattle.std.proofs.Common.{◌≡◌, ◌∙◌, ◌+◌, ℕ, true, false, List, [], ◌∷◌, ◌++◌, Option, Result, Ok, Err}
+use Rattle.std.proofs.Common.{IfSome, append_assoc, append-nil, refl, ap, subst, sym}
+use Rattle.csv.specs.declared.reader.Reader.{Reader}
+use Rattle.hsp_csv.specs.Records.{Fields, IsKnown, TakesRecord, records_left, records_of}
+use Rattle.hsp_text.specs.Answers.{◌>>=◌}
+use Rattle.hsp_instance.specs.Instance.{Row}
+use Rattle.hsp_kinds.specs.Rows.{Service}
+use Rattle.hsp_price_text.specs.declared.certificate.PriceCertificate.{PriceCertificate}
+use Rattle.hsp_price_check.specs.Checking.{IsPassed}
+use Rattle.hsp_price_check.specs.declared.checking.PriceCheck.{PriceCheck}
+use Rattle.hsp_stream.specs.KindsLog.{OfLeft, OfLog, form_of}
+use Rattle.hsp_stream.specs.declared.fault.RowFault.TheVariants.{Header}
+use Rattle.hsp_stream.specs.declared.fault.StreamFault.{StreamFault}
+use Rattle.hsp_stream.specs.declared.fault.StreamFault.TheVariants.{Log}
+use Rattle.hsp_stream.specs.declared.kinds_log.CountForm.{CountForm}
+use Rattle.hsp_stream.proofs.KindsReading.{at_start}
+use Rattle.hsp_price_runs.specs.LogRows.{log_rows, rows_with, with_record}
+use Rattle.hsp_price_runs.specs.Passing.{IsOver, PassesRecord, PassesRows}
+use Rattle.hsp_price_runs.proofs.RowsTaken.{read_record, record_more, row_taken}
+
+-- ---- the rows
+
+module _ (form : CountForm) (fresh : PriceCheck) where
+  -- some records were read, and the check passed over their rows
+  pub record PassedSoFar {R : Type 0} (remaining : R → Option (List ℕ)) (first now : Reader R) (n : ℕ)
+      (check : PriceCheck) : Type 0 where
+    pub done : List Fields
+    pub left : IsKnown remaining first → (records_left remaining first ≡ done ++ records_left remaining now)
+        × IsKnown remaining now
+    pub rows : List Row
+    pub are : (more : List Fields) → rows_with form n rows more ≡ rows_with form 0 [] (done ++ more)
+    pub passes : (at : Service) (certificate : PriceCertificate) → IsPassed at certificate [] fresh
+        → IsPassed at certificate rows check
+
+  -- nothing was read yet
+  pub none_passed : {R : Type 0} (remaining : R → Option (List ℕ)) (first : Reader R)
+      → PassedSoFar remaining first first 0 fresh
+  none_passed remaining first = record {
+    done = [];
+    left = λ known. (refl, known);
+    rows = [];
+    are = λ more. refl;
+    passes = λ at certificate is. is;
+  }
+
+  module _ {R : Type 0} (remaining : R → Option (List ℕ)) (first now next : Reader R) (n : ℕ) (check : PriceCheck)
+      (fields : Fields) (so_far : PassedSoFar remaining first now n check) where
+    -- the records that are left are fewer by the one that was read
+    left_more : TakesRecord remaining now next true fields → IsKnown remaining first
+        → (records_left remaining first ≡ so_far.done ++ fields ∷ records_left remaining next) × IsKnown remaining next
+    left_more takes known =
+        let before = so_far.left known in
+        let after = takes before.1 in
+        (before.0 ∙ ap (λ l. so_far.done ++ l) after.0, after.1)
+
+    -- the check is over the rows so far
+    pub over_rows : IsOver [] fresh → IsOver so_far.rows check
+    over_rows (at, certificate, is) = (at, certificate, so_far.passes at certificate is)
+
+    -- a record more is read, and its row passed over
+    pub one_passed : (passed : PriceCheck) → IsOver [] fresh → TakesRecord remaining now next true fields
+        → PassesRecord form n fields check passed → PassedSoFar remaining first next (n + 1) passed
+    one_passed passed (at, certificate, is) takes read =
+        let all = so_far.rows ++ read.row ∷ [] in
+        let over = read.passes at certificate so_far.rows (so_far.passes at certificate is) in
+        let taken : with_record form n so_far.rows fields ≡ Ok (so_far.rows ++ read.row ∷ []) =
+        read_record form n fields so_far.rows read.row read.spelled
+        ∙ row_taken n so_far.rows read.row over.few_regions in
+        record {
+          done = so_far.done ++ fields ∷ [];
+          left = λ known.
+              let after = left_more takes known in
+              (after.0 ∙ sym (append_assoc so_far.done (fields ∷ []) (records_left remaining next)), after.1);
+          rows = so_far.rows ++ read.row ∷ [];
+          are = λ more.
+              sym (record_more form n fields so_far.rows all more taken) ∙ so_far.are (fields ∷ more)
+              ∙ ap (λ l. rows_with form 0 [] l) (sym (append_assoc so_far.done (fields ∷ []) more));
+          passes = λ own claim fits. read.passes own claim so_far.rows (so_far.passes own claim fits);
+        }
+
+    -- a record more is read, which has a fault
+    pub one_bad : (e : StreamFault) → TakesRecord remaining now next true fields
+        → with_record form n so_far.rows fields ≡ Err e
+        → OfLeft remaining first (λ records. rows_with form 0 [] records ≡ Err e)
+    one_bad e takes is = (
+      so_far.done ++ fields ∷ records_left remaining next,
+      λ known. sym (left_more takes known).0,
+      sym (so_far.are (fields ∷ records_left remaining next))
+          ∙ ap
+          (λ (r : Result (List Row) StreamFault). r >>= λ after.
+          rows_with form (n + 1) after (records_left remaining next)) is,
+    )
+
+    -- all records were read
+    pub all_passed : TakesRecord remaining now next false fields
+        → OfLeft remaining first (λ records. PassesRows (rows_with form 0 [] records) fresh check)
+    all_passed ends = (
+      so_far.done,
+      λ known.
+          let before = so_far.left known in
+          sym (before.0 ∙ ap (λ l. so_far.done ++ l) (ends before.1) ∙ append-nil so_far.done),
+      record {
+        rows = so_far.rows;
+        are = ap (λ l. rows_with form 0 [] l) (sym (append-nil so_far.done)) ∙ sym (so_far.are []);
+        passes = so_far.passes;
+      },
+    )
+
+-- ---- the log
+
+module _ {R : Type 0} (remaining : R → Option (List ℕ)) (log : Option (List ℕ)) (reader : Reader R)
+    (known : IfSome log (λ octets. IsKnown remaining reader))
+    (are : IfSome log (λ octets. records_left remaining reader ≡ records_of octets)) where
+  -- there is no record
+  pub no_header : (next : Reader R) (fields : Fields) → TakesRecord remaining reader next false fields
+      → OfLog log (λ records. log_rows records ≡ Err (Log Header))
+  no_header next fields ends = ([], at_start remaining log reader [] known are (λ k. sym (ends k)), refl)
+
+  -- the first record is no header
+  pub bad_header : (next : Reader R) (fields : Fields) (e : StreamFault)
+      → TakesRecord remaining reader next true fields → form_of fields ≡ Err e
+      → OfLog log (λ records. log_rows records ≡ Err e)
+  bad_header next fields e takes is = (
+    fields ∷ records_left remaining next,
+    at_start remaining log reader (fields ∷ records_left remaining next) known are (λ k. sym (takes k).0),
+    ap
+        (λ (r : Result CountForm StreamFault). r >>= λ form. rows_with form 0 [] (records_left remaining next)) is,
+  )
+
+  -- what holds of the rows behind a header holds of the log's
+  pub behind_header : (P : Result (List Row) StreamFault → Type 0) (next : Reader R) (fields : Fields)
+      (form : CountForm) → TakesRecord remaining reader next true fields → form_of fields ≡ Ok form
+      → OfLeft remaining next (λ records. P (rows_with form 0 [] records)) → OfLog log (λ records. P (log_rows records))
+  behind_header P next fields form takes is (records, left, holds) = (
+    fields ∷ records,
+    at_start remaining log reader (fields ∷ records) known are (λ k. let after = takes k in
+        ap (λ l. fields ∷ l) (left after.1) ∙ sym after.0),
+    subst P (sym (ap (λ (r : Result CountForm StreamFault). r >>= λ own. rows_with own 0 [] records) is)) holds,
+  )

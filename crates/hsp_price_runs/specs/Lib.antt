@@ -1,0 +1,5 @@
+pub mod LogRows
+pub mod Passing
+pub mod PriceRun
+pub mod PricesShown
+pub mod PriceVerdictText

@@ -1,0 +1,123 @@
+// The pass of a check by prices over the rows of a log.
+
+ghost use Rattle.std.specs.Prelude.{◌≡◌, ◌⊎◌, Err, IfErr, List, OnOk, []};
+ghost use Rattle.csv.specs.Records.{fields_of};
+ghost use Rattle.hsp_csv.specs.Records.{IsReading};
+ghost use Rattle.hsp_instance.specs.Instance.{Row};
+ghost use Rattle.hsp_stream.specs.KindsLog.{IsReadFault, OfLeft, OfLog};
+ghost use Rattle.hsp_stream.specs.KindsShown.{row_shown};
+ghost use Rattle.hsp_stream.specs.declared.fault.StreamFault.TheVariants.{OutOfMemory};
+ghost use Rattle.hsp_price_runs.specs.LogRows.{log_rows, rows_with, with_record, with_row};
+ghost use Rattle.hsp_price_runs.specs.Passing.{IsOver, Passes, PassesRecord, PassesRows, fault_of_pass};
+
+use csv::{ByteRecord, Reader};
+use hsp_csv::{read_records, take_record};
+use hsp_price_check::{PassFault, PriceCheck};
+use hsp_stream::{CountForm, LogRow, RowFault, StreamFault, form_of, parts_in, row_of};
+use std::alloc::Global;
+use std::io::Read;
+
+// The fault of a row that can't be passed over.
+fn fault_of_pass(row: u64, fault: PassFault) -> StreamFault
+    ensures { result ≡ fault_of_pass row fault }
+{
+    match fault {
+        PassFault::TooManyRegions => StreamFault::Log(RowFault::TooManyRegions { row }),
+        PassFault::OutOfMemory => StreamFault::OutOfMemory,
+    }
+}
+
+// Passes over a row, or reports that its region is one too many.
+fn pass_row(
+    alloc: Global,
+    check: &mut PriceCheck<'_>,
+    row: u64,
+    read: LogRow<'_>,
+) -> Result<(), StreamFault>
+    requires { (rows : List Row) × IsOver rows check.old }
+    ensures passed { OnOk result (Passes (row_shown read.entry) check.old check.new) }
+    ensures fault { IfErr result (λ fault. (fault ≡ OutOfMemory)
+        ⊎ ((rows : List Row) → IsOver rows check.old
+        → with_row row rows (row_shown read.entry) ≡ Err fault)) }
+{
+    match check.add(alloc, read.region, read.handle, read.count) {
+        Ok(()) => Ok(()),
+        Err(fault) => Err(fault_of_pass(row, fault)),
+    }
+}
+
+// Passes over the row that a record spells, or reports its first fault.
+fn pass_record(
+    alloc: Global,
+    check: &mut PriceCheck<'_>,
+    row: u64,
+    record: &ByteRecord,
+    form: CountForm,
+) -> Result<(), StreamFault>
+    requires { (rows : List Row) × IsOver rows check.old }
+    ensures passed { OnOk result
+        (PassesRecord form row (fields_of «record».now) check.old check.new) }
+    ensures fault { IfErr result (λ fault. (fault ≡ OutOfMemory)
+        ⊎ ((rows : List Row) → IsOver rows check.old
+        → with_record form row rows (fields_of «record».now) ≡ Err fault)) }
+{
+    let Some(parts) = parts_in(record, form) else {
+        return Err(StreamFault::Log(RowFault::Fields { row }));
+    };
+    match row_of(row, parts) {
+        Ok(read) => pass_row(alloc, check, row, read),
+        Err(fault) => Err(StreamFault::Log(fault)),
+    }
+}
+
+// Passes over each row behind the header.
+fn pass_rows<R: Read>(
+    alloc: Global,
+    check: &mut PriceCheck<'_>,
+    reader: &mut Reader<R>,
+    record: &mut ByteRecord,
+    form: CountForm,
+) -> Result<(), StreamFault>
+    requires reading { IsReading reader.old }
+    requires fresh { IsOver [] check.old }
+    ensures passed { OnOk result (OfLeft R.remaining reader.old
+        (λ records. PassesRows (rows_with form 0 [] records) check.old check.new)) }
+    ensures fault { IfErr result (λ fault. IsReadFault fault ⊎ OfLeft R.remaining reader.old
+        (λ records. rows_with form 0 [] records ≡ Err fault)) }
+{
+    let mut row: u64 = 0;
+    'rows: loop {
+        if !take_record(reader, record)? {
+            return Ok(());
+        }
+        if row == u64::MAX {
+            return Err(StreamFault::Log(RowFault::ReadFailed));
+        }
+        pass_record(alloc, check, row, record, form)?;
+        row += 1;
+    }
+}
+
+/// Passes over each row of the log that the reader gives. The check has passed over no row yet.
+///
+/// The log is read as `kinds` reads it. Faults in this order: `ReadFailed`, `Header`; then row by row `ReadFailed`,
+/// `Fields`, `BadName`, `BadHandle`, `BadNumber`, `TooManyRegions`. A log of 2^64 - 1 rows or more ends as `ReadFailed`.
+pub(crate) fn pass_log<R: Read + Drop>(
+    alloc: Global,
+    check: &mut PriceCheck<'_>,
+    log: R,
+) -> Result<(), StreamFault>
+    requires { IsOver [] check.old }
+    ensures passed { OnOk result (OfLog (R.remaining log)
+        (λ records. PassesRows (log_rows records) check.old check.new)) }
+    ensures fault { IfErr result (λ fault. IsReadFault fault ⊎ OfLog (R.remaining log)
+        (λ records. log_rows records ≡ Err fault)) }
+{
+    let mut reader = read_records(alloc, log);
+    let mut record = ByteRecord::new(alloc);
+    if !take_record(&mut reader, &mut record)? {
+        return Err(StreamFault::Log(RowFault::Header));
+    }
+    let form = form_of(&record)?;
+    pass_rows(alloc, check, &mut reader, &mut record, form)
+}
