@@ -44,7 +44,7 @@ ANSWER = f"answer {INPUTS} --plan plan.txt --log /dev/stdin"
 LIMIT_KB = 64 * 1024
 HELP_BEGINS = "hsplan-stream: tables, places and answers for logs of any length\n"
 
-COMMANDS = ("kinds", "places", "answer", "faults")
+COMMANDS = ("kinds", "places", "answer", "check", "faults")
 
 Ended = tuple[bytes, bytes, int]
 
