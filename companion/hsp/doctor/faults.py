@@ -251,8 +251,11 @@ def _without_faulty(question: Question, table: str, result: Diagnosis) -> Questi
 
 
 def without_answers(question: Question) -> Question:
-    """Only the planning of a question: of a command whose plan or log can't be read, the inputs still can."""
-    if question.command not in ("check", "dispatch", "report", "answer", "plan"):
+    """Only the planning of a question: of a command whose plan or log can't be read, the inputs still can.
+
+    A check by prices has no demand, and reads its other inputs first.
+    """
+    if question.command not in ("check", "dispatch", "report", "answer", "plan") or "demand" not in question.files:
         return question
     files = {role: draft for role, draft in question.files.items() if role not in ("plan", "log", "file")}
     if "values" in question.absent:
