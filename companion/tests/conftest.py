@@ -5,6 +5,7 @@ The programs are those of HSPLAN and HSPLAN_STREAM, or those that are built here
 
 from __future__ import annotations
 
+import contextlib
 import os
 import shutil
 import subprocess
@@ -30,6 +31,23 @@ def variables(**more: str) -> dict[str, str]:
     """Those of a process that runs hsp from here."""
     paths = [str(TOP / "companion"), os.environ.get("PYTHONPATH", "")]
     return {**os.environ, "PYTHONPATH": os.pathsep.join(filter(None, paths)), **more}
+
+
+def children(process: int) -> list[int]:
+    """The processes that a process has started, as the kernel lists them for each of its threads."""
+    found: list[int] = []
+    with contextlib.suppress(OSError):
+        for thread in os.listdir(f"/proc/{process}/task"):
+            found += map(int, Path(f"/proc/{process}/task/{thread}/children").read_text().split())
+    return found
+
+
+def named(process: int, word: str) -> bool:
+    """Whether a word stands in the command of a process."""
+    try:
+        return word in Path(f"/proc/{process}/cmdline").read_text()
+    except OSError:
+        return False
 
 
 @pytest.fixture(autouse=True, scope="session")

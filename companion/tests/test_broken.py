@@ -14,7 +14,7 @@ from hsp.cli import main
 
 from conftest import TOP, variables
 
-FOLDERS = 300
+FOLDERS = 150
 FILES = ("settings.toml", "demand.csv", "costs.csv", "capacity.csv")
 ODD = ("", "\x00", "-1", "é", "\ufeff", '"', "\r\n", "99999999999999", "[[", "=", "/", "\t", "<script>", "\udcff")
 

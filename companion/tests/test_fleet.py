@@ -7,7 +7,6 @@ import contextlib
 import csv
 import errno
 import gzip
-import json
 import lzma
 import os
 import random
@@ -30,7 +29,9 @@ from hsp.fleet.split import Parted
 from hsp.intake.forms import Form
 from hsp.intake.times import Span
 
-from conftest import TOP, WITH_SIGNALS, Hsp, variables
+import clusters
+from clusters import Cluster
+from conftest import TOP, WITH_SIGNALS, Hsp, children, named, variables
 from test_demand import Asked, asked, regions_file, server_line, service
 from test_sites import invoke
 
@@ -56,18 +57,6 @@ def ended(run: "subprocess.Popen[str]", status: int) -> str:
 
 def fleet(*words: object, status: int = 0) -> str:
     return ended(started(*words), status)
-
-
-def children(process: int) -> list[int]:
-    done = subprocess.run(["pgrep", "-P", str(process)], capture_output=True, text=True)
-    return [int(it) for it in done.stdout.split()]
-
-
-def named(process: int, word: str) -> bool:
-    try:
-        return word in Path(f"/proc/{process}/cmdline").read_text()
-    except OSError:
-        return False
 
 
 def at_work(run: "subprocess.Popen[str]") -> int:
@@ -149,6 +138,14 @@ def million(twelve: Path, hsp: Hsp) -> Million:
     return Million(twelve, done.stdout, [b"".join(it) for it in of_front])
 
 
+@pytest.fixture(scope="module")
+def worker(tmp_path_factory: pytest.TempPathFactory) -> Iterator[list[str]]:
+    """The options for a cluster of one worker. It serves the tests that ask only what a run comes to, one by one."""
+    with clusters.running(tmp_path_factory.mktemp("cluster"), []) as found:
+        found.worker("own", os.environ["PATH"])
+        yield ["--scheduler", found.address]
+
+
 def test_a_worker_is_killed_while_a_million_rows_are_answered(million: Million, tmp_path: Path) -> None:
     logs = million.all_written(tmp_path)
     run = started("dispatch", million.folder, "--fronts", FRONTS, "--workers", 4, *logs)
@@ -183,7 +180,7 @@ def test_a_log_of_all_fronts_is_answered_as_by_one_run(million: Million, tmp_pat
     assert sorted(it.name for it in tmp_path.iterdir()) == ["events.csv", "events.csv.answers"]
 
 
-def test_several_logs_of_a_front_are_one_log_also_packed(million: Million, tmp_path: Path) -> None:
+def test_several_logs_of_a_front_are_one_log_also_packed(million: Million, tmp_path: Path, worker: list[str]) -> None:
     whole = million.written(tmp_path, 5).read_bytes().split(b"\n")[1:-1]
     first, second = whole[:1000], whole[1000:]
     header = b"region,handle\r\n"
@@ -191,14 +188,14 @@ def test_several_logs_of_a_front_are_one_log_also_packed(million: Million, tmp_p
     (tmp_path / "b.csv").write_bytes(b"region,handle\n\n" + b"\n".join(second))
     (tmp_path / "none.csv").write_bytes(b"region,handle\n")
     named = [f"5={tmp_path / it}" for it in ("a.gz", "b.csv")] + [f"6={tmp_path / 'none.csv'}"]
-    fleet("dispatch", million.folder, "--fronts", FRONTS, "--workers", 1, *named)
+    fleet("dispatch", million.folder, "--fronts", FRONTS, *worker, *named)
     answers = million.of_front[5].splitlines(keepends=True)
     assert (tmp_path / "a.gz.answers").read_bytes() == b"".join(answers[:1000])
     assert (tmp_path / "b.csv.answers").read_bytes() == b"".join(answers[1000:])
     assert (tmp_path / "none.csv.answers").read_bytes() == b""
 
 
-def test_any_handle_is_answered_by_the_other_program(million: Million, tmp_path: Path) -> None:
+def test_any_handle_is_answered_by_the_other_program(million: Million, tmp_path: Path, worker: list[str]) -> None:
     wanted = {}
     logs = [million.written(tmp_path, at) for at in range(2)]
     for at, log in enumerate(logs):
@@ -207,7 +204,7 @@ def test_any_handle_is_answered_by_the_other_program(million: Million, tmp_path:
         done = subprocess.run([*words, "--fronts", "2", "--front", str(at)], capture_output=True, check=True)
         wanted[f"{log}.answers"] = done.stdout
     named = [f"{at}={log}" for at, log in enumerate(logs)]
-    said = fleet("dispatch", million.folder, "--fronts", 2, "--workers", 1, "--any-handle", *named)
+    said = fleet("dispatch", million.folder, "--fronts", 2, *worker, "--any-handle", *named)
     assert " 2 refused; " in said
     assert all(Path(path).read_bytes() == answers for path, answers in wanted.items())
 
@@ -227,19 +224,19 @@ def test_a_bad_row_in_the_third_file_ends_the_run_with_its_line(million: Million
 
 @pytest.mark.parametrize("rows", [[b'1,"eu",20.1/a', b"0,eu,20.1/a"], [b"9,eu,20.1/a", b"1,eu,20.1/a"]])
 def test_rows_that_cannot_be_parted_are_answered_by_one_run(
-    million: Million, tmp_path: Path, rows: list[bytes]
+    million: Million, tmp_path: Path, rows: list[bytes], worker: list[str]
 ) -> None:
     log = tmp_path / "odd.csv"
     log.write_bytes(b"front,region,handle\n" + b"\n".join(rows) + b"\n")
     wanted = one_run(million.folder, log, 2)
-    fleet("dispatch", million.folder, "--fronts", 2, "--workers", 1, log)
+    fleet("dispatch", million.folder, "--fronts", 2, *worker, log)
     assert wanted.returncode == 0 and (tmp_path / "odd.csv.answers").read_bytes() == wanted.stdout
 
 
-def test_a_bad_row_of_all_fronts_is_the_first_of_the_log(million: Million, tmp_path: Path) -> None:
+def test_a_bad_row_of_all_fronts_is_the_first_of_the_log(million: Million, tmp_path: Path, worker: list[str]) -> None:
     log = tmp_path / "bad.csv"
     log.write_bytes(b"front,region,handle\n0,eu,20.1/a\n\n1,eu,20.1/b\n1,eu,none\n0,eu,none\n")
-    said = fleet("dispatch", million.folder, "--fronts", 2, "--workers", 1, log, status=1)
+    said = fleet("dispatch", million.folder, "--fronts", 2, *worker, log, status=1)
     assert one_run(million.folder, log, 2).stderr == b"hsplan: log: BadHandle row 2\n"
     assert said == f"hsp: {log}: line 5: BadHandle\n"
 
@@ -340,20 +337,20 @@ def test_a_worker_is_killed_while_logs_are_counted(logs: Logs, tmp_path: Path) -
     assert (tmp_path / "4.log.rows").read_bytes() == b"region,handle\n"
 
 
-def test_what_is_counted_is_planned_and_answered(logs: Logs, tmp_path: Path, hsp: Hsp) -> None:
+def test_what_is_counted_is_planned_and_answered(logs: Logs, tmp_path: Path, hsp: Hsp, worker: list[str]) -> None:
     folder, paths = tmp_path / "service", logs.paths[2:4]
-    fleet("demand", *paths, *logs.options, "--workers", 1, "--keep", ".csv")
+    fleet("demand", *paths, *logs.options, *worker, "--keep", ".csv")
     capacity = (folder / "capacity.csv").read_text().replace("1000000000", "500000000")
     (folder / "capacity.csv").write_text(capacity)
     hsp("plan", str(folder))
-    options = ["--fronts", 1, "--any-handle", "--unit", 2, "--workers", 1]
+    options = ["--fronts", 1, "--any-handle", "--unit", 2, *worker]
     said = fleet("dispatch", folder, *options, *(f"0={it}.csv" for it in paths))
     rows = sum(it.read_bytes().count(b"\n") for it in paths)
     answers = b"".join((tmp_path / f"{it.name}.csv.answers").read_bytes() for it in paths)
     assert said.startswith(f"{rows:,} rows: {rows:,} assigned; ") and answers.count(b"assigned ") == rows
 
 
-def test_few_pairs_have_the_table_of_one_run(tmp_path: Path) -> None:
+def test_few_pairs_have_the_table_of_one_run(tmp_path: Path, worker: list[str]) -> None:
     paths = []
     for number in range(3):
         lines = [server_line(it) for it in asked(500, 80 + number)] + ["nonsense"] * number
@@ -361,17 +358,17 @@ def test_few_pairs_have_the_table_of_one_run(tmp_path: Path) -> None:
         paths[-1].write_text("\n".join(lines))
     options = ["--regions", regions_file(tmp_path)]
     one = invoke("demand", *paths, "--regions", options[1])
-    run = started("demand", *paths, *options, "--workers", 1)
+    run = started("demand", *paths, *options, *worker)
     out, said = run.communicate(timeout=60)
     assert (out, said) == (one.stdout, one.stderr) and "  3  not a line of this form; first " in said
 
 
-def test_a_log_of_no_form_ends_the_count_and_is_named(tmp_path: Path) -> None:
+def test_a_log_of_no_form_ends_the_count_and_is_named(tmp_path: Path, worker: list[str]) -> None:
     good, bad, empty = (tmp_path / it for it in ("good.log", "bad.log", "empty.log"))
     good.write_text("".join(f"{server_line(it)}\n" for it in asked(100, 90)))
     bad.write_text("what is this\n")
     empty.write_text("")
-    options = ["--regions", regions_file(tmp_path), "--workers", 1, "-o", tmp_path / "t.csv"]
+    options = ["--regions", regions_file(tmp_path), *worker, "-o", tmp_path / "t.csv"]
     said = fleet("demand", good, bad, *options, status=1)
     assert said.startswith(f"hsp: {bad}: line 1: a log of no known form; ") and said.count("\n") == 1
     said = fleet("demand", empty, *options, status=1)
@@ -415,7 +412,9 @@ def test_a_machine_by_itself_listens_on_the_loopback_address_only(million: Milli
 
 
 @pytest.mark.parametrize("damage", ["gzip", "xz", "xz inside", "bzip2"])
-def test_a_damaged_log_is_named_and_not_tried_again(million: Million, tmp_path: Path, damage: str) -> None:
+def test_a_damaged_log_is_named_and_not_tried_again(
+    million: Million, tmp_path: Path, damage: str, worker: list[str]
+) -> None:
     pack = {"gzip": gzip.compress, "bzip2": bz2.compress}.get(damage, lzma.compress)
     for name, header, begin in (("front", b"region,handle\n", b""), ("all", b"front,region,handle\n", b"0,")):
         octets = pack(header + b"".join(b"%beu,20.500.1/%d\n" % (begin, it) for it in range(50_000)))
@@ -425,7 +424,7 @@ def test_a_damaged_log_is_named_and_not_tried_again(million: Million, tmp_path: 
     wanted = rf"{tmp_path}/{{}}: line \d+: it can't be unpacked further: .+"
     for name, word in {"gzip": ("front", f"0={tmp_path}/front"), "xz": ("all", f"{tmp_path}/all")}.items():
         if name == damage:
-            said = fleet("dispatch", million.folder, "--workers", 1, "--fronts", FRONTS, word[1], status=1)
+            said = fleet("dispatch", million.folder, *worker, "--fronts", FRONTS, word[1], status=1)
             assert re.fullmatch(f"hsp: {wanted.format(word[0])}\n", said), said
     assert sorted(it.name for it in tmp_path.iterdir()) == ["all", "front"]
     (tmp_path / "parts").mkdir()
@@ -490,21 +489,13 @@ def small_disk(tmp_path: Path) -> Iterator[Path]:
     subprocess.run(["umount", str(disk)], check=True)
 
 
-def test_a_full_disk_is_one_line(million: Million, tmp_path: Path, small_disk: Path) -> None:
+def test_a_full_disk_is_one_line(million: Million, tmp_path: Path, small_disk: Path, worker: list[str]) -> None:
     log = million.written(tmp_path, 0)
     own = small_disk / "front-0.csv"
     own.symlink_to(log)
-    said = fleet("dispatch", million.folder, "--fronts", FRONTS, "--workers", 1, f"0={own}", status=5)
+    said = fleet("dispatch", million.folder, "--fronts", FRONTS, *worker, f"0={own}", status=5)
     assert said.count("\n") == 1 and str(own) in said
     assert [it.name for it in small_disk.iterdir()] == ["front-0.csv"]
-
-
-class Cluster(NamedTuple):
-    """A scheduler, and what starts a worker with another PATH."""
-
-    address: str
-    scheduler: int
-    worker: Callable[[str, str], None]
 
 
 def keys_by_recipe(folder: Path) -> list[str]:
@@ -517,33 +508,9 @@ def keys_by_recipe(folder: Path) -> list[str]:
 
 @pytest.fixture
 def cluster(tmp_path: Path, request: pytest.FixtureRequest) -> Iterator[Cluster]:
-    running = []
     keys = keys_by_recipe(tmp_path) if getattr(request, "param", "") == "tls" else []
-
-    def start(module: str, path: str, *words: str) -> None:
-        command = [sys.executable, "-m", f"distributed.cli.{module}", *words, *keys]
-        with open(tmp_path / f"{module}.log", "ab") as log:
-            streams = {"stdin": subprocess.DEVNULL, "stdout": log, "stderr": log}
-            running.append(
-                subprocess.Popen(command, env={**os.environ, "PATH": path}, cwd=tmp_path, **streams)  # type: ignore[call-overload]
-            )
-
-    def worker(name: str, path: str) -> None:
-        words = ("--no-nanny", "--nthreads", "1", "--no-dashboard", "--name", name)
-        start("dask_worker", path, address, "--host", "127.0.0.1", *words, "--local-directory", str(tmp_path / name))
-
-    file = tmp_path / "scheduler.json"
-    where = ("--host", "127.0.0.1", "--port", "0", "--dashboard-address", "127.0.0.1:0")
-    start("dask_scheduler", os.environ["PATH"], "--scheduler-file", str(file), "--no-show", *where)
-    until = time.monotonic() + 60
-    while not (file.exists() and file.read_text().endswith("}")) and time.monotonic() < until:
-        time.sleep(0.02)
-    address = str(json.loads(file.read_text())["address"])
-    yield Cluster(address, running[0].pid, worker)
-    for it in running:
-        it.kill()
-    for it in running:
-        it.wait()
+    with clusters.running(tmp_path, keys) as found:
+        yield found
 
 
 def test_a_worker_whose_program_has_one_octet_more_gets_no_part(
@@ -696,10 +663,10 @@ def test_gnu_parallel_answers_the_same(million: Million, tmp_path: Path) -> None
     assert million.are_answered(tmp_path)
 
 
-def test_progress_is_shown_on_a_terminal(million: Million, tmp_path: Path) -> None:
+def test_progress_is_shown_on_a_terminal(million: Million, tmp_path: Path, worker: list[str]) -> None:
     log = million.written(tmp_path, 0)
     own, its = os.openpty()
-    run = started("dispatch", million.folder, "--fronts", FRONTS, "--workers", 1, f"0={log}", stderr=its)
+    run = started("dispatch", million.folder, "--fronts", FRONTS, *worker, f"0={log}", stderr=its)
     out, _ = run.communicate(timeout=60)
     os.close(its)
     shown = os.read(own, 1 << 16).decode()

@@ -19,9 +19,11 @@ from hsp.plans.page import changes_between
 from hsp.plans.service import read_service
 
 from conftest import Hsp
+from test_fleet import worker
 from test_sites import invoke
 from test_units import random_service, rows
 
+assert worker  # a fixture, which is found by its name here too
 JOINED = Mark(KINDS, 1000, ("access.log", 'odd "name"\\.log'), 109_614, 36_419)
 BLOCK = r"""[demand]  # written by hsp demand
 rows = "kinds"  # a row stands for all handles of its region with the same servers
@@ -241,19 +243,19 @@ def test_capacities_in_queries_beside_a_demand_in_units(hsp: Hsp, tmp_path: Path
     ]
 
 
-def test_fleet_marks_what_it_joins_and_answers_by_it(hsp: Hsp, tmp_path: Path) -> None:
+def test_fleet_marks_what_it_joins_and_answers_by_it(hsp: Hsp, tmp_path: Path, worker: list[str]) -> None:
     """Without --unit a front is answered in the unit of the demand. Without --any-handle a line says what to do."""
     folder = service(tmp_path)
     log, kept = tmp_path / "log-3.csv", tmp_path / "log-3.csv.kept"
-    words = ["--regions", str(tmp_path / "networks.csv"), "--into", str(folder), "--workers", "1"]
+    words = ["--regions", str(tmp_path / "networks.csv"), "--into", str(folder), *worker]
     hsp("fleet", "demand", str(log), *words, "--unit", "10", "--keep", ".kept")
     own = mark_in(str(folder))
     assert (own.rows, own.unit, own.queries) == (KINDS, 10, 20_000)
     hsp("plan", str(folder))
     front = ["--fronts", "1", f"0={kept}"]
-    said = hsp("fleet", "dispatch", str(folder), *front, "--any-handle", "--workers", "1")
+    said = hsp("fleet", "dispatch", str(folder), *front, "--any-handle", *worker)
     assert said.stdout.startswith("20,000 rows: 20,000 assigned; ") and said.stderr == ""
-    said = hsp("fleet", "dispatch", str(folder), *front, "--workers", "1")
+    said = hsp("fleet", "dispatch", str(folder), *front, *worker)
     assert said.stderr.endswith(
         "hsplan-stream answer goes by kinds: " f"hsp fleet dispatch {folder} --fronts 1 --any-handle 0={kept}\n"
     )

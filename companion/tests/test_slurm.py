@@ -18,6 +18,10 @@ from test_fleet import DOCUMENT, FRONTS, Million, million
 assert million  # a fixture, which is found by its name here too
 
 PROGRAMS = ("sbatch", "squeue", "slurmctld", "slurmd", "munged")
+# Before any fixture is made.
+pytestmark = pytest.mark.skipif(
+    os.geteuid() != 0 or not all(map(shutil.which, PROGRAMS)), reason="no Slurm is here, or it can't be started"
+)
 CONFIGURATION = """\
 ClusterName=test
 SlurmctldHost={host}(127.0.0.1)
@@ -71,8 +75,6 @@ def daemons(folder: Path) -> list[list[str]]:
 @pytest.fixture
 def slurm(tmp_path: Path) -> Iterator[dict[str, str]]:
     """The environment in which Slurm's commands reach a Slurm of this test's own."""
-    if os.geteuid() or not all(map(shutil.which, PROGRAMS)):
-        pytest.skip("no Slurm is here, or it can't be started")
     folder = tmp_path / "slurm"
     folder.mkdir()
     environment = {**os.environ, "SLURM_CONF": str(folder / "slurm.conf")}

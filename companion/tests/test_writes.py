@@ -20,7 +20,7 @@ from hsp.base import files, signals
 from hsp.base.programs import Missing, Programs
 from hsp.base.unfit import Unfit
 
-from conftest import WITH_SIGNALS, variables
+from conftest import WITH_SIGNALS, children, named, variables
 from test_sites import PARIS, RESTON
 
 Example = Callable[[str], Path]
@@ -180,9 +180,12 @@ def test_a_stopped_command_leaves_nothing(
     slow = str(slow_program(tmp_path, "slow"))
     run = started(*own.get(command, [command, folder]), TMPDIR=str(room), HSPLAN=slow)
     until = time.monotonic() + 20
-    while not list(room.glob("hsp-*/*" if command == "sites" else "hsp-*")) and time.monotonic() < until:
+    while time.monotonic() < until:
+        if list(room.glob("hsp-*")) if command == "demand" else any(named(it, "sleep") for it in children(run.pid)):
+            break
         time.sleep(0.02)
-    time.sleep(0.3)
+    time.sleep(0.3 if command == "demand" else 0)  # it waits for the other end of the pipe
+    assert run.poll() is None and list(room.glob("hsp-*/*" if command == "sites" else "hsp-*"))
     run.send_signal(number)
     _, said = run.communicate(timeout=20)
     assert (run.returncode, said) == (STOPS[number], "hsp: interrupted\n")

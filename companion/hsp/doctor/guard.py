@@ -3,6 +3,7 @@
 from __future__ import annotations
 
 import contextlib
+import gc
 import io
 import os
 import pickle
@@ -49,6 +50,7 @@ def _child(work: Callable[[Show], Any], descriptor: int) -> None:
     """The process that does the work. It ends without what a Python tidies up at its end: the parent does that."""
     status = 1
     try:
+        gc.freeze()  # what is there isn't looked through any more, so both processes share its memory
         os.setpgid(0, 0)
         signal.alarm(int(2 * SECONDS))
         for number in (signal.SIGINT, signal.SIGTERM, signal.SIGHUP):

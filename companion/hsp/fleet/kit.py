@@ -27,10 +27,12 @@ def _modules(folder: Any, name: str) -> Iterator[tuple[str, bytes]]:
 
 
 def _compiled(name: str, source: bytes) -> bytes:
-    """A module as Python keeps it. Workers have the same Python, so a part doesn't compile it once more."""
-    code = compile(source, name, "exec", dont_inherit=True)
+    """A module as Python keeps it, and as it is kept here already where it can be. Workers have the same Python, so a
+    part doesn't compile it once more."""
+    module = name.removesuffix(".py").removesuffix("/__init__").replace("/", ".")
+    spec: Any = importlib.util.find_spec(module)
     head: list[Any] = [importlib.util.MAGIC_NUMBER, UNCHECKED, importlib.util.source_hash(source)]
-    return b"".join([*head, marshal.dumps(code)])
+    return b"".join([*head, marshal.dumps(spec.loader.get_code(module))])
 
 
 def companion() -> bytes:

@@ -18,7 +18,10 @@ from hsp.base.signals import uncut
 
 # Workers that end are started again, but not without end.
 MOST_RESTARTS = 5
+# Nobody looks at what Dask measures of itself all the time.
+QUIET = {"DASK_DISTRIBUTED__WORKER__PROFILE__ENABLED": "False", "DASK_DISTRIBUTED__ADMIN__TICK__INTERVAL": "500ms"}
 SETTINGS = {
+    **QUIET,
     "DASK_DISTRIBUTED__SCHEDULER__ALLOWED_FAILURES": "3",
     "DASK_DISTRIBUTED__SCHEDULER__WORKER_TTL": "60s",
     "DASK_DISTRIBUTED__COMM__TIMEOUTS__CONNECT": "30s",

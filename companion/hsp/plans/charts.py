@@ -2,7 +2,7 @@
 
 from __future__ import annotations
 
-from xml.sax.saxutils import escape
+from html import escape
 
 from hsp.base.numbers import queries_of, signed
 from hsp.base.programs import Missing
@@ -29,7 +29,7 @@ def drawn(service: Service, cases: list[Case], step: float) -> str:
 
 def _svg(height: int, title: str, parts: list[str]) -> str:
     head = f'<svg xmlns="http://www.w3.org/2000/svg" viewBox="0 0 {WIDE} {height}" width="{WIDE}" role="img">'
-    return "\n".join([head, f"<title>{escape(title)}</title>{STYLE}", *parts, "</svg>\n"])
+    return "\n".join([head, f"<title>{escape(title, quote=False)}</title>{STYLE}", *parts, "</svg>\n"])
 
 
 class Axes:
@@ -63,7 +63,9 @@ class Axes:
             x, y = self.x(value), self.HIGH - self.BOTTOM + 20
             parts.append(f'<text class="soft" x="{x}" y="{y}" text-anchor="middle">{value:,}</text>')
         x, y = WIDE - self.RIGHT, self.HIGH - 10
-        return parts + [f'<text class="soft" x="{x}" y="{y}" text-anchor="end">capacity of {escape(what)}</text>']
+        return parts + [
+            f'<text class="soft" x="{x}" y="{y}" text-anchor="end">capacity of {escape(what, quote=False)}</text>'
+        ]
 
 
 def curve(service: Service, cases: list[Case]) -> str:
@@ -74,7 +76,9 @@ def curve(service: Service, cases: list[Case]) -> str:
     what = cases[0].what
     axes = Axes([case.room for case in cases], [cost for _, cost in good])
     unit = f" ({service.titles.cost})" if service.titles.cost else ""
-    parts = [f'<text class="head" x="12" y="22">{escape(f"Cost of the plan{unit} by room at {what}")}</text>']
+    parts = [
+        f'<text class="head" x="12" y="22">{escape(f"Cost of the plan{unit} by room at {what}", quote=False)}</text>'
+    ]
     if len(good) < len(cases):
         left, wide = axes.x(axes.low), round(axes.x(good[0][0]) - axes.x(axes.low), 1)
         height = axes.HIGH - axes.TOP - axes.BOTTOM
@@ -96,7 +100,7 @@ def curve(service: Service, cases: list[Case]) -> str:
 
 def _bar(case: Case, most: int, y: int) -> list[str]:
     name, room = 150, 330
-    parts = [f'<text x="{name - 8}" y="{y + 14}" text-anchor="end">{escape(case.what)}</text>']
+    parts = [f'<text x="{name - 8}" y="{y + 14}" text-anchor="end">{escape(case.what, quote=False)}</text>']
     if case.cost is None:
         return parts + [f'<text class="more" x="{name}" y="{y + 14}">short by {queries_of(case.lack)}</text>']
     change = case.change if case.change is not None else case.cost

@@ -3,13 +3,13 @@ drawn number stands beside it as text."""
 
 from __future__ import annotations
 
-from collections import Counter
 import base64
+import functools
 import hashlib
+from collections import Counter
 from collections.abc import Iterable, Mapping
 from dataclasses import dataclass, field
-
-import jinja2
+from typing import TYPE_CHECKING
 
 from hsp import __version__
 from hsp.base.numbers import average, listed, percent, queries_of, signed, some
@@ -17,6 +17,9 @@ from hsp.base.text import escaped
 from hsp.plans.plans import Gain, Host, Planned, Reference, Shortage, above, above_limits, by_shares
 from hsp.plans.service import Row, Server, Service, dotted
 from hsp.plans.sources import Source, now
+
+if TYPE_CHECKING:
+    import jinja2
 
 # So many rows stand in the page; a script shows the others.
 ROWS_SHOWN = 100
@@ -236,7 +239,11 @@ def hash_of(text: str) -> str:
     return f"sha256-{base64.b64encode(hashlib.sha256(text.encode()).digest()).decode()}"
 
 
+@functools.cache
 def environment() -> jinja2.Environment:
+    """What reads the template. It is loaded only where a page is written, and compiles the template once."""
+    import jinja2
+
     made = jinja2.Environment(
         loader=jinja2.PackageLoader("hsp"),
         autoescape=True,

@@ -3,7 +3,6 @@ hsplan, or a sum of its uses that is compared with its reports."""
 
 from __future__ import annotations
 
-import concurrent.futures
 import os
 from collections import Counter
 from collections.abc import Callable, Iterable, Sequence
@@ -186,10 +185,12 @@ def _gain(programs: Programs, plan: Planned, server: Server) -> Gain:
 
 def with_gains(plan: Planned, programs: Programs, done: Callable[[], None] = lambda: None) -> Planned:
     """The plan with what room saves at its full servers. A price only bounds that, so each is planned."""
+    from concurrent.futures import ThreadPoolExecutor  # loaded only here, as it takes others with it
+
     priced = [server for server in plan.service.servers if plan.prices[server.number] > 0 and plan.is_full(server)]
     priced.sort(key=lambda server: -plan.prices[server.number])
     found = []
-    with concurrent.futures.ThreadPoolExecutor(min(4, os.cpu_count() or 1)) as pool:
+    with ThreadPoolExecutor(min(4, os.cpu_count() or 1)) as pool:
         for gain in pool.map(lambda server: _gain(programs, plan, server), priced[:MOST_GAINS]):
             found.append(gain)
             done()

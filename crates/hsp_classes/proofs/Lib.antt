@@ -1,11 +1,12 @@
-mod Lists
-mod Once
+pub mod Lists
+pub mod Once
 mod TableSums
 mod Sites
 mod ServerArcs
 mod LeastPay
-mod ClassKinds
+pub mod ClassKinds
 mod GivenClasses
+pub mod ByRow
 mod Flows
 mod Served
 mod Networks

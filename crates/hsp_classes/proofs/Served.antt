@@ -1,8 +1,7 @@
 -- A row of the table of classes sends what it asks for.
 use Rattle.std.proofs.Common.{◌≡◌, ℕ, ◌+◌, ◌<◌, ◌∙◌, Bool, true, false, List, [], ◌∷◌, length, All}
 use Rattle.std.proofs.Common.{sum, sum_by, refl, ap, sym, subst, arith}
-use Rattle.std.specs.List.{AllByRecursion, list_any}
-use Rattle.std.proofs.lemmas.Bool.{false_from_ne_true, or_from}
+use Rattle.std.specs.List.{list_any}
 use Rattle.std.proofs.lemmas.List.Elements.{All-from_recursion, recursion_from_All}
 use Rattle.hsp_transport.proofs.Rowwise.{same_by, sum_by_none, when, when_zero}
 use Rattle.hsp_instance.specs.Instance.{Row}
@@ -14,10 +13,11 @@ use Rattle.hsp_classes.specs.Least.{is_of, least_of, only_arc, servers_of}
 use Rattle.hsp_classes.specs.Shown.{IsService}
 use Rattle.hsp_classes.specs.Sums.{asked_of}
 use Rattle.hsp_classes.specs.Verdict.{IsPlaced}
+use Rattle.hsp_classes.proofs.ByRow.{no_class, one_of}
 use Rattle.hsp_classes.proofs.ClassKinds.{alike_to, by_class, classes_are_kinds, is_same_class, least_kept}
-use Rattle.hsp_classes.proofs.ClassKinds.{least_servers, of_class, same_least, same_of}
+use Rattle.hsp_classes.proofs.ClassKinds.{least_servers, same_least, same_of}
 use Rattle.hsp_classes.proofs.Flows.{IsLinear, at_only, class_table, flow, row_sum, when_same}
-use Rattle.hsp_classes.proofs.GivenClasses.{IsGiven, class_amounts, given_classes, one_class}
+use Rattle.hsp_classes.proofs.GivenClasses.{IsGiven, class_amounts, given_classes}
 use Rattle.hsp_classes.proofs.Lists.{all_both, same_sum}
 use Rattle.hsp_classes.proofs.Once.{sum_none, sum_once, sum_only}
 use Rattle.hsp_classes.proofs.TableSums.{once_apart, table_all, table_apart, table_sum}
@@ -78,17 +78,6 @@ module _ (at : Service) (plan : Best) (is : IsService at) (fits : is_best plan �
       (once_apart (by_class at plan) (classes_are_kinds at plan) (λ t. is_of at plan c t) (same_of at plan c)
       (class_table at plan rows) (table_apart (by_class at plan) (classes_are_kinds at plan) rows))
 
-  -- a row with less than two least servers is of no class
-  no_class : (t : Row) → length (least_servers at plan t) < 2 → (classes : List Class) → AllByRecursion IsGiven classes
-      → list_any (λ c. is_of at plan c t) classes ≡ false
-  no_class t few [] given = refl
-  no_class t few (c ∷ classes) given =
-      or_from (is_of at plan c t) (list_any (λ c. is_of at plan c t) classes)
-      (false_from_ne_true (is_of at plan c t) (λ e.
-      let same : length c.servers ≡ length (least_servers at plan t) = ap length (of_class at plan c t e).1 in
-      let two = given.0.several in omega arith))
-      (no_class t few classes given.1)
-
   -- a row that is placed has what it asks for at its only server, or from its class
   by_place : (t : Row) (arcs : List Arc) → least_servers at plan t ≡ servers_of arcs → IsPlaced at plan t arcs
       → at_only (λ j v. v) t.count (only_arc arcs) + sum_by (λ c. when (is_of at plan c t) t.count) plan.classes
@@ -102,17 +91,10 @@ module _ (at : Service) (plan : Best) (is : IsService at) (fits : is_best plan �
       omega (
         arith,
         sum_none (λ c. is_of at plan c t) (λ c. t.count) plan.classes
-            (no_class t (omega (arith, few)) plan.classes (given_classes plan fits)),
+            (no_class at plan t fits (omega (arith, few))),
       )
   by_place t (a ∷ b ∷ more) same some =
-      omega (
-        arith,
-        sum_once (λ c. is_of at plan c t) t.count plan.classes some
-            (one_class plan fits (λ c. is_of at plan c t) (λ c d e f.
-            let p = of_class at plan c t e in
-            let q = of_class at plan d t f in
-            (p.0 ∙ sym q.0, p.1 ∙ sym q.1))),
-      )
+      omega (arith, sum_once (λ c. is_of at plan c t) t.count plan.classes some (one_of at plan t fits))
 
   module _ (sums : All (λ c. sum c.amounts ≡ asked_of at plan rows c) plan.classes)
       (all : All (λ row. IsPlaced at plan row (least_of at plan row)) rows) where

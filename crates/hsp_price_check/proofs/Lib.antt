@@ -1,0 +1,17 @@
+mod Capping
+mod LeastPays
+mod ClassPlaces
+mod ClassSums
+mod ServiceHosts
+mod SetCapacity
+mod Positions
+mod OneRow
+mod SumSteps
+mod PassSteps
+mod PlanRows
+mod InOrder
+mod Judging
+mod SmallAmounts
+mod JudgedClasses
+mod SetRows
+mod Starting

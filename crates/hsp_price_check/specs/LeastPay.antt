@@ -1,5 +1,5 @@
 -- The least pay over arcs, by a number for each server.
-use Rattle.std.specs.Prelude.{◌≡◌, ◌≤◌, ◌<◌, ◌⊎◌, ◌==◌, ◌^◌, ℕ, true, List, [], length, slice_index}
+use Rattle.std.specs.Prelude.{◌≡◌, ◌≤◌, ◌<◌, ◌⊎◌, ◌==◌, ℕ, true, List, [], length, slice_index}
 use Rattle.std.specs.List.{AllByRecursion, list_any}
 use Rattle.hsp_instance.specs.declared.arc.Arc.{Arc}
 use Rattle.hsp_price_check.specs.Extras.{most_extra, pay_by}

@@ -1,11 +1,10 @@
 -- What a pass over rows has added up.
-use Rattle.std.specs.Prelude.{◌≡◌, ◌≤◌, ◌<◌, ◌+◌, ◌-◌, ◌*◌, ◌^◌, ◌==◌, ◌&&◌, ◌||◌, ◌↔◌, ℕ, Bool, true, false, ⊤}
-use Rattle.std.specs.Prelude.{List, [], ◌∷◌, length, min, position, slice_index, slice_index_or, sum_by, All, IsTrue}
+use Rattle.std.specs.Prelude.{◌≡◌, ◌≤◌, ◌<◌, ◌+◌, ◌-◌, ◌*◌, ◌^◌, ◌==◌, ◌&&◌, ◌||◌, ◌↔◌, ℕ, Bool, false, ⊤}
+use Rattle.std.specs.Prelude.{List, [], ◌∷◌, length, min, position, slice_index, slice_index_or, All, IsTrue}
 use Rattle.std.specs.Prelude.{Some, None, if◌then◌else◌}
 use Rattle.std.specs.List.{list_any}
 use Rattle.hsp_text.specs.declared.limits.TheConstants.{GREATEST_COST}
 use Rattle.hsp_instance.specs.Instance.{Row}
-use Rattle.hsp_instance.specs.declared.arc.Arc.{Arc}
 use Rattle.hsp_check.specs.ArcFlows.{flag_at}
 use Rattle.hsp_kinds.specs.Rows.{Service}
 use Rattle.hsp_price_text.specs.Claim.{Best, Class}
@@ -37,9 +36,9 @@ abbrev pub load_with : List ℕ → RowPlace → ℕ → List ℕ → Type 0
 load_with old (Over arc) count new = IsAddedTo old arc.server count new
 load_with old place count new = new ≡ old
 
-abbrev pub spent : RowPlace → ℕ → ℕ
-spent (Over arc) count = arc.cost * count
-spent place count = 0
+abbrev pub cost_with : ℕ → RowPlace → ℕ → ℕ
+cost_with old (Over arc) count = capped (old + arc.cost * count)
+cost_with old place count = old
 
 abbrev pub asked_with : List ℕ → RowPlace → ℕ → List ℕ → Type 0
 asked_with old (OfClass class) count new = IsAddedTo old class count new
@@ -57,7 +56,7 @@ placed_with old place count = old
 -- a row with its count is added at its place
 pub record IsAdded (old : PassSums) (place : RowPlace) (count : ℕ) (new : PassSums) : Type 0 where
   pub loads : load_with old.loads.items place count new.loads.items
-  pub cost : new.cost ≡ capped (old.cost + spent place count)
+  pub cost : new.cost ≡ cost_with old.cost place count
   pub asked : asked_with old.asked.items place count new.asked.items
   pub seen : seen_with old.seen.items place new.seen.items
   pub placed : new.placed ≡ placed_with old.placed place count

