@@ -4,8 +4,8 @@ ghost use Rattle.std.specs.Prelude.{◌≡◌, [], IfNone, IfOk, IfSome, OnOk, E
 ghost use Rattle.std.specs.Prelude.{string_bytes};
 ghost use Rattle.clap.specs.Words.{fault_of, found_of, rows_of, subcommand_of};
 ghost use Rattle.hsp_cli_options.specs.Commands.{stream_app};
-ghost use Rattle.hsp_cli_orders.specs.StreamOrders.{HasFront, HasPriceFiles, IsStreamOrder, IsStreamOrderIn, IsStreamOrdered};
-ghost use Rattle.hsp_cli_orders.specs.StreamOrders.{IsStreamUsage, asked, is_help, is_version};
+ghost use Rattle.hsp_cli_orders.specs.StreamOrders.{HasFront, HasPriceFiles, IsStreamOrder, IsStreamOrderIn};
+ghost use Rattle.hsp_cli_orders.specs.StreamOrders.{IsStreamOrdered, IsStreamUsage, asked, is_help, is_version};
 ghost use Rattle.hsp_cli_orders.specs.declared.fault.CommandFault.TheVariants as fault;
 ghost use Rattle.hsp_cli_orders.specs.declared.stream_order.FrontWords.{FrontWords};
 ghost use Rattle.hsp_cli_orders.specs.declared.stream_order.PriceFiles.{PriceFiles};
