@@ -2,7 +2,7 @@
 
 _hsplan_stream_commands() {
     case $1 in
-        "") echo "kinds places answer faults --help --version" ;;
+        "") echo "kinds places answer check faults --help --version" ;;
     esac
 }
 
@@ -11,6 +11,7 @@ _hsplan_stream_options() {
         "kinds") echo "--settings --costs --log --values --unit --help" ;;
         "places") echo "--settings --log --values --help" ;;
         "answer") echo "--settings --demand --costs --capacity --plan --log --values --unit --fronts --front --help" ;;
+        "check") echo "--settings --costs --capacity --log --prices --values --help" ;;
         "faults") echo "--demand --costs --capacity --log --help" ;;
     esac
 }
@@ -18,7 +19,7 @@ _hsplan_stream_options() {
 # What stands behind an option of a command: words, files (-f), folders (-d), or what isn't known (-).
 _hsplan_stream_values() {
     case $1 in
-        *" --settings" | *" --costs" | *" --log" | *" --values" | *" --demand" | *" --capacity" | *" --plan") echo -f ;;
+        *" --settings" | *" --costs" | *" --log" | *" --values" | *" --demand" | *" --capacity" | *" --plan" | *" --prices") echo -f ;;
         *" --unit" | *" --fronts" | *" --front") echo - ;;
     esac
 }

@@ -16,7 +16,7 @@ import click
 from hsp import __version__
 
 from hsp.base.files import refuse_clashes, replace_all
-from hsp.base.grammar import COMMANDS
+from hsp.base.grammar import COMMANDS, program_of
 from hsp.base.groups import Group
 from hsp.base.numbers import listed, some
 from hsp.base.paths import path_in, shell_word
@@ -507,7 +507,7 @@ class WordsBehind(click.Command):
                 context.fail("give either DIR, or the words of a command of hsplan behind --")
             args = args[:at]
         first = args[0] if args else ""
-        if first in ("hsplan", "hsplan-stream", *COMMANDS) and not os.path.isdir(first):
+        if (first in COMMANDS or program_of(first)) and not os.path.isdir(first):
             context.fail(f"no folder '{first}': words of a command stand behind --, as hsp doctor -- {first} ..")
         return super().parse_args(context, args)
 

@@ -7,7 +7,8 @@ One service has 64 regions, 32 sites, 1,024 servers, 1,024 hosts and 8,192 rows 
 them with handles of 4,096 octets; names, identifiers and costs are the longest and greatest. Every command runs over
 it, with a plan that sends each row to all sites, and with a shortage of all rows. Logs have 1,000,000 answers of each
 kind, by a dispatcher and by 64 fronts, and end with a bad row of seven digits. hsplan-stream joins a log of 8,192
-kinds, and refuses one of a kind more.
+kinds, and refuses one of a kind more. It checks the same plan and shortage by prices, and a certificate of 1,048,576
+classes, and refuses one of a class more.
 
 Then files of each length from 0 to 8,193, and of 65,535 to 65,537 octets, are read whole.
 
@@ -19,6 +20,7 @@ from __future__ import annotations
 import argparse
 import concurrent.futures
 import hashlib
+import itertools
 import os
 import subprocess
 import sys
@@ -36,6 +38,7 @@ SITES, SERVERS, REGIONS, ROWS = 32, 32, 64, 8_192
 COUNT, COST, CAPACITY, LIMIT = 1_000_000, 1_000_000, 1_000_000_000, 10**12
 EACH = COUNT // SITES
 FRONTS, MILLION = 64, 1_000_000
+CLASSES, PRICE, SUM = 1_048_576, 10**12, 10**16
 # The servers of a short service can take 1,024 queries less than all rows ask for.
 LITTLE = ROWS * COUNT // (SITES * SERVERS) - 1
 
@@ -110,6 +113,37 @@ def shortage_text() -> bytes:
     return lines(["HSPLAN 1", "SHORTAGE", f"demand {ROWS * COUNT}", f"capacity {taken}", *rows, "END"])
 
 
+def by_prices(cost: int, price: int, classes: Iterable[str]) -> bytes:
+    """A certificate by prices, in which all servers and hosts have the same price."""
+    servers = (f"server {number} {price}" for number in range(SITES * SERVERS))
+    hosts = (f"host {number} {price}" for number in range(SITES * SERVERS))
+    return lines(["HSPLAN PRICES 1", "PLAN", f"cost {cost}", *servers, *hosts, *classes, "END"])
+
+
+def prices_text() -> bytes:
+    """The best plan by prices: each row pays the same at all sites, so that all rows are in classes."""
+    sent: dict[tuple[str, tuple[int, ...]], int] = {}
+    for row in range(ROWS):
+        places = [place_of(option, handle_of(row)) for option in range(3)]
+        key = name_of("r", row % REGIONS), tuple(site * SERVERS + places[site % 3] for site in range(SITES))
+        sent[key] = sent.get(key, 0) + EACH
+    classes = (f"class {of[0]} " + " ".join(f"{server} {sent[of]}" for server in of[1]) for of in sorted(sent))
+    return by_prices(ROWS * COUNT * COST, 0, classes)
+
+
+def many_classes(number: int) -> bytes:
+    """A certificate of so many classes, which no row is of, with the greatest price and the greatest cost."""
+    pairs = itertools.product("abc", itertools.combinations(range(SITES * SERVERS), 2))
+    classes = (f"class {region} {first} 0 {second} 0" for region, (first, second) in itertools.islice(pairs, number))
+    return by_prices(SUM, PRICE, classes)
+
+
+def short_prices() -> bytes:
+    servers = (f"server {number}" for number in range(SITES * SERVERS))
+    sums = [f"demand {ROWS * COUNT}", f"capacity {SITES * SERVERS * LITTLE}"]
+    return lines(["HSPLAN PRICES 1", "SHORT", *servers, *sums, "END"])
+
+
 def files() -> dict[str, bytes]:
     """The files of the service, by their names."""
     sites = [f'[[site]]\nname = "{name_of("s", at)}"\nrecord = "{record_of(at)}"' for at in range(SITES)]
@@ -124,6 +158,10 @@ def files() -> dict[str, bytes]:
         "little.csv": capacities(LITTLE),
         "plan.txt": plan_text(),
         "shortage.txt": shortage_text(),
+        "plan.prices": prices_text(),
+        "short.prices": short_prices(),
+        "classes.prices": many_classes(CLASSES),
+        "more.prices": many_classes(CLASSES + 1),
     }
 
 
@@ -255,6 +293,13 @@ def stream_cases(folder: str) -> Iterator[Case]:
             file.write(lines(["region,handle", *log]))
         words = ["kinds", "--settings", "settings.toml", "--costs", "costs.csv", "--log", name]
         yield Case(words, printed, reported, status)
+    check = ["check", "--settings", "settings.toml", "--costs", "costs.csv", "--log", "demand.csv", "--capacity"]
+    yield Case([*check, "capacity.csv", "--prices", "plan.prices"], b"yes\n")
+    yield Case([*check, "little.csv", "--prices", "short.prices"], b"yes\n")
+    yield Case([*check, "capacity.csv", "--prices", "classes.prices"], b"no 3 NotLeast\n", status=3)
+    line = 3 + 2 * SITES * SERVERS + CLASSES + 1
+    fault = f"hsplan-stream: certificate: BadLine line {line}\n"
+    yield Case([*check, "capacity.csv", "--prices", "more.prices"], b"", fault, 1)
 
 
 def cases(folder: str) -> Iterator[Case]:

@@ -8,11 +8,13 @@ tools/gate/check_program.py runs them. Here are tried:
 
 - the options that the help names;
 - random logs: the table of kinds with and without units, places, and answers by a plan, by each front and in units;
+- certificates by prices of random logs, made of plans and shortages of their kinds, and with a number changed;
 - a log in parts, whose tables are joined;
 - examples/twelve-sites, planned by rows and by kinds, at the same cost;
 - a co-process over pipes: each row is answered within a second, before the next one is written;
-- a log of a million handles: its table, its plan, and `answer` over the same log, line by line as `hsplan dispatch`
-  answers the log with each handle replaced by its row's; none of its runs takes more than 64 MB;
+- a log of a million handles: its table, its plan, `check` of its certificate by prices, and `answer` over the same
+  log, line by line as `hsplan dispatch` answers the log with each handle replaced by its row's; none of its runs takes
+  more than 64 MB;
 - each open, read and write of some runs failing in turn.
 """
 from __future__ import annotations
@@ -35,16 +37,17 @@ from pathlib import Path
 sys.path.insert(0, str(Path(__file__).resolve().parents[1]))
 
 from lib import examples, failing, preload, programs
-from lib import oracle
+from lib import oracle, prices
 
 
 FILES = "--settings settings.toml --costs costs.csv"
 INPUTS = oracle.INPUTS
 ANSWER = f"answer {INPUTS} --plan plan.txt --log /dev/stdin"
+CHECK = f"check {FILES} --capacity capacity.csv --log /dev/stdin --prices plan.prices"
 LIMIT_KB = 64 * 1024
 HELP_BEGINS = "hsplan-stream: tables, places and answers for logs of any length\n"
 
-COMMANDS = ("kinds", "places", "answer", "faults")
+COMMANDS = ("kinds", "places", "answer", "check", "faults")
 
 Ended = tuple[bytes, bytes, int]
 
@@ -74,6 +77,12 @@ class Programs:
         with open(os.path.join(folder or self.folder, "plan.txt"), "wb") as file:
             file.write(text)
         return text
+
+    def plan_by_prices(self, table: bytes) -> None:
+        """Keeps a plan of the table of demand as plan.txt, and its certificate by prices as plan.prices."""
+        rows = list(csv.reader(io.StringIO(table.decode())))[1:]
+        counted = [(region, handle, int(count)) for region, handle, count in rows]
+        self.put("plan.prices", prices.of_plan(oracle.THREE, counted, self.plan()))
 
     def put(self, name: str, octets: bytes) -> None:
         with open(os.path.join(self.folder, name), "wb") as file:
@@ -177,6 +186,38 @@ def check_answers(it: Programs, draw: random.Random) -> list[str]:
     return found
 
 
+def check_prices(it: Programs, draw: random.Random) -> list[str]:
+    """Verdicts on certificates by prices of random logs: of a plan or a shortage of their kinds, and with a number
+    changed."""
+    found, seen = [], set()
+    for capacity in (1_000, 120, 100, 90, 80, 40):
+        rows = [(*entry, draw.choice((0, 3, 40))) for entry in oracle.entries(draw, 60, 12)]
+        table, log = oracle.THREE.table(rows), log_of("region,handle,count", rows)
+        oracle.put_files(it.folder, oracle.THREE.files(table, capacity))
+        plan = it.plan()
+        is_short = plan.splitlines()[1] == b"SHORTAGE"
+        if is_short:
+            right = prices.of_shortage(oracle.THREE, table, plan, capacity)
+            changes = [("demand ", "no 9 DemandSum"), ("capacity ", "no 10 CapacitySum")]
+        else:
+            right = prices.of_plan(oracle.THREE, table, plan)
+            changes = [("cost ", "no 7 Cost"), ("class ", "no 5 ClassSum")]
+        tried = [(right, "yes")] + [(with_one_more(right, word), wanted) for word, wanted in changes]
+        for text, wanted in tried:
+            if wanted == "yes" or text != right:
+                it.put("plan.prices", text)
+                status = 0 if wanted == "yes" else 3
+                found += fault(f"{wanted} of {capacity}", it.run(CHECK, log), (f"{wanted}\n".encode(), b"", status))
+                seen.add(wanted)
+    return found + fault("verdicts", len(seen), 5)
+
+
+def with_one_more(text: bytes, word: str) -> bytes:
+    """A certificate whose first line of a word ends with a number that is greater by 1; the same without one."""
+    line = re.compile(rf"^({word}.*?)(\d+)$".encode(), re.M)
+    return line.sub(lambda it: it[1] + b"%d" % (int(it[2]) + 1), text, count=1)
+
+
 def check_twelve(it: Programs) -> list[str]:
     """The plan of examples/twelve-sites costs the same by rows and by kinds."""
     with tempfile.TemporaryDirectory() as folder:
@@ -252,7 +293,8 @@ def replaced(table: bytes, log: str, to: str) -> None:
 
 def check_million(it: Programs, number: int) -> list[str]:
     with tempfile.TemporaryDirectory() as folder:
-        path = [os.path.join(folder, it) for it in ("log.csv", "demand.csv", "answers", "named.csv", "dispatched")]
+        names = ("log.csv", "demand.csv", "answers", "named.csv", "dispatched", "verdict")
+        path = [os.path.join(folder, it) for it in names]
         oracle.put_files(folder, oracle.THREE.files())
         with open(path[0], "wb") as log:
             log.writelines(oracle.many_rows(number))
@@ -260,7 +302,9 @@ def check_million(it: Programs, number: int) -> list[str]:
         found = fault("kinds of a million handles", (status, memory < LIMIT_KB), (0, True))
         with open(path[1], "rb") as file:
             table = file.read()
-        Programs(it.stream, it.hsplan, folder).plan()
+        Programs(it.stream, it.hsplan, folder).plan_by_prices(table)
+        checked = measured([it.stream, *CHECK.split()], folder, path[0], path[5])
+        found += fault("check of a million handles", (checked[0], checked[1] < LIMIT_KB), (0, True))
         replaced(table, path[0], path[3])
         reported = measured([it.stream, *ANSWER.split()], folder, path[0], path[2])
         found += fault("answers to a million handles", (reported[0], reported[1] < LIMIT_KB), (0, True))
@@ -270,9 +314,12 @@ def check_million(it: Programs, number: int) -> list[str]:
     found += fault("every row is assigned", sum(line.startswith(b"assigned ") for line in texts[0]), number)
     # The place is that of the handle itself; a row's handle has the same.
     found += [] if texts[0] == texts[1] else ["the answers are not those of dispatch to the replaced log"]
-    speeds = f"kinds {number / seconds:,.0f} and answer {number / reported[2]:,.0f} rows a second of a processor"
-    kinds = len(table.splitlines()) - 1
-    print(f"{number:,} handles, {kinds} kinds: {speeds}, {max(memory, reported[1]):,} kB at most")
+    speeds = ", ".join(
+        f"{name} {number / taken:,.0f}"
+        for name, taken in (("kinds", seconds), ("check", checked[2]), ("answer", reported[2]))
+    )
+    kinds, most = len(table.splitlines()) - 1, max(memory, checked[1], reported[1])
+    print(f"{number:,} handles, {kinds} kinds: {speeds} rows a second of a processor, {most:,} kB at most")
     return found
 
 
@@ -282,6 +329,7 @@ FAILING = [
     (f"kinds {FILES} --unit 2 --log log.csv", b""),
     ("places --settings settings.toml --log log.csv", b""),
     (f"{ANSWER.replace('/dev/stdin', 'log.csv')} --unit 2", b""),
+    (CHECK.replace("/dev/stdin", "log.csv"), b""),
     ("faults --demand log.csv", b""),
     ("faults --log log.csv", b""),
     ("--help", b""),
@@ -330,12 +378,14 @@ def check_failing(it: Programs, room: str) -> tuple[list[str], int]:
 def check_all(it: Programs, million: int, room: str) -> list[str]:
     draw = random.Random(49)
     oracle.put_cases(it.folder)
-    it.plan()
+    with open(os.path.join(it.folder, "demand.csv"), "rb") as file:
+        it.plan_by_prices(file.read())
     found = check_help(it) + check_kinds(it, draw) + check_places(it, draw) + check_talk(it)
     faults, tried = check_failing(it, room)
     found += faults + ([] if tried else ["failing calls: nothing was tried"])
     print(f"failing calls: {tried} runs")
-    return found + check_answers(it, draw) + check_twelve(it) + check_million(it, million)
+    found += check_answers(it, draw) + check_prices(it, draw)
+    return found + check_twelve(it) + check_million(it, million)
 
 
 def main() -> int:

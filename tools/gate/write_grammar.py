@@ -34,12 +34,12 @@ FLAGS = {
     "hsplan": (),
     "hsplan-stream": (Option("help", "", "show what the commands do"), Option("version", "", "show the version")),
 }
-# What LIMITS says of limits, and their names; equal numbers are written once. No input has those in UNSAID.
+# What LIMITS says of limits, and their names; equal numbers are written once.
 ROWS = {
     "sites": "MOST_SITES",
     "servers of a site, and of all sites together": "MOST_SERVERS",
     "hosts": "MOST_HOSTS",
-    "regions in one table": "MOST_REGIONS",
+    "regions in one table, or in a log of `check`": "MOST_REGIONS",
     "rows of the demand": "MOST_DEMAND_ROWS",
     "rows of the costs": "MOST_COST_ROWS",
     "rows of the capacities": "MOST_CAPACITY_ROWS",
@@ -52,13 +52,15 @@ ROWS = {
     "octets of a command on standard input": "LONGEST_FIRST_LINE",
     "rows of a log of `dispatch`": "MOST_LOG_ROWS",
     "rows of a log of `hsplan-stream`": "",
-    "octets of a row of `places` or `answer`; a row of `kinds` or `dispatch` has no limit but memory": "LONGEST_ROW",
+    "octets of a row of `places` or `answer`; a row of another log has no limit but memory": "LONGEST_ROW",
     "kinds, and regions, that `kinds` joins a log to": "MOST_DEMAND_ROWS MOST_REGIONS",
-    "count of a row of such a log": "GREATEST_ROW_COUNT",
+    "count of a row of a log of `kinds` or `check`": "GREATEST_ROW_COUNT",
     "unit of `kinds` and `answer`": "GREATEST_UNIT",
     "fronts": "MOST_FRONTS",
+    "classes of a certificate by prices": "MOST_CLASSES",
+    "price, and amount of a class, in such a certificate": "GREATEST_PRICE GREATEST_AMOUNT",
+    "cost, demand or capacity in it": "GREATEST_SUM",
 }
-UNSAID = {"GREATEST_PRICE", "GREATEST_SUM"}
 HEAD = '''"""The commands, limits and headers of hsplan and hsplan-stream, written by tools/gate/write_grammar.py."""
 
 from __future__ import annotations
@@ -80,6 +82,14 @@ class Command(NamedTuple):
 
 
 '''
+PROGRAM_OF = '''
+
+def program_of(command: str) -> str:
+    """The program with a command of this name, hsplan before hsplan-stream; nothing where neither has it."""
+    return next((program for program, own in COMMANDS.items() if command in own), "")
+
+
+'''
 
 
 def _written(value: Any) -> str:
@@ -95,9 +105,19 @@ def _of_command(command: grammar.Command) -> str:
     last = [_written(command.last)] if command.last else []
     parts = [_written(command.program), _written(command.needed), _written(command.optional), *last]
     line = f"Command({', '.join(parts)})"
-    if len(line) < 100:
+    if len(line) < 96:
         return line
-    return "Command(\n" + "".join(f"        {part},\n" for part in parts) + "    )"
+    return "Command(\n" + "".join(f"            {part},\n" for part in parts) + "        )"
+
+
+def _of_programs() -> str:
+    """The commands of each program."""
+    lines = []
+    for program in FLAGS:
+        lines.append(f'    "{program}": {{\n')
+        lines += [f'        "{it.name}": {_of_command(it)},\n' for it in grammar.commands() if it.program == program]
+        lines.append("    },\n")
+    return f"COMMANDS: dict[str, dict[str, Command]] = {{\n{''.join(lines)}}}\n"
 
 
 def _listed(name: str, pairs: dict[str, str], kind: str) -> str:
@@ -108,7 +128,6 @@ def _listed(name: str, pairs: dict[str, str], kind: str) -> str:
 def module() -> str:
     """The companion's module."""
     options = grammar.options().values()
-    commands = {command.name: _of_command(command) for command in grammar.commands()}
     tables = {kind: _written(",".join(header)) for kind, header in grammar.table_headers().items()}
     logs = {
         command: _written([",".join(header) for header in headers])
@@ -117,7 +136,9 @@ def module() -> str:
     return "".join(
         [
             HEAD,
-            _listed("COMMANDS", commands, "Command"),
+            "# The commands of each program, by their names.\n",
+            _of_programs(),
+            PROGRAM_OF,
             "# What stands behind each option: a file, a number, or one of some words.\n",
             _listed("VALUES", {option.name: _written(option.value) for option in options}, "str"),
             'FILES = tuple(name for name, value in VALUES.items() if value == "FILE")\n\n',
@@ -174,6 +195,15 @@ def _of_click(path: str, command: click.Command) -> Command:
     return Command(path, (*options, HELP), " ".join(words))
 
 
+def alone(programs: list[Program]) -> list[Program]:
+    """The programs with the commands that a name by itself stands for: the first program that has it."""
+    found: list[Program] = []
+    for program in programs:
+        known = {name for other in found for name in other.names()}
+        found.append(program._replace(commands=tuple(it for it in program.commands if it.path not in known)))
+    return found
+
+
 def companion(behind: list[Program]) -> Program:
     """hsp with its commands."""
     from hsp.cli import main
@@ -192,7 +222,7 @@ def files() -> Iterator[tuple[str, str]]:
     yield MODULE, module()
     own = programs()
     yield PAGE, limits_page((TOP / PAGE).read_text(encoding="utf-8"))
-    for program in [*own, companion(own)]:
+    for program in [*own, companion(alone(own))]:
         for name, written in completions.SHELLS.items():
             yield f"completions/{name.format(program.name)}", written(program)
 
@@ -219,7 +249,7 @@ def limits_page(page: str) -> str:
         (words, ", and ".join(dict.fromkeys(_number(numbers[name]) for name in names.split())) or "any number")
         for words, names in ROWS.items()
     ]
-    said = set(" ".join(ROWS.values()).split()) | UNSAID
+    said = set(" ".join(ROWS.values()).split())
     rows += [(limit.meaning, _number(limit.number)) for limit in grammar.limits() if limit.name not in said]
     return _table(_table(page, "the limits", rows), "the limits of hsp", _rows_of_hsp())
 

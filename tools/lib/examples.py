@@ -184,6 +184,24 @@ def two_pings() -> list[Row]:
     ]
 
 
+# The prices of the best plan, and its classes: the regions, the servers, and how many queries each server gets.
+TWO_COST = 307216
+TWO_PRICES = [0, 72, 0, 74, 0]
+TWO_CLASSES = [("eu", {1: 315, 2: 213}), ("eu", {1: 335, 4: 0}), ("us", {0: 154, 3: 52})]
+
+
+def two_certificate() -> bytes:
+    """The certificate of the best plan by prices."""
+    servers = [f"server {server} {price}" for server, price in enumerate(TWO_PRICES)]
+    classes = [
+        f"class {region} " + " ".join(f"{server} {queries}" for server, queries in sent.items())
+        for region, sent in TWO_CLASSES
+    ]
+    return "".join(
+        f"{line}\n" for line in ("HSPLAN PRICES 1", "PLAN", f"cost {TWO_COST}", *servers, *classes, "END")
+    ).encode()
+
+
 def two_sites() -> Files:
     sites = [(name, site_octets(name, 7 + at, it)) for at, (name, it) in enumerate(TWO_SITES.items())]
     demand = two_demand()
@@ -203,6 +221,7 @@ def two_sites() -> Files:
         ),
         "pings.csv": table("region,site,milliseconds", two_pings()),
         "log.csv": table("region,handle", log_rows(demand, 600, "two-sites")),
+        "plan.prices": two_certificate(),
     }
 
 

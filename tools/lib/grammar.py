@@ -9,12 +9,13 @@ from typing import NamedTuple
 from lib import programs
 
 CRATES = Path(programs.TOP) / "crates"
-# The files with limits: hsp_text has those of inputs and certificates, the others one each.
+# The files with limits: hsp_text has those of inputs and certificates, hsp_price_text two, the others one each.
 LIMITS = [
     "hsp_text/src/limits.rt",
     "hsp_talk/src/limits.rt",
     "hsp_dispatch/src/portion.rt",
     "hsp_stream/src/kinds_log.rt",
+    "hsp_price_text/src/ranges.rt",
 ]
 # The function that knows the headers of a command's log.
 LOGS = {
@@ -23,6 +24,7 @@ LOGS = {
     "kinds": "hsp_stream/src/kinds_log.rt fn form_of",
     "places": "hsp_stream/src/handle_rows.rt fn form_of",
     "answer": "hsp_stream/src/answerer.rt fn form_of",
+    "check": "hsp_stream/src/kinds_log.rt fn form_of",
 }
 TABLES = ("demand", "costs", "capacity")
 
@@ -109,9 +111,9 @@ def limits() -> list[Limit]:
     """All limits in the order of their files."""
     found = []
     for path in LIMITS:
-        pattern = r"^((?:///[^\n]*\n)+)pub const (\w+): \w+ = ([\d_]+);"
+        pattern = r"^((?:///?[^\n]*\n)+)pub(?:\(crate\))? const (\w+): \w+ = ([\d_]+);"
         for it in matched(pattern, source(path), path):
-            found.append(Limit(it[2], int(it[3]), re.sub(r"\s*///\s*", " ", it[1]).strip()))
+            found.append(Limit(it[2], int(it[3]), re.sub(r"\s*///?\s*", " ", it[1]).strip()))
     return found
 
 

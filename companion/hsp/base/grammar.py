@@ -18,22 +18,39 @@ class Command(NamedTuple):
         return self.needed + self.optional
 
 
-COMMANDS: dict[str, Command] = {
-    "locate": Command("hsplan", (), ("option", "servers", "settings", "values"), "handle"),
-    "site": Command("hsplan", (), ("index",), "file"),
-    "plan": Command("hsplan", ("settings", "demand", "costs", "capacity"), ("values",)),
-    "check": Command("hsplan", ("settings", "demand", "costs", "capacity", "plan"), ("values",)),
-    "dispatch": Command("hsplan", ("settings", "demand", "costs", "capacity", "plan", "log"), ("values", "fronts")),
-    "report": Command("hsplan", ("settings", "demand", "costs", "capacity", "plan", "kind"), ("values",)),
-    "kinds": Command("hsplan-stream", ("settings", "costs", "log"), ("values", "unit")),
-    "places": Command("hsplan-stream", ("settings", "log"), ("values",)),
-    "answer": Command(
-        "hsplan-stream",
-        ("settings", "demand", "costs", "capacity", "plan", "log"),
-        ("values", "unit", "fronts", "front"),
-    ),
-    "faults": Command("hsplan-stream", (), ("demand", "costs", "capacity", "log")),
+# The commands of each program, by their names.
+COMMANDS: dict[str, dict[str, Command]] = {
+    "hsplan": {
+        "locate": Command("hsplan", (), ("option", "servers", "settings", "values"), "handle"),
+        "site": Command("hsplan", (), ("index",), "file"),
+        "plan": Command("hsplan", ("settings", "demand", "costs", "capacity"), ("values",)),
+        "check": Command("hsplan", ("settings", "demand", "costs", "capacity", "plan"), ("values",)),
+        "dispatch": Command(
+            "hsplan",
+            ("settings", "demand", "costs", "capacity", "plan", "log"),
+            ("values", "fronts"),
+        ),
+        "report": Command("hsplan", ("settings", "demand", "costs", "capacity", "plan", "kind"), ("values",)),
+    },
+    "hsplan-stream": {
+        "kinds": Command("hsplan-stream", ("settings", "costs", "log"), ("values", "unit")),
+        "places": Command("hsplan-stream", ("settings", "log"), ("values",)),
+        "answer": Command(
+            "hsplan-stream",
+            ("settings", "demand", "costs", "capacity", "plan", "log"),
+            ("values", "unit", "fronts", "front"),
+        ),
+        "check": Command("hsplan-stream", ("settings", "costs", "capacity", "log", "prices"), ("values",)),
+        "faults": Command("hsplan-stream", (), ("demand", "costs", "capacity", "log")),
+    },
 }
+
+
+def program_of(command: str) -> str:
+    """The program with a command of this name, hsplan before hsplan-stream; nothing where neither has it."""
+    return next((program for program, own in COMMANDS.items() if command in own), "")
+
+
 # What stands behind each option: a file, a number, or one of some words.
 VALUES: dict[str, str] = {
     "settings": "FILE",
@@ -42,6 +59,7 @@ VALUES: dict[str, str] = {
     "costs": "FILE",
     "capacity": "FILE",
     "plan": "FILE",
+    "prices": "FILE",
     "log": "FILE",
     "option": "na|local|handle",
     "servers": "N",
@@ -65,6 +83,7 @@ LOG_HEADERS: dict[str, tuple[str, ...]] = {
     "kinds": ("region,handle", "region,handle,count"),
     "places": ("handle", "region,handle"),
     "answer": ("region,handle", "region,body"),
+    "check": ("region,handle", "region,handle,count"),
     "faults": ("region,handle", "region,body", "front,region,handle", "region,handle,count", "handle"),
 }
 LOG_HEAD = LOG_HEADERS["dispatch"][0].encode() + b"\n"
@@ -118,5 +137,9 @@ LONGEST_ROW = 1_048_576
 GREATEST_UNIT = 1_000_000
 # The greatest count of a row of a log.
 GREATEST_ROW_COUNT = 1_000_000_000_000
+# The greatest number of queries of a class that go to a server.
+GREATEST_AMOUNT = 1_000_000_000_000
+# The greatest number of classes.
+MOST_CLASSES = 1_048_576
 
 NAME_RULE = f"a name has only ASCII letters, digits, '-', '_' and '.', and at most {LONGEST_NAME} of them"

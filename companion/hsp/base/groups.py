@@ -6,7 +6,7 @@ import difflib
 
 import click
 
-from hsp.base.grammar import COMMANDS
+from hsp.base.grammar import program_of
 
 
 class Group(click.Group):
@@ -14,10 +14,10 @@ class Group(click.Group):
 
     def meant_by(self, word: str) -> str:
         """A near name, or a command of another program."""
-        near = difflib.get_close_matches(word, self.commands, 1, 0.8 if word in COMMANDS else 0.5)
+        near = difflib.get_close_matches(word, self.commands, 1, 0.8 if program_of(word) else 0.5)
         others = [f"'{name}'" for name in near]
-        if word in COMMANDS:
-            others.append(f"'{COMMANDS[word].program} {word}'")
+        if program_of(word):
+            others.append(f"'{program_of(word)} {word}'")
         if word in ("help", "version"):
             others.append(f"'hsp --{word}'")
         return f"; did you mean {' or '.join(others)}?" if others else ""

@@ -4,7 +4,8 @@ from __future__ import annotations
 
 import os
 import re
-from collections.abc import Iterator
+from collections.abc import Iterator, Mapping
+from typing import NamedTuple
 
 from hsp.base.grammar import GREATEST_COUNT, GREATEST_UNIT
 from hsp.base.numbers import listed, some
@@ -16,7 +17,8 @@ from hsp.plans.service import newer_than
 
 AGAIN = "print it again: hsplan plan .. > plan.txt"
 # The reasons of a no, and the file that they speak of.
-REASONS = {
+Reasons = Mapping[str, tuple[str, tuple[str, ...]]]
+REASONS: Reasons = {
     "Shape": ("it has other rows, servers or hosts than these inputs", ("demand", "settings")),
     "NoSuchUse": ("it sends queries where no cost stands", ("costs",)),
     "RowSum": ("its queries of a row don't add up to the count", ("demand",)),
@@ -29,29 +31,66 @@ REASONS = {
     "CapacitySum": ("it is a shortage of other capacities", ("capacity", "costs")),
     "NotShort": ("it is a shortage that is over", ("capacity", "demand")),
 }
+# The same of a certificate by prices.
+PRICE_REASONS: Reasons = {
+    "Shape": ("it has other servers or hosts than the settings", ("settings",)),
+    "NoSuchServer": ("it names a server that isn't there", ("settings",)),
+    "NotLeast": ("the servers of a class aren't the least servers of any row", ("log", "costs")),
+    "NoClass": ("a row with several least servers has no class, or a row has no server", ("log", "costs")),
+    "ClassSum": ("the numbers of a class don't add up to what its rows ask for", ("log",)),
+    "Load": ("it brings a server above its capacity, or a host above its limit", ("log", "capacity")),
+    "Cost": ("its cost isn't what the rows cost", ("costs", "log")),
+    "IdlePrice": ("a server or a host with room left has a price", ("capacity", "log")),
+    "DemandSum": ("it is a shortage of another log", ("log",)),
+    "CapacitySum": ("it is a shortage of other capacities", ("capacity", "settings")),
+    "NotShort": ("it is a shortage that is over", ("capacity", "log")),
+}
 
 
-def _other_text(text: Text) -> tuple[str, str]:
-    """What a text is that isn't a certificate."""
+class Form(NamedTuple):
+    """A form of certificates: the option with its file, its name, its first words, and what to do about a bad one."""
+
+    role: str
+    name: str
+    reasons: Reasons
+    again: str
+
+
+PLAN = Form("plan", "plan", REASONS, AGAIN)
+PRICES = Form("prices", "certificate", PRICE_REASONS, "make the certificate again, for these files")
+
+
+def form_of(question: Question) -> Form:
+    """The form of the certificate that a command reads."""
+    return PRICES if "prices" in question.files else PLAN
+
+
+def _other_text(text: Text, form: Form) -> tuple[str, str]:
+    """What a text is that isn't a certificate of this form."""
     first = text.line(1)
     if not text.octets:
-        return "the file is empty: the plan was refused, or its disk was full", AGAIN
+        return f"the file is empty: the {form.name} was refused, or its disk was full", form.again
+    if first == "HSPLAN PRICES 1" and form is PLAN:
+        return "this is a certificate by prices", f"hsplan-stream check judges it; for a plan {AGAIN}"
+    if re.fullmatch("HSPLAN [12]", first) and form is PRICES:
+        return "this is what hsplan plan prints", "hsplan check judges it; give a certificate by prices"
     if re.match(r"(place|\s+row|\s+demand)\s|short \d", first):
-        return "this is what hsplan report prints", AGAIN
+        return "this is what hsplan report prints", form.again
     if re.match(r"(region|site),", first):
-        return "this is a table", f"give the plan; {AGAIN}"
+        return "this is a table", f"give the {form.name}; {form.again}"
     if first.startswith(("fits", "cost ", "hsp ")) or re.search(r"\d+ sites?, \d+ servers?", first):
         return "this is what hsp plan shows; it keeps the certificate in plan.txt", "give DIR/plan.txt"
     if first.startswith(("<", "{", "[")):
-        return "this is a page, JSON or settings", f"give the plan; {AGAIN}"
+        return "this is a page, JSON or settings", f"give the {form.name}; {form.again}"
     if first.startswith("hsplan: "):
-        return "this is what hsplan printed of a fault", f"mend the fault; then {AGAIN}"
-    return "a line can't stand here: an edited text, or lines in another order", AGAIN
+        return "this is what hsplan printed of a fault", f"mend the fault; then {form.again}"
+    return "a line can't stand here: an edited text, or lines in another order", form.again
 
 
 def certificate(question: Question, said: Said) -> Explained:
     """A text that isn't that of a plan or of a shortage."""
-    text = question.files["plan"].original
+    form = form_of(question)
+    text = question.files[form.role].original
     number = said.numbers.get("line", max(1, len(text.lines)))
     place = text.whole(number)
     if said.word == "Ended":
@@ -59,47 +98,50 @@ def certificate(question: Question, said: Said) -> Explained:
         place = text.whole(last)
         lacks_end = text.line(last) == "END"
         why = "the line end behind END is lost" if lacks_end else "the file was cut: END is its last line"
-        remedy = AGAIN + ("; or add a line end" if lacks_end else "")
+        remedy = form.again + ("; or add a line end" if lacks_end else "")
         if not text.octets:
-            why, remedy = _other_text(text)
-        message = "the plan ends too early"
+            why, remedy = _other_text(text, form)
+        message = f"the {form.name} ends too early"
     elif said.word == "AfterEnd":
         message, why, remedy = (
             "something stands behind END",
-            "an empty line, or two plans in one file",
+            f"an empty line, or two {form.name}s in one file",
             "cut it off: END and its line end are the last",
         )
     elif b"\r\n" in text.octets[:200]:
-        message, why = "the plan has line ends of Windows", "a program that changed the text"
+        message, why = f"the {form.name} has line ends of Windows", "a program that changed the text"
         remedy = rf"tr -d '\r' < {shell_word(text.path)} > plain.txt"
     elif number == 1:
-        why, remedy = _other_text(text)
-        message = "this isn't a plan"
+        why, remedy = _other_text(text, form)
+        message = f"this isn't a {form.name}" + (" by prices" if form is PRICES else "")
     else:
-        why, remedy = _bad_line(text.line(number))
-        message = f"{quoted(text.line(number), 40)} can't stand in line {number} of a plan"
+        why, remedy = _bad_line(text.line(number)), form.again
+        message = f"{quoted(text.line(number), 40)} can't stand in line {number} of a {form.name}"
     words = Words(message, remedy, why)
     return Explained(found(text.path, place, words, said.line), [])
 
 
-def _bad_line(line: str) -> tuple[str, str]:
+def _bad_line(line: str) -> str:
     if line != line.strip() or "  " in line:
-        return "a blank too much: words stand between single blanks", AGAIN
-    if re.search(r"\b0\d|[+.,-]\d", line):
-        return "a number that isn't whole and plain", AGAIN
-    if re.fullmatch(r"(use|row|server|host|cost)( \d+)*", line):
-        return "a line in another order, twice, or with numbers too many or too few", AGAIN
-    return "an edited text", AGAIN
+        return "a blank too much: words stand between single blanks"
+    if re.search(r"\b0\d|[+.,-]\d", re.sub(r"^class \S+", "", line)):
+        return "a number that isn't whole and plain"
+    if re.fullmatch(r"(use|row|server|host|cost|class \S+)( \d+)*", line):
+        return "a line in another order, twice, or with numbers too many or too few"
+    return "an edited text"
 
 
 def verdict(question: Question, said: Said) -> Explained:
-    """A plan to which the checker says no."""
-    means, kinds = REASONS.get(said.word, ("the checker says no", ("demand",)))
-    text = question.files["plan"].original
-    inputs = [question.files[role].original.path for role in ORDER[:5] if role in question.files]
+    """A certificate to which the checker says no."""
+    form = form_of(question)
+    means, kinds = form.reasons.get(said.word, ("the checker says no", ("demand",)))
+    text = question.files[form.role].original
+    others = [role for role in ORDER if role in question.files and role not in ("plan", "prices")]
+    inputs = [question.files[role].original.path for role in others if form is PRICES or role != "log"]
     changed = newer_than(inputs, text.path)
     why = f"{means}; likely {listed(changed)} changed since" if changed else f"{means}; look at {listed(kinds)}"
-    words = Words("the plan isn't one of these inputs", AGAIN, why)
+    message = "the plan isn't one of these inputs" if form is PLAN else "the certificate isn't one of this log"
+    words = Words(message, form.again, why)
     return Explained(found(text.path, Place(), words, said.line), [])
 
 

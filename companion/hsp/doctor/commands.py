@@ -5,14 +5,7 @@ from __future__ import annotations
 from dataclasses import dataclass
 from typing import NamedTuple
 
-from hsp.base.grammar import COMMANDS, VALUES
-
-
-def shown(command: str) -> str:
-    """The form of a command, as a manual page shows it."""
-    takes = COMMANDS[command]
-    words = [f"--{name} {VALUES[name]}" for name in takes.needed]
-    return " ".join([takes.program, command, *words, *([takes.last.upper()] if takes.last else [])])
+from hsp.base.grammar import COMMANDS, VALUES, Command, program_of
 
 
 class Word(NamedTuple):
@@ -34,6 +27,18 @@ class Line:
     def command(self) -> str:
         return self.words[0].text if self.words else ""
 
+    @property
+    def takes(self) -> Command:
+        """What the command takes, where the program has it."""
+        return COMMANDS[self.program][self.command]
+
+
+def shown(line: Line) -> str:
+    """The form of the line's command, as a manual page shows it."""
+    takes = line.takes
+    words = [f"--{name} {VALUES[name]}" for name in takes.needed]
+    return " ".join([line.program, line.command, *words, *([takes.last.upper()] if takes.last else [])])
+
 
 def line_of(words: list[str]) -> Line:
     """The words in a line. The name of the program may stand in front; otherwise the command says which it is."""
@@ -41,8 +46,7 @@ def line_of(words: list[str]) -> Line:
     program = ""
     if own and own[0].rpartition("/")[2] in ("hsplan", "hsplan-stream"):
         program = own.pop(0).rpartition("/")[2]
-    takes = COMMANDS.get(own[0]) if own else None
-    program = program or (takes.program if takes else "hsplan")
+    program = program or program_of(own[0] if own else "") or "hsplan"
     text, placed = program, []
     for word in own:
         placed.append(Word(word, len(text) + 1))

@@ -7,7 +7,7 @@ import subprocess
 from collections.abc import Callable
 from dataclasses import replace
 
-from hsp.base.grammar import COMMANDS, FILES, HEADERS
+from hsp.base.grammar import FILES, HEADERS
 from hsp.base.programs import Programs, program, run
 from hsp.base.text import is_utf8
 from hsp.doctor import (
@@ -251,8 +251,11 @@ def _without_faulty(question: Question, table: str, result: Diagnosis) -> Questi
 
 
 def without_answers(question: Question) -> Question:
-    """Only the planning of a question: of a command whose plan or log can't be read, the inputs still can."""
-    if question.command not in ("check", "dispatch", "report", "answer", "plan"):
+    """Only the planning of a question: of a command whose plan or log can't be read, the inputs still can.
+
+    A check by prices has no demand, and reads its other inputs first.
+    """
+    if question.command not in ("check", "dispatch", "report", "answer", "plan") or "demand" not in question.files:
         return question
     files = {role: draft for role, draft in question.files.items() if role not in ("plan", "log", "file")}
     if "values" in question.absent:
@@ -263,14 +266,13 @@ def without_answers(question: Question) -> Question:
 def question_of(programs: Programs, line: Line) -> Question:
     """The question that the words of a line ask."""
     options, others = split(line)
-    command = COMMANDS[line.command]
     values: dict[str, str] = {}
     for option in options:
         if option.name in FILES and option.value is not None:
             values.setdefault(option.name, option.value)
     files = {name: draft_of(programs, value) for name, value in values.items()}
     rest = tuple(f"--{option.name}={option.value}" for option in options if option.name not in FILES)
-    if command.last == "file" and others:
+    if line.takes.last == "file" and others:
         files["file"] = draft_of(programs, others[0].text)
     return Question(programs, line.command, files, rest, tuple(word.text for word in others), line.program)
 

@@ -19,7 +19,7 @@ from hsp.doctor.findings import Finding, Text, encoded, read_text
 from hsp.doctor.rows import Row, joined, table_of
 
 # The files in the order in which hsplan reads them.
-ORDER = ("settings", "values", "demand", "costs", "capacity", "plan", "log", "file")
+ORDER = ("settings", "values", "demand", "costs", "capacity", "plan", "prices", "log", "file")
 STANDS_IN = {"settings": ""} | {role: f"{header}\n" for role, header in HEADERS.items()}
 
 

@@ -6,7 +6,6 @@ import os
 from collections import defaultdict
 from collections.abc import Iterator
 
-from hsp.base.grammar import COMMANDS
 from hsp.base.numbers import some
 from hsp.base.programs import Inputs
 from hsp.base.spelling import near
@@ -26,7 +25,7 @@ LOOKED_AT = 1 << 20
 
 def of_handle(line: Line) -> Iterator[Finding]:
     """A handle among the words that isn't bare."""
-    for word in split(line)[1] if COMMANDS[line.command].last == "handle" else []:
+    for word in split(line)[1] if line.takes.last == "handle" else []:
         message, group = handle_words(word.text)
         if message:
             place = Place(1, word.column + 1, len(word.text), line.text)

@@ -15,6 +15,7 @@ from hsp.base.grammar import (
     MOST_SERVERS,
     VALUES,
     Command,
+    program_of,
 )
 from hsp.base.paths import shell_word
 from hsp.base.spelling import near
@@ -40,17 +41,17 @@ def at_word(line: Line, word: Word | None, words: Words) -> Finding:
 def command_fault(line: Line) -> Finding | None:
     """A command that isn't there, or is another program's."""
     if not line.words:
-        which = [name for name, takes in COMMANDS.items() if takes.program == line.program]
-        return at_word(line, None, Words("no command", f"write one of {', '.join(which)} behind {line.program}", ""))
+        listed = ", ".join(COMMANDS[line.program])
+        return at_word(line, None, Words("no command", f"write one of {listed} behind {line.program}", ""))
     command, first = line.command, line.words[0]
     if command in HELP and line.program == "hsplan":
         remedy = "hsplan-stream --version prints it" if command in VERSION else "man hsplan is its help"
         return at_word(line, first, Words(f"hsplan has no {command}", remedy, "it takes commands only"))
-    own = [name for name, takes in COMMANDS.items() if takes.program == line.program]
+    own = list(COMMANDS[line.program])
     if command in own:
         return None
-    if command in COMMANDS:
-        other = COMMANDS[command].program
+    other = program_of(command)
+    if other:
         message = f"{line.program} has no command {command}"
         return at_word(line, first, Words(message, f"write {other} {command}", f"it is a command of {other}"))
     if command.startswith("-"):
@@ -66,8 +67,8 @@ def command_fault(line: Line) -> Finding | None:
         return at_word(line, first, words)
     if command == "hsp":
         return at_word(line, first, _of_companion(line))
-    meant = near(command, own, 0.6) or near(command, COMMANDS, 0.6)
-    remedy = f"write {meant}" if meant in own else f"write {COMMANDS[meant].program} {meant}" if meant else ""
+    meant = near(command, own, 0.6) or near(command, [name for it in COMMANDS.values() for name in it], 0.6)
+    remedy = f"write {meant}" if meant in own else f"write {program_of(meant)} {meant}" if meant else ""
     remedy = remedy or f"write one of {', '.join(own)}"
     return at_word(
         line, first, Words(f"no command {quoted(command)}", remedy, "", f"did you mean {meant}?" if meant else "")
@@ -93,10 +94,20 @@ def meant_by(name: str, takes: Command, taken: set[str]) -> str:
     return near(name, free, 0.6) or (start[0] if len(start) == 1 else "")
 
 
+def with_option(option: str, command: str) -> list[str]:
+    """The commands that have an option, with their program where a name by itself stands for another command."""
+    return [
+        name if program == program_of(name) and name != command else f"{program} {name}"
+        for program, own in COMMANDS.items()
+        for name, takes in own.items()
+        if option in takes.options
+    ]
+
+
 def _unknown_option(line: Line, takes: Command, option: Option, taken: set[str]) -> Finding:
     command = line.command
     meant = meant_by(option.name, takes, taken)
-    elsewhere = [name for name, other in COMMANDS.items() if option.name in other.options]
+    elsewhere = with_option(option.name, command)
     if option.name in ("h", "help"):
         words = Words(
             f"{command} has no {option.word.text}", f"man {takes.program} is its help", "it takes files only"
@@ -105,7 +116,9 @@ def _unknown_option(line: Line, takes: Command, option: Option, taken: set[str])
         words = Words(f"no option {option.word.text}", f"write --{meant}", "", f"did you mean --{meant}?")
     elif elsewhere:
         message = f"{command} has no option --{option.name}"
-        words = Words(message, "take it out with its value", f"it is an option of {', '.join(elsewhere)}")
+        namesake = next((f"write {name}, or " for name in elsewhere if name.endswith(f" {command}")), "")
+        remedy = f"{namesake}take it out with its value"
+        words = Words(message, remedy, f"it is an option of {', '.join(elsewhere)}")
     else:
         words = Words(
             f"no option {option.word.text}", f"take it out; {command} has --{', --'.join(takes.options)}", ""
@@ -155,7 +168,7 @@ def _missing(line: Line, takes: Command, options: list[Option]) -> Iterator[Find
         listed = " and ".join(f"--{name}" for name in lacking)
         values = " ".join(f"--{name} {'FILE' if name in FILES else 'load'}" for name in lacking)
         message = f"{line.command} needs {listed} too"
-        yield at_word(line, None, Words(message, f"write {values} behind it", f"the form is {shown(line.command)}"))
+        yield at_word(line, None, Words(message, f"write {values} behind it", f"the form is {shown(line)}"))
     if line.command == "faults" and len(names & set(takes.options)) != 1:
         choices = " or ".join(f"--{option} FILE" for option in takes.options)
         yield at_word(line, None, Words("faults reads one file", f"write one of {choices}", "a table, or a log"))
@@ -193,9 +206,7 @@ def _other_words(line: Line, takes: Command, options: list[Option], others: list
     if len(others) < wanted:
         example = "20.500.1234/report-2024" if takes.last == "handle" else "FILE"
         message = f"the {takes.last} is missing"
-        yield at_word(
-            line, None, Words(message, f"write {example} as the last word", f"the form is {shown(line.command)}")
-        )
+        yield at_word(line, None, Words(message, f"write {example} as the last word", f"the form is {shown(line)}"))
     given = {option.name for option in options}
     for other in others[wanted:]:
         meant = near(other.text.split(".")[0], takes.options, 0.6)
@@ -218,7 +229,7 @@ def usage(line: Line) -> list[Finding]:
     wrong = command_fault(line)
     if wrong:
         return [wrong]
-    takes = COMMANDS[line.command]
+    takes = line.takes
     options, others = split(line)
     faults = list(_option_faults(line, takes, options))
     faults += _other_words(line, takes, options, others)
@@ -226,14 +237,14 @@ def usage(line: Line) -> list[Finding]:
         faults += _missing(line, takes, options)
     if not faults:
         message = "these words are no command"
-        words = Words(message, f"compare with {shown(line.command)}", "an option is missing, misspelt, or twice")
+        words = Words(message, f"compare with {shown(line)}", "an option is missing, misspelt, or twice")
         faults = [at_word(line, None, words)]
     return faults
 
 
 def not_utf8(line: Line, word: Word) -> Finding:
     """A word that hsplan doesn't take, since it isn't UTF-8."""
-    is_handle = COMMANDS[line.command].last == "handle" and word in split(line)[1]
+    is_handle = line.takes.last == "handle" and word in split(line)[1]
     remedy = "write it in UTF-8: iconv -f latin1 -t utf-8" if is_handle else "rename the file, or go into its folder"
     return at_word(line, word, Words(f"{quoted(word.text)} isn't UTF-8", remedy, "hsplan takes words in UTF-8"))
 

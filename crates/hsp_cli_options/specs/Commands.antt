@@ -45,6 +45,11 @@ stream_commands = (
           ∷ option (codes "fronts") ∷ option (codes "front") ∷ [],
     )
     ∷ (
+      codes "check",
+      needed (codes "settings") ∷ option (codes "values") ∷ needed (codes "costs") ∷ needed (codes "capacity")
+          ∷ needed (codes "log") ∷ needed (codes "prices") ∷ [],
+    )
+    ∷ (
       codes "faults",
       option (codes "demand") ∷ option (codes "costs") ∷ option (codes "capacity") ∷ option (codes "log") ∷ [],
     )

@@ -28,6 +28,7 @@ pub(crate) struct Subcommand<'a> {
 // --costs FILE: costs from regions to sites, CSV
 // --capacity FILE: capacities of servers, CSV
 // --plan FILE: a certificate
+// --prices FILE: a certificate by prices
 // --log FILE: a log, CSV
 // --option na|local|handle: what the site hashes
 // --servers N: number of servers
@@ -86,7 +87,7 @@ pub(crate) const COMMANDS: [Subcommand<'static>; 6] = [
 ];
 
 /// The commands of `hsplan-stream`.
-pub(crate) const STREAM_COMMANDS: [Subcommand<'static>; 4] = [
+pub(crate) const STREAM_COMMANDS: [Subcommand<'static>; 5] = [
     Subcommand {
         name: "kinds",
         inputs: &[Needed("settings"), Optional("values"), Needed("costs")],
@@ -107,6 +108,16 @@ pub(crate) const STREAM_COMMANDS: [Subcommand<'static>; 4] = [
             Optional("fronts"),
             Optional("front"),
         ],
+    },
+    Subcommand {
+        name: "check",
+        inputs: &[
+            Needed("settings"),
+            Optional("values"),
+            Needed("costs"),
+            Needed("capacity"),
+        ],
+        others: &[Needed("log"), Needed("prices")],
     },
     Subcommand {
         name: "faults",

@@ -11,6 +11,7 @@ use Rattle.hsp_cli_orders.specs.declared.fault.CommandFault.TheVariants as fault
 use Rattle.hsp_cli_orders.specs.declared.stream_order.FaultsOf.{FaultsOf}
 use Rattle.hsp_cli_orders.specs.declared.stream_order.FaultsOf.TheVariants as of
 use Rattle.hsp_cli_orders.specs.declared.stream_order.FrontWords.{FrontWords}
+use Rattle.hsp_cli_orders.specs.declared.stream_order.PriceFiles.{PriceFiles}
 use Rattle.hsp_cli_orders.specs.declared.stream_order.StreamOrder.{StreamOrder}
 use Rattle.hsp_cli_orders.specs.declared.stream_order.StreamOrder.TheVariants as order
 
@@ -36,6 +37,14 @@ abbrev pub HasFront : List Row → Option FrontWords → Type 0
 HasFront rows None = (first_of (codes "fronts") rows ≡ None) × (first_of (codes "front") rows ≡ None)
 HasFront rows (Some words) =
     (first_of (codes "fronts") rows ≡ Some words.fronts) × (first_of (codes "front") rows ≡ Some words.front)
+
+-- a certificate by prices, and what it is checked by, but for the log
+pub record HasPriceFiles (rows : List Row) (files : PriceFiles) : Type 0 where
+  pub settings : first_of (codes "settings") rows ≡ Some files.settings
+  pub values : first_of (codes "values") rows ≡ files.values
+  pub costs : first_of (codes "costs") rows ≡ Some files.costs
+  pub capacity : first_of (codes "capacity") rows ≡ Some files.capacity
+  pub prices : first_of (codes "prices") rows ≡ Some files.prices
 
 -- just this one of the four files is given
 abbrev pub IsOnly : FaultsOf → List ℕ → List Row → Type 0
@@ -69,6 +78,8 @@ IsStreamOrderIn (order.Answer inputs plan log unit front) name rows =
     (name ≡ codes "answer") × HasInputs rows inputs × (first_of (codes "plan") rows ≡ Some plan)
     × (first_of (codes "log") rows ≡ Some log)
     × (first_of (codes "unit") rows ≡ unit) × HasFront rows front
+IsStreamOrderIn (order.Check files log) name rows =
+    (name ≡ codes "check") × HasPriceFiles rows files × (first_of (codes "log") rows ≡ Some log)
 IsStreamOrderIn (order.Faults of file) name rows = (name ≡ codes "faults") × IsOnly of file rows
 
 -- the order of what clap's matches give

@@ -9,6 +9,17 @@ pub struct FrontWords<'a> {
     pub front: Word<'a>,
 }
 
+/// A certificate by prices, and what it is checked by, but for the log:
+/// `--settings F [--values F] --costs F --capacity F --prices F`.
+#[derive(Debug, Drop)]
+pub struct PriceFiles<'a> {
+    pub settings: Word<'a>,
+    pub values: Option<Word<'a>>,
+    pub costs: Word<'a>,
+    pub capacity: Word<'a>,
+    pub prices: Word<'a>,
+}
+
 /// What is looked at for faulty rows.
 #[derive(Clone, Copy, Debug, PartialEq, Eq)]
 pub enum FaultsOf {
@@ -50,6 +61,11 @@ pub enum StreamOrder<'a> {
         log: Word<'a>,
         unit: Option<Word<'a>>,
         front: Option<FrontWords<'a>>,
+    },
+    /// `check` with a certificate by prices, the files that it is checked by, and `--log F`
+    Check {
+        files: PriceFiles<'a>,
+        log: Word<'a>,
     },
     /// `faults` with one of `--demand F`, `--costs F`, `--capacity F` and `--log F`
     Faults {

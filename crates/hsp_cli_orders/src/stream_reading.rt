@@ -4,16 +4,17 @@ ghost use Rattle.std.specs.Prelude.{◌≡◌, [], IfNone, IfOk, IfSome, OnOk, E
 ghost use Rattle.std.specs.Prelude.{string_bytes};
 ghost use Rattle.clap.specs.Words.{fault_of, found_of, rows_of, subcommand_of};
 ghost use Rattle.hsp_cli_options.specs.Commands.{stream_app};
-ghost use Rattle.hsp_cli_orders.specs.StreamOrders.{HasFront, IsStreamOrder, IsStreamOrderIn, IsStreamOrdered};
-ghost use Rattle.hsp_cli_orders.specs.StreamOrders.{IsStreamUsage, asked, is_help, is_version};
+ghost use Rattle.hsp_cli_orders.specs.StreamOrders.{HasFront, HasPriceFiles, IsStreamOrder, IsStreamOrderIn};
+ghost use Rattle.hsp_cli_orders.specs.StreamOrders.{IsStreamOrdered, IsStreamUsage, asked, is_help, is_version};
 ghost use Rattle.hsp_cli_orders.specs.declared.fault.CommandFault.TheVariants as fault;
 ghost use Rattle.hsp_cli_orders.specs.declared.stream_order.FrontWords.{FrontWords};
+ghost use Rattle.hsp_cli_orders.specs.declared.stream_order.PriceFiles.{PriceFiles};
 ghost use Rattle.hsp_cli_orders.specs.declared.stream_order.StreamOrder.{StreamOrder};
 ghost use Rattle.std.specs.Prelude.{Option};
 
 use crate::fault::CommandFault;
 use crate::reading::{command_fault, inputs_of, word_of};
-use crate::stream_order::{FaultsOf, FrontWords, StreamOrder};
+use crate::stream_order::{FaultsOf, FrontWords, PriceFiles, StreamOrder};
 use clap::ArgMatches;
 use hsp_cli_options::stream_command;
 use std::alloc::Global;
@@ -100,6 +101,34 @@ fn answer_of<'a>(matches: &ArgMatches<'a>) -> Option<StreamOrder<'a>>
 }
 
 // The one file that is given, if there is just one.
+// The names of a certificate by prices and of what it is checked by, or None where one is absent.
+fn price_files_of<'a>(matches: &ArgMatches<'a>) -> Option<PriceFiles<'a>>
+    ensures given { IfSome result
+        (λ files. HasPriceFiles (rows_of (found_of matches.now)) files) }
+    ensures absent { IfNone result ((files : PriceFiles)
+        → HasPriceFiles (rows_of (found_of matches.now)) files → ⊥) }
+{
+    Some(PriceFiles {
+        settings: word_of(matches, "settings")?,
+        values: word_of(matches, "values"),
+        costs: word_of(matches, "costs")?,
+        capacity: word_of(matches, "capacity")?,
+        prices: word_of(matches, "prices")?,
+    })
+}
+
+fn check_of<'a>(matches: &ArgMatches<'a>) -> Option<StreamOrder<'a>>
+    ensures order { IfSome result (λ order.
+        IsStreamOrderIn order (codes "check") (rows_of (found_of matches.now))) }
+    ensures none { IfNone result ((order : StreamOrder)
+        → IsStreamOrderIn order (codes "check") (rows_of (found_of matches.now)) → ⊥) }
+{
+    Some(StreamOrder::Check {
+        files: price_files_of(matches)?,
+        log: word_of(matches, "log")?,
+    })
+}
+
 fn faults_of<'a>(matches: &ArgMatches<'a>) -> Option<StreamOrder<'a>>
     ensures order { IfSome result (λ order.
         IsStreamOrderIn order (codes "faults") (rows_of (found_of matches.now))) }
@@ -133,6 +162,7 @@ fn form_of<'a>(name: &str, matches: &ArgMatches<'a>) -> Option<StreamOrder<'a>>
         "kinds" => kinds_of(matches),
         "places" => places_of(matches),
         "answer" => answer_of(matches),
+        "check" => check_of(matches),
         "faults" => faults_of(matches),
         _ => None,
     }
