@@ -24,7 +24,7 @@ use Rattle.hsp_kinds.proofs.ByTables.{in_rows, links_are, no_row, row_at}
 use Rattle.hsp_price_text.specs.Claim.{Best, is_best}
 use Rattle.hsp_classes.specs.Least.{arcs_of, host_at, least_of, pay_over, price_at}
 use Rattle.hsp_classes.specs.Shown.{IsService}
-use Rattle.hsp_classes.specs.Sums.{cost_in_all, host_load_at, load_at}
+use Rattle.hsp_classes.specs.Sums.{cost_in_all, host_load_at, least_pay, load_at}
 use Rattle.hsp_classes.specs.Verdict.{PlanMeets}
 use Rattle.hsp_classes.specs.declared.verdict.PriceReason.{PriceReason}
 use Rattle.hsp_classes.specs.declared.verdict.PriceReason.TheVariants as reason
@@ -33,7 +33,7 @@ use Rattle.hsp_classes.proofs.Flows.{class_table, flow, loads, total_cost}
 use Rattle.hsp_classes.proofs.GivenClasses.{given_classes}
 use Rattle.hsp_classes.proofs.LeastPay.{all_pay}
 use Rattle.hsp_classes.proofs.Lists.{same_sum, sum_map}
-use Rattle.hsp_classes.proofs.Networks.{network_there, pays}
+use Rattle.hsp_classes.proofs.Networks.{network_there}
 use Rattle.hsp_classes.proofs.Once.{sum_none}
 use Rattle.hsp_classes.proofs.Served.{sends_all}
 use Rattle.hsp_classes.proofs.Sites.{at_own_site}
@@ -159,7 +159,7 @@ module _ (at : Service) (plan : Best) (rows : List Row) where
 
       -- each row of the table pays the same over all its arcs
       paid : (P : ℕ → Link → Type 0)
-          → ((k : ℕ) (a : Arc) → slice_index (map (pays at plan) table) k ≡ pay_over at plan a → P k (link a))
+          → ((k : ℕ) (a : Arc) → slice_index (map (least_pay at plan) table) k ≡ pay_over at plan a → P k (link a))
           → All (λ a. P a.row (link_of site_of (transport of_classes) a)) of_classes.arcs
       paid P so =
           of_all site_of (transport of_classes) P (length of_classes.demands) of_classes.arcs classes_network.sources
@@ -167,22 +167,22 @@ module _ (at : Service) (plan : Best) (rows : List Row) where
           let inside = in_rows at (least_of at plan) table k l in
           subst (All (P k)) (sym (links_are at (least_of at plan) table k inside))
           (All-map (P k) link (least_of at plan (row_at table k))
-          (All-weaker (λ (a : Arc). pays at plan (row_at table k) ≡ pay_over at plan a) (λ (a : Arc). P k (link a))
-          (λ a e. so k a (get_or-map (pays at plan) table k no_row 0 inside ∙ e))
+          (All-weaker (λ (a : Arc). least_pay at plan (row_at table k) ≡ pay_over at plan a) (λ (a : Arc). P k (link a))
+          (λ a e. so k a (get_or-map (least_pay at plan) table k no_row 0 inside ∙ e))
           (least_of at plan (row_at table k))
           (all_pay (pay_over at plan) (arcs_of at (row_at table k))))))
 
       -- the plan has the certificate's prices
       pub class_prices :
-          Prices of_classes class_plan (map (pays at plan) table) plan.server_prices plan.host_prices
+          Prices of_classes class_plan (map (least_pay at plan) table) plan.server_prices plan.host_prices
       class_prices = record {
         below =
-            paid (λ i b. slice_index (map (pays at plan) table) i ≤ b.cost + price_at at plan b.server)
+            paid (λ i b. slice_index (map (least_pay at plan) table) i ≤ b.cost + price_at at plan b.server)
             (λ k a e. omega (arith, e));
         used =
             paid
             (λ i b. 0 < class_plan i b.site
-            → slice_index (map (pays at plan) table) i ≡ b.cost + price_at at plan b.server)
+            → slice_index (map (least_pay at plan) table) i ≡ b.cost + price_at at plan b.server)
             (λ k a e some. e);
         idle = λ j l less.
             (meets reason.IdlePrice).0 j (omega (arith, l, length-map at.servers (λ (s : Server). s.capacity)))

@@ -9,13 +9,9 @@ use Rattle.hsp_instance.specs.declared.arc.Arc.{Arc}
 use Rattle.hsp_check.specs.declared.arc.NetworkArc.{NetworkArc}
 use Rattle.hsp_check.specs.Instance.{arc_of, arcs_from}
 use Rattle.hsp_classes.specs.Least.{is_least, least_arcs}
+use Rattle.hsp_classes.specs.Sums.{first_pay}
 use Rattle.hsp_classes.proofs.Lists.{same_kept}
 use Rattle.hsp_classes.proofs.Sites.{found_by_site}
-
--- what the first of some arcs pays, or 0 where there is none
-abbrev pub first_pay : (Arc → ℕ) → List Arc → ℕ
-first_pay pay [] = 0
-first_pay pay (a ∷ arcs) = pay a
 
 module _ (pay : Arc → ℕ) (arcs : List Arc) where
   -- an arc pays no more than any

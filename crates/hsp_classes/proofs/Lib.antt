@@ -11,5 +11,6 @@ mod Flows
 mod Served
 mod Networks
 mod ClassPlan
+mod Paid
 mod Shown
 mod Short

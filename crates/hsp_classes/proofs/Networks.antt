@@ -25,15 +25,12 @@ use Rattle.hsp_prices.specs.Classes.{Keep}
 use Rattle.hsp_prices.specs.Kept.{kept}
 use Rattle.hsp_classes.specs.Least.{arcs_of, is_least, least_of, pay_over, price_at}
 use Rattle.hsp_classes.specs.Shown.{IsService}
+use Rattle.hsp_classes.specs.Sums.{first_pay, least_pay}
 use Rattle.hsp_classes.proofs.ClassKinds.{by_class, classes_are_kinds, least_ascend, same_least}
 use Rattle.hsp_classes.proofs.Flows.{class_table}
-use Rattle.hsp_classes.proofs.LeastPay.{first_pay, kept_by_site, kept_rows, leads, no_less}
+use Rattle.hsp_classes.proofs.LeastPay.{kept_by_site, kept_rows, leads, no_less}
 use Rattle.hsp_classes.proofs.ServerArcs.{IsOwn, own_arcs}
 use Rattle.hsp_classes.proofs.Sites.{one_to_site}
-
--- what a row pays
-abbrev pub pays : Service → Best → Row → ℕ
-pays at plan row = first_pay (pay_over at plan) (least_of at plan row)
 
 module _ (at : Service) (is : IsService at) where
   -- each host of a server is a listed one
@@ -131,30 +128,31 @@ module _ (at : Service) (plan : Best) (rows : List Row) where
 
     -- each row pays what its class pays
     pub class_pays :
-        ArePricesOfKinds (network_for at rows) class_of (map (pays at plan) rows)
-        (map (pays at plan) (class_table at plan rows))
+        ArePricesOfKinds (network_for at rows) class_of (map (least_pay at plan) rows)
+        (map (least_pay at plan) (class_table at plan rows))
     class_pays i l =
         let inside = in_rows at (arcs_of at) rows i l in
         let there = place_there (by_class at plan) (classes_are_kinds at plan) (λ a b. refl) rows i inside in
         let same = place_same (by_class at plan) (classes_are_kinds at plan) (λ a b. refl) rows i inside in
-        get_or-map (pays at plan) rows i no_row 0 inside
+        get_or-map (least_pay at plan) rows i no_row 0 inside
         ∙ ap (first_pay (pay_over at plan))
         (sym (same_least at plan is (row_at (class_table at plan rows) (class_of i)) (row_at rows i) same))
-        ∙ sym (get_or-map (pays at plan) (class_table at plan rows) (class_of i) no_row 0 there)
+        ∙ sym (get_or-map (least_pay at plan) (class_table at plan rows) (class_of i) no_row 0 there)
 
     -- no row pays more than over any of its arcs
     pub pays_low :
-        HasNoNegativeReducedCost (network_for at rows) 1 (map (pays at plan) rows) plan.server_prices plan.host_prices
+        HasNoNegativeReducedCost (network_for at rows) 1 (map (least_pay at plan) rows) plan.server_prices
+        plan.host_prices
     pays_low =
         of_all site_of (transport (network_for at rows)) Low (length (network_for at rows).demands)
         (network_for at rows).arcs (network_there at is (arcs_of at) (own_arcs at is) rows).sources (λ i l.
         let inside = in_rows at (arcs_of at) rows i l in
         subst (All (Low i)) (sym (links_are at (arcs_of at) rows i inside))
         (All-map (Low i) link (arcs_of at (row_at rows i))
-        (All-weaker (λ (a : Arc). pays at plan (row_at rows i) ≤ pay_over at plan a) (λ (a : Arc). Low i (link a))
-        (λ a low. omega (arith, low, get_or-map (pays at plan) rows i no_row 0 inside, one-mul a.cost))
+        (All-weaker (λ (a : Arc). least_pay at plan (row_at rows i) ≤ pay_over at plan a) (λ (a : Arc). Low i (link a))
+        (λ a low. omega (arith, low, get_or-map (least_pay at plan) rows i no_row 0 inside, one-mul a.cost))
         (arcs_of at (row_at rows i))
         (no_less (pay_over at plan) (arcs_of at (row_at rows i))))))
       where
         Low : ℕ → Link → Type 0
-        Low i a = slice_index (map (pays at plan) rows) i ≤ 1 * a.cost + price_at at plan a.server
+        Low i a = slice_index (map (least_pay at plan) rows) i ≤ 1 * a.cost + price_at at plan a.server

@@ -7,14 +7,16 @@ use Rattle.hsp_prices.specs.Classes.{IsPlanByClasses}
 use Rattle.hsp_prices.proofs.Spread.{classes_show_best}
 use Rattle.hsp_classes.specs.Least.{arcs_of}
 use Rattle.hsp_classes.specs.Shown.{IsService, PlanIsShown}
+use Rattle.hsp_classes.specs.Sums.{least_pay}
 use Rattle.hsp_classes.specs.Verdict.{PlanMeets}
 use Rattle.hsp_classes.specs.declared.verdict.PriceReason.{PriceReason}
 use Rattle.hsp_classes.specs.declared.verdict.PriceReason.TheVariants.{Cost}
 use Rattle.hsp_classes.proofs.ClassPlan.{class_plan, class_plan_feasible, class_prices, classes_network, host_load_is}
 use Rattle.hsp_classes.proofs.ClassPlan.{load_is, of_classes, total_is}
 use Rattle.hsp_classes.proofs.Flows.{class_table}
-use Rattle.hsp_classes.proofs.Networks.{are_classes, class_of, class_pays, keeps_least, network_there, one_least, pays}
+use Rattle.hsp_classes.proofs.Networks.{are_classes, class_of, class_pays, keeps_least, network_there, one_least}
 use Rattle.hsp_classes.proofs.Networks.{pays_low}
+use Rattle.hsp_classes.proofs.Paid.{paid_is}
 use Rattle.hsp_classes.proofs.ServerArcs.{own_arcs}
 
 module _ (at : Service) (plan : Best) (rows : List Row) (is : IsService at) (fits : is_best plan ≡ true)
@@ -22,7 +24,7 @@ module _ (at : Service) (plan : Best) (rows : List Row) (is : IsService at) (fit
   -- the plan of the classes is one by classes
   by_classes :
       IsPlanByClasses (network_for at rows) (of_classes at plan rows) (keeps_least at plan rows) (class_of at plan rows)
-      (class_plan at plan rows) (map (pays at plan) rows) (map (pays at plan) (class_table at plan rows))
+      (class_plan at plan rows) (map (least_pay at plan) rows) (map (least_pay at plan) (class_table at plan rows))
       plan.server_prices plan.host_prices
   by_classes = record {
     classes = are_classes at plan rows is;
@@ -38,7 +40,7 @@ pub plan_is_shown : PlanIsShown
 plan_is_shown at rows plan is fits meets =
     let shown =
     classes_show_best (network_for at rows) (of_classes at plan rows) (keeps_least at plan rows) (class_of at plan rows)
-    (class_plan at plan rows) (map (pays at plan) rows) (map (pays at plan) (class_table at plan rows))
+    (class_plan at plan rows) (map (least_pay at plan) rows) (map (least_pay at plan) (class_table at plan rows))
     plan.server_prices plan.host_prices (network_there at is (arcs_of at) (own_arcs at is) rows)
     (classes_network at plan rows is) (by_classes at plan rows is fits meets) in (
       shown.0,
@@ -47,5 +49,6 @@ plan_is_shown at rows plan is fits meets =
         cost = shown.2.total ∙ total_is at plan rows is fits meets ∙ sym (meets Cost);
         loads = λ j. shown.2.load j ∙ load_is at plan rows is fits meets j;
         host_loads = λ h. shown.2.host_load h ∙ host_load_is at plan rows is fits meets h;
+        bound = paid_is at plan is rows fits meets;
       },
     )

@@ -1,6 +1,6 @@
 -- What a valid certificate by prices shows of rows of demand.
-use Rattle.std.specs.Prelude.{◌≡◌, ℕ, List, length}
-use Rattle.hsp_instance.specs.Instance.{AreHosts, AreServers, AreSites, Row}
+use Rattle.std.specs.Prelude.{◌≡◌, ℕ, ◌+◌, List, length, map}
+use Rattle.hsp_instance.specs.Instance.{AreHosts, AreServers, AreSites, Host, Row}
 use Rattle.hsp_check.specs.Plan.{Best as BestPlan, Feasible, Plan, host_load, load, total}
 use Rattle.hsp_check.specs.Verdict.{is_one_of}
 use Rattle.hsp_kinds.specs.Rows.{Service, network_for}
@@ -8,7 +8,8 @@ use Rattle.hsp_price_text.specs.Certificate.{IsCertificate}
 use Rattle.hsp_price_text.specs.Claim.{Best, Short}
 use Rattle.hsp_price_text.specs.declared.certificate.PriceCertificate.TheVariants as certificate
 use Rattle.hsp_prices.specs.ServerSets.{AreShort}
-use Rattle.hsp_classes.specs.Sums.{host_load_at, load_at}
+use Rattle.hsp_transport.specs.Sums.{times}
+use Rattle.hsp_classes.specs.Sums.{host_load_at, load_at, paid_in_all}
 use Rattle.hsp_classes.specs.Verdict.{IsVerdict}
 use Rattle.hsp_classes.specs.declared.verdict.PriceVerdict.TheVariants.{Yes}
 
@@ -18,13 +19,20 @@ pub record IsService (at : Service) : Type 0 where
   pub hosts : AreHosts at.hosts
   pub servers : AreServers at.sites (length at.hosts) at.servers
 
--- the plan is a best one of the rows, costs what the certificate says, and brings to each server and each host what the
--- certificate's rows and classes bring
+-- The plan is a best one of the rows, costs what the certificate says, and brings to each server and each host what the
+-- certificate's rows and classes bring. What the rows pay by the certificate's prices is what the plan costs and what
+-- full servers and hosts take (strong duality; Network Flows, section 9.4).
 pub record IsShownBy (at : Service) (rows : List Row) (plan : Best) (x : Plan) : Type 0 where
   pub best : BestPlan (network_for at rows) x
   pub cost : total (network_for at rows) x ≡ plan.cost
   pub loads : (j : ℕ) → load (network_for at rows) x j ≡ load_at at plan rows j
   pub host_loads : (h : ℕ) → host_load (network_for at rows) x h ≡ host_load_at at plan rows h
+  -- what the rows pay is what the plan costs and what full servers and hosts take
+  pub bound :
+      paid_in_all at plan rows
+      ≡ plan.cost
+      + (times (map (λ server. server.capacity) at.servers) plan.server_prices
+      + times (map (λ (host : Host). host.limit) at.hosts) plan.host_prices)
 
 -- Yes to the certificate of a plan shows a plan of the rows.
 abbrev pub PlanIsShown : Type 0

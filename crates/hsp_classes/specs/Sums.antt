@@ -1,6 +1,6 @@
--- What rows and classes bring to servers and cost. Each row goes to its least server, where it has only one; of the
--- rows of a class as many queries go to each of its servers as the class says.
-use Rattle.std.specs.Prelude.{ℕ, ◌+◌, ◌*◌, ◌==◌, List, sum_by, length, slice_get, Option, Some, None}
+-- What rows and classes bring to servers and cost, and what rows pay. Each row goes to its least server, where it has
+-- only one; of the rows of a class as many queries go to each of its servers as the class says.
+use Rattle.std.specs.Prelude.{ℕ, ◌+◌, ◌*◌, ◌==◌, List, [], ◌∷◌, sum_by, length, slice_get, Option, Some, None}
 use Rattle.std.specs.Prelude.{if◌then◌else◌}
 use Rattle.std.specs.List.{list_all, zip}
 use Rattle.hsp_instance.specs.Building.{cost_of}
@@ -11,7 +11,7 @@ use Rattle.hsp_check.specs.Verdict.{is_one_of}
 use Rattle.hsp_kinds.specs.Rows.{Service}
 use Rattle.hsp_price_text.specs.Claim.{Best, Class}
 use Rattle.hsp_transport.specs.Sums.{sum_below}
-use Rattle.hsp_classes.specs.Least.{arcs_of, host_at, is_of, least_of, only_arc}
+use Rattle.hsp_classes.specs.Least.{arcs_of, host_at, is_of, least_of, only_arc, pay_over}
 
 -- ---- what a query costs
 
@@ -81,6 +81,21 @@ host_load_at at plan rows h =
 -- what all of it costs
 abbrev pub cost_in_all : Service → Best → List Row → ℕ
 cost_in_all at plan rows = sum_by (row_cost at plan) rows + sum_by (class_cost at) plan.classes
+
+-- ---- what rows pay
+
+-- what a query pays over the first of some arcs, or 0 where there is none
+abbrev pub first_pay : (Arc → ℕ) → List Arc → ℕ
+first_pay pay [] = 0
+first_pay pay (arc ∷ arcs) = pay arc
+
+-- what a query of a row pays at least: what it pays over the first of its least arcs, or 0 where it has none
+abbrev pub least_pay : Service → Best → Row → ℕ
+least_pay at plan row = first_pay (pay_over at plan) (least_of at plan row)
+
+-- what the rows pay together
+abbrev pub paid_in_all : Service → Best → List Row → ℕ
+paid_in_all at plan rows = sum_by (λ row. row.count * least_pay at plan row) rows
 
 -- ---- a set of servers
 
