@@ -15,7 +15,6 @@ from hsp.base.programs import Bound, Certificate, Inputs, Missing, Programs
 from hsp.base.units import hosts_text, settings_text
 from hsp.plans.service import Row, Server, Service, dotted
 
-# The limits of hsplan within which a twin of each site can stand beside it.
 # At most so many full servers are asked what room there saves, those with the greatest prices.
 MOST_GAINS = 40
 

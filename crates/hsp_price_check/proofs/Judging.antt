@@ -143,6 +143,7 @@ module _ (at : Service) (plan : Best) (rows : List Row) (pass : PlanPass) (is : 
           let here : j < length at.servers = omega (arith, l, servers_many) in
           meets.0 j here (rw (← loads_are j here, ← is.numbers.capacities) less)
 
+      -- both of servers and of hosts
       pub idle_hosts : PlanMeets at rows plan IdlePrice → AreIdle pass.numbers.limits.items sums plan.host_prices
       idle_hosts meets h l less =
           let here : h < length at.hosts = omega (arith, l, many, hosts_many) in
@@ -158,6 +159,7 @@ module _ (at : Service) (plan : Best) (rows : List Row) (pass : PlanPass) (is : 
   pub meets_cost : plan.cost ≡ pass.sums.cost → PlanMeets at rows plan Cost
   meets_cost e = sym (exact (cost_in_all at plan rows) plan.cost cost_small (sym is.sums.cost ∙ sym e))
 
+  -- and only there
   pub cost_met : PlanMeets at rows plan Cost → plan.cost ≡ pass.sums.cost
   cost_met e =
       e ∙ sym (is.sums.cost

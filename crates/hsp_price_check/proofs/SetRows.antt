@@ -29,7 +29,8 @@ caught_by set flags count are (arc ∷ arcs) within =
     grind (arith, first, rest)
 
 -- what is kept of a sum goes on where a test passes
-more : (t : Bool) (x o n count : ℕ) → o ≡ capped x → n ≡ (if t then min (o + count) 340282366920938463463374607431768211455 else o)
+more : (t : Bool) (x o n count : ℕ) → o ≡ capped x
+    → n ≡ (if t then min (o + count) 340282366920938463463374607431768211455 else o)
     → n ≡ capped (x + (if t then count else 0))
 more true x o n count e f = omega arith
 more false x o n count e f = omega (arith, e, f)

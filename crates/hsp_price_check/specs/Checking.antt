@@ -30,7 +30,8 @@ IsJudge at claim rows (judge.Set pass) =
     (set : Short) × (claim ≡ certificate.Shortage set) × IsSetPass at set rows pass
 
 -- the check has passed over these rows, which name no more regions than they may
-pub record IsPassed (at : Service) (certificate : PriceCertificate) (rows : List Row) (check : PriceCheck) : Type 0 where
+pub record IsPassed (at : Service) (certificate : PriceCertificate) (rows : List Row)
+    (check : PriceCheck) : Type 0 where
   pub service : IsService at
   pub costs : AreCosts at.costs
   pub costs_are : check.arcs.costs ≡ at.costs

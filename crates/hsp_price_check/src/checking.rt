@@ -1,7 +1,8 @@
 // The check of a certificate by prices, row by row.
 
-ghost use Rattle.std.specs.Prelude.{◌≡◌, ◌⊎◌, ◌↔◌, ◌++◌, ◌∷◌, ◌<◌, [], All, IfErr, IfOk, IsTrue, List, OnOk, length};
-ghost use Rattle.std.specs.List.{AllByRecursion};
+ghost use Rattle.std.specs.Prelude.{◌≡◌, ◌⊎◌, ◌↔◌, ◌++◌, ◌∷◌, ◌<◌, [], All, IfErr, IfOk, IsTrue, List, OnOk, length, ◌≤◌, false, true};
+ghost use Rattle.std.specs.List.{AllByRecursion, list_any};
+ghost use Rattle.std.specs.Str.{bytes_eq};
 ghost use Rattle.hsp_names.specs.Lent.{octets_of};
 ghost use Rattle.hsp_instance.specs.Instance.{Row, regions_of};
 ghost use Rattle.hsp_instance.specs.RowArcs.{IsWithin, row_named};
@@ -44,8 +45,8 @@ pub(crate) enum Judge<'a> {
     Set(SetPass<'a>),
 }
 
-/// The check of a certificate by prices, in one pass over rows of any number. It holds servers, regions and classes, and
-/// no rows.
+/// The check of a certificate by prices, in one pass over rows of any number. It holds servers, regions and classes,
+/// and no rows.
 #[derive(Drop)]
 pub struct PriceCheck<'a> {
     arcs: RowArcs<'a>,
@@ -215,6 +216,17 @@ impl<'a> PriceCheck<'a> {
         })
     }
 
+    // Whether no row had the region, and there are as many regions as there may be.
+    fn has_no_room(&self, region: &[u8]) -> bool
+        ensures none { IsTrue result → (MOST_REGIONS ≤ length self.now.arcs.regions)
+            × (list_any (bytes_eq region.now) self.now.arcs.regions ≡ false) }
+        ensures room { result ≡ false
+            → (list_any (bytes_eq region.now) self.now.arcs.regions ≡ true)
+            ⊎ (length self.now.arcs.regions < MOST_REGIONS) }
+    {
+        self.arcs.regions() >= MOST_REGIONS && !self.arcs.knows(region)
+    }
+
     /// Passes over a row. The region is a name, and the count a whole number.
     ///
     /// The fault is TooManyRegions where the rows have 65 regions with this one. After a fault the check judges no
@@ -237,7 +249,7 @@ impl<'a> PriceCheck<'a> {
             → IsPassed at certificate rows self.old
             → HasTooMany (rows ++ row_named region.now (octets_of handle.entry) count ∷ [])))) }
     {
-        if self.arcs.regions() >= MOST_REGIONS && !self.arcs.knows(region) {
+        if self.has_no_room(region) {
             return Err(PassFault::TooManyRegions);
         }
         self.arcs.find(alloc, region, handle)?;

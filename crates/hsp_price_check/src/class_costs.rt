@@ -68,7 +68,8 @@ fn class_cost(instance: &Instance, costs: &Costs, class: &Class) -> u128
 
 /// What classes cost together.
 pub(crate) fn class_costs(instance: &Instance, costs: &Costs, classes: &[Class]) -> u128
-    requires { All (λ class. AreThere (service_of costs.now instance.now) class.servers) classes.now }
+    requires { All (λ class. AreThere (service_of costs.now instance.now) class.servers)
+        classes.now }
     ensures { result
         ≡ capped (sum_by (class_cost (service_of costs.now instance.now)) classes.now) }
 {

@@ -29,7 +29,7 @@ fn are_set(flags: &[bool]) -> bool
     true
 }
 
-// What the servers of a class get together. There are at most 1,024 amounts.
+// What the servers of a class get together.
 fn sent_by(class: &Class) -> u128
     ensures { result ≡ capped (sum class.now.amounts) }
 {

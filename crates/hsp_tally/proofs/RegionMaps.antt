@@ -100,7 +100,8 @@ pub added_place : (key : Vec ℕ Global) (found : Vec SiteHash Global) (es : Lis
     → option_map name_of
     (slice_get (insert_entry same es key found)
     (position_or_len (λ (k : Vec ℕ Global). bytes_eq key.items k.items) (keys_of es))) ≡ Some key.items
-added_place key found es = sym (slice_get-map name_of (insert_entry same es key found) _) ∙ names.added_place key found es
+added_place key found es =
+    sym (slice_get-map name_of (insert_entry same es key found) _) ∙ names.added_place key found es
 
 -- what stands at the place of a region are its sites
 pub known_sites : (costs : List CostEntry) (sites : List Site) (region : List ℕ) (found : List SiteHash)

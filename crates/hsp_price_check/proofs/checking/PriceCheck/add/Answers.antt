@@ -16,7 +16,6 @@ use Rattle.hsp_price_text.specs.declared.certificate.PriceCertificate.{PriceCert
 use Rattle.hsp_price_check.specs.Checking.{IsPassed}
 use Rattle.hsp_price_check.proofs.checking.PriceCheck.add.Goals as goal
 use Rattle.hsp_price_check.proofs.checking.PriceCheck.add.Goals.{After-arcs}
-use Rattle.hsp_price_check.proofs.checking.PriceCheck.add.Goals.{else-regions-ge-MOST_REGIONS-via-then-regions-ge-MOST_REGIONS+else-not-knows, else-regions-ge-MOST_REGIONS-via-else-regions-ge-MOST_REGIONS}
 
 -- the arcs that were found are the row's
 found : (c : After-arcs) (at : Service) (certificate : PriceCertificate) (rows : List Row)
@@ -46,12 +45,7 @@ returns-clause-passed c at certificate rows passed =
     let row = row_named c.args.region.now (octets_of c.args.handle) c.args.count in
     let known : (list_any (bytes_eq c.args.region.now) (regions_of rows) ≡ true)
     ⊎ (length (regions_of rows) < MOST_REGIONS) =
-    elim c.else-regions-ge-MOST_REGIONS.branch [
-      | else-regions-ge-MOST_REGIONS-via-then-regions-ge-MOST_REGIONS+else-not-knows w ↦
-          inl (rw (← passed.regions_are) (sym w.if-not-knows.ensures))
-      | else-regions-ge-MOST_REGIONS-via-else-regions-ge-MOST_REGIONS w ↦
-          inr (rw (← passed.regions_are) (omega (arith, w.if-regions-ge-MOST_REGIONS.false, c.regions.ensures)))
-    ] in
+    rw (← passed.regions_are) (c.has_no_room.ensures.room c.if-has_no_room.false) in
     record {
       service = passed.service;
       costs = passed.costs;

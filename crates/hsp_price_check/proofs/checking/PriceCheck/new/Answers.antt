@@ -2,7 +2,8 @@ use Rattle.std.proofs.Common.{◌∙◌, [], arith}
 use Rattle.hsp_price_check.specs.Checking.{IsJudge}
 use Rattle.hsp_price_check.specs.Classes.{service_of}
 use Rattle.hsp_price_check.proofs.checking.PriceCheck.new.Goals as goal
-use Rattle.hsp_price_check.proofs.checking.PriceCheck.new.Goals.{in-Plan+in_ok-judge-in-Plan, in-Shortage+in_ok-judge-in-Shortage}
+use Rattle.hsp_price_check.proofs.checking.PriceCheck.new.Goals.{in-Plan+in_ok-judge-in-Plan}
+use Rattle.hsp_price_check.proofs.checking.PriceCheck.new.Goals.{in-Shortage+in_ok-judge-in-Shortage}
 
 pub returns : goal.returns
 returns c =
