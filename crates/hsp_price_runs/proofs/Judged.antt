@@ -1,34 +1,22 @@
 -- The verdict on a certificate, from the rows of a log to the inputs.
-use Rattle.std.proofs.Common.{◌≡◌, ◌⊎◌, inl, inr, ℕ, List, [], Option, Result, Ok, Err, ap, refl, sym}
+use Rattle.std.proofs.Common.{ℕ, List, [], Option, Result, Ok, Err, refl, sym}
 use Rattle.hsp_csv.specs.Records.{Fields}
-use Rattle.hsp_tables.specs.Costs.{CostEntry}
 use Rattle.hsp_instance.specs.Instance.{Instance, Row}
 use Rattle.hsp_kinds.specs.Rows.{Service}
 use Rattle.hsp_price_text.specs.declared.certificate.PriceCertificate.{PriceCertificate}
 use Rattle.hsp_classes.specs.Verdict.{IsVerdict}
 use Rattle.hsp_classes.specs.declared.verdict.PriceVerdict.{PriceVerdict}
 use Rattle.hsp_faults.specs.declared.fault.Fault.{Fault}
-use Rattle.hsp_headline.specs.Instance.{IsInstanceOf, ReadsCosts}
+use Rattle.hsp_headline.specs.Instance.{IsInstanceOf}
 use Rattle.hsp_headline.specs.declared.inputs.Inputs.{Inputs}
-use Rattle.hsp_headline.proofs.Steps.{went_on}
 use Rattle.hsp_price_check.specs.Checking.{IsOfSomeRows, IsPassed}
 use Rattle.hsp_price_check.specs.declared.checking.PriceCheck.{PriceCheck}
-use Rattle.hsp_stream.specs.AnswerRun.{HasCosts}
 use Rattle.hsp_stream.specs.Faults.{fault_of_input}
 use Rattle.hsp_stream.specs.KindsLog.{OfLog}
 use Rattle.hsp_stream.specs.declared.fault.StreamFault.{StreamFault}
 use Rattle.hsp_price_runs.specs.LogRows.{log_rows}
 use Rattle.hsp_price_runs.specs.Passing.{PassesRows}
 use Rattle.hsp_price_runs.specs.PriceRun.{IsCertificateIn, IsPriceVerdict, JudgesInstance, JudgesRecords, JudgesText}
-
--- inputs of an instance have costs that are read
-pub has_costs : (inputs : Inputs) (it : Instance) → IsInstanceOf inputs (Ok it) → HasCosts inputs
-has_costs inputs it is =
-    let settings = went_on _ _ it is in
-    let values = went_on _ _ it settings.2 in
-    let demand = went_on _ _ it values.2 in
-    let costs = went_on _ _ it demand.2 in
-    (costs.0, costs.1)
 
 module _ (at : Service) (certificate : PriceCertificate) (old new : PriceCheck) (fresh : IsPassed at certificate [] old)
   where
@@ -48,11 +36,6 @@ module _ (at : Service) (certificate : PriceCertificate) (old new : PriceCheck) 
       known,
       (Ok over.rows, sym over.are, judges at certificate over.rows (over.passes at certificate fresh)),
     )
-
--- a log at fault has that fault
-pub log_stops : (at : Service) (certificate : PriceCertificate) (records : List Fields) (e : StreamFault)
-    → log_rows records ≡ Err e → JudgesRecords at certificate records (Err e)
-log_stops at certificate records e is = (Err e, sym is, refl)
 
 module _ (at : Service) (octets : List ℕ) (records : List Fields) where
   -- the certificate is at fault

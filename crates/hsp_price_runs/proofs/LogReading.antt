@@ -1,6 +1,6 @@
 -- The records of a log, as a check passes over their rows.
-use Rattle.std.proofs.Common.{◌≡◌, ◌∙◌, ◌+◌, ℕ, true, false, List, [], ◌∷◌, ◌++◌, Option, Result, Ok, Err}
-use Rattle.std.proofs.Common.{IfSome, append_assoc, append-nil, refl, ap, subst, sym}
+use Rattle.std.proofs.Common.{◌≡◌, ◌∙◌, ◌+◌, ℕ, true, List, [], ◌∷◌, ◌++◌, Option, Result, Ok, Err}
+use Rattle.std.proofs.Common.{IfSome, append_assoc, refl, ap, subst, sym}
 use Rattle.csv.specs.declared.reader.Reader.{Reader}
 use Rattle.hsp_csv.specs.Records.{Fields, IsKnown, TakesRecord, records_left, records_of}
 use Rattle.hsp_text.specs.Answers.{◌>>=◌}
@@ -10,13 +10,11 @@ use Rattle.hsp_price_text.specs.declared.certificate.PriceCertificate.{PriceCert
 use Rattle.hsp_price_check.specs.Checking.{IsPassed}
 use Rattle.hsp_price_check.specs.declared.checking.PriceCheck.{PriceCheck}
 use Rattle.hsp_stream.specs.KindsLog.{OfLeft, OfLog, form_of}
-use Rattle.hsp_stream.specs.declared.fault.RowFault.TheVariants.{Header}
 use Rattle.hsp_stream.specs.declared.fault.StreamFault.{StreamFault}
-use Rattle.hsp_stream.specs.declared.fault.StreamFault.TheVariants.{Log}
 use Rattle.hsp_stream.specs.declared.kinds_log.CountForm.{CountForm}
 use Rattle.hsp_stream.proofs.KindsReading.{at_start}
 use Rattle.hsp_price_runs.specs.LogRows.{log_rows, rows_with, with_record}
-use Rattle.hsp_price_runs.specs.Passing.{IsOver, PassesRecord, PassesRows}
+use Rattle.hsp_price_runs.specs.Passing.{IsOver, PassesRecord}
 use Rattle.hsp_price_runs.proofs.RowsTaken.{read_record, record_more, row_taken}
 
 -- ---- the rows
@@ -92,31 +90,11 @@ module _ (form : CountForm) (fresh : PriceCheck) where
           rows_with form (n + 1) after (records_left remaining next)) is,
     )
 
-    -- all records were read
-    pub all_passed : TakesRecord remaining now next false fields
-        → OfLeft remaining first (λ records. PassesRows (rows_with form 0 [] records) fresh check)
-    all_passed ends = (
-      so_far.done,
-      λ known.
-          let before = so_far.left known in
-          sym (before.0 ∙ ap (λ l. so_far.done ++ l) (ends before.1) ∙ append-nil so_far.done),
-      record {
-        rows = so_far.rows;
-        are = ap (λ l. rows_with form 0 [] l) (sym (append-nil so_far.done)) ∙ sym (so_far.are []);
-        passes = so_far.passes;
-      },
-    )
-
 -- ---- the log
 
 module _ {R : Type 0} (remaining : R → Option (List ℕ)) (log : Option (List ℕ)) (reader : Reader R)
     (known : IfSome log (λ octets. IsKnown remaining reader))
     (are : IfSome log (λ octets. records_left remaining reader ≡ records_of octets)) where
-  -- there is no record
-  pub no_header : (next : Reader R) (fields : Fields) → TakesRecord remaining reader next false fields
-      → OfLog log (λ records. log_rows records ≡ Err (Log Header))
-  no_header next fields ends = ([], at_start remaining log reader [] known are (λ k. sym (ends k)), refl)
-
   -- the first record is no header
   pub bad_header : (next : Reader R) (fields : Fields) (e : StreamFault)
       → TakesRecord remaining reader next true fields → form_of fields ≡ Err e

@@ -1,8 +1,8 @@
 -- The rows of a log are those that its records spell.
 use Rattle.std.proofs.Common.{◌≡◌, ◌∙◌, ◌+◌, ◌++◌, ℕ, List, [], ◌∷◌, Option, Some, Result, Ok, Err}
-use Rattle.std.proofs.Common.{append_assoc, append-nil, ap, refl, sym, arith}
+use Rattle.std.proofs.Common.{append_assoc, append-nil, ap, subst, sym, arith}
 use Rattle.hsp_csv.specs.Records.{Fields}
-use Rattle.hsp_text.specs.Answers.{◌>>=◌, or_fault, fault_as}
+use Rattle.hsp_text.specs.Answers.{or_fault, fault_as}
 use Rattle.hsp_text.proofs.Steps.{first_step}
 use Rattle.hsp_instance.specs.Instance.{Row}
 use Rattle.hsp_stream.specs.KindsLaws.{SpellRows, Spells}
@@ -64,5 +64,5 @@ log_spelled (first ∷ body) rows e =
       form.0,
       body,
       ap (λ l. l ∷ body) (header_is first form.0 form.1),
-      rw same read.1,
+      subst (λ (l : List Row). SpellRows form.0 body l) (sym same) read.1,
     )

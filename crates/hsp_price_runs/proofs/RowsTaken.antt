@@ -1,5 +1,5 @@
 -- A record of a log, as the row that it spells.
-use Rattle.std.proofs.Common.{◌≡◌, ◌<◌, ◌≤◌, ◌+◌, ◌++◌, ◌⊎◌, inl, inr, nat_le, ℕ, false, List, [], ◌∷◌, Option, Some, None, Result, Ok, Err}
+use Rattle.std.proofs.Common.{◌≡◌, ◌∙◌, ◌<◌, ◌≤◌, ◌+◌, ◌++◌, ◌⊎◌, inl, inr, nat_le, ℕ, false, List, [], ◌∷◌, Option, Some, Result, Ok, Err}
 use Rattle.std.proofs.Common.{length, ap, refl, sym, arith}
 use Rattle.std.proofs.lemmas.Bool.Decides.{nat_tests}
 use Rattle.hsp_csv.specs.Records.{Fields}
@@ -49,36 +49,20 @@ passing_stops n row check e (inr (many, all)) =
     rw many (inr (λ rows (at, certificate, is). row_refused n rows row (all at certificate rows is)))
 
 module _ (form : CountForm) (n : ℕ) (fields : Fields) where
-  -- what a record of these parts spells
-  by_parts : (o : Option Parts) → o ≡ parts_in form fields
-      → row_in form n fields ≡ (or_fault (Log (fault.Fields n)) o >>= λ parts. fault_as Log (row_of n parts))
-  by_parts o e =
-      ap (λ (o : Option Parts). or_fault (Log (fault.Fields n)) o >>= λ parts. fault_as Log (row_of n parts)) (sym e)
-
-  -- a record of another number of fields spells no row
-  pub no_row : ◌≡◌ {A = Option Parts} None (parts_in form fields) → row_in form n fields ≡ Err (Log (fault.Fields n))
-  no_row e = by_parts None e
-
-  -- nor does a record of faulty fields
-  pub bad_row : (parts : Parts) (e : RowFault) → Some parts ≡ parts_in form fields → row_of n parts ≡ Err e
-      → row_in form n fields ≡ Err (Log e)
-  bad_row parts e are is = rw (by_parts (Some parts) are, is) refl
-
-  -- a record of other fields spells one
+  -- a record whose fields are those of a row spells it
   pub good_row : (parts : Parts) (row : Row) → Some parts ≡ parts_in form fields → row_of n parts ≡ Ok row
       → row_in form n fields ≡ Ok row
-  good_row parts row are is = rw (by_parts (Some parts) are, is) refl
+  good_row parts row are is =
+      ap (λ (o : Option Parts). or_fault (Log (fault.Fields n)) o >>= λ parts. fault_as Log (row_of n parts)) (sym are)
+      ∙ ap (λ (r : Result Row RowFault). fault_as Log r) is
 
-  module _ (rows : List Row) where
-    -- the record's fault is that of the rows with it
-    pub bad_record : (e : StreamFault) → row_in form n fields ≡ Err e → with_record form n rows fields ≡ Err e
-    bad_record e is = ap (λ (r : Result Row StreamFault). r >>= with_row n rows) is
+  -- the record's row comes behind the rows before it
+  pub read_record : (rows : List Row) (row : Row) → row_in form n fields ≡ Ok row
+      → with_record form n rows fields ≡ with_row n rows row
+  read_record rows row is = ap (λ (r : Result Row StreamFault). r >>= with_row n rows) is
 
-    -- its row comes behind the rows
-    pub read_record : (row : Row) → row_in form n fields ≡ Ok row → with_record form n rows fields ≡ with_row n rows row
-    read_record row is = ap (λ (r : Result Row StreamFault). r >>= with_row n rows) is
-
-    -- further records come behind that
-    pub record_more : (next : List Row) (more : List Fields) → with_record form n rows fields ≡ Ok next
-        → rows_with form n rows (fields ∷ more) ≡ rows_with form (n + 1) next more
-    record_more next more is = ap (λ (r : Result (List Row) StreamFault). r >>= λ own. rows_with form (n + 1) own more) is
+  -- further records come behind that
+  pub record_more : (rows next : List Row) (more : List Fields) → with_record form n rows fields ≡ Ok next
+      → rows_with form n rows (fields ∷ more) ≡ rows_with form (n + 1) next more
+  record_more rows next more is =
+      ap (λ (r : Result (List Row) StreamFault). r >>= λ own. rows_with form (n + 1) own more) is

@@ -1,6 +1,5 @@
 -- What Yes shows of the rows of a log.
-use Rattle.std.proofs.Common.{◌≡◌, ℕ, List, Result, Ok, Err, sym}
-use Rattle.hsp_cert.specs.declared.fault.CertFault.{CertFault}
+use Rattle.std.proofs.Common.{◌≡◌, ℕ, List, Ok, Err, sym}
 use Rattle.hsp_csv.specs.Records.{Fields}
 use Rattle.hsp_tables.specs.Costs.{CostEntry}
 use Rattle.hsp_instance.specs.Instance.{Instance, IsInstance, Row}
@@ -31,8 +30,8 @@ module _ (plans : PlanIsShown) (shortages : ShortageIsShown) where
   -- Yes to either certificate shows it
   rows_shown : (at : Service) (rows : List Row) (certificate : PriceCertificate) → IsService at
       → IsCertificate certificate → IsVerdict at rows certificate Yes → ShowsRows at rows certificate
-  rows_shown at rows (Plan plan) service is yes = plans at rows plan service is yes
-  rows_shown at rows (Shortage set) service is yes = shortages at rows set service yes
+  rows_shown at rows (Plan plan) service is valid = plans at rows plan service is valid
+  rows_shown at rows (Shortage set) service is valid = shortages at rows set service valid
 
   -- Yes by the inputs shows it of the log
   pub yes_shows : (inputs : Inputs) (octets : List ℕ) (records : List Fields) (it : Instance) → IsInstance it

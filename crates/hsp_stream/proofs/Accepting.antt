@@ -21,17 +21,22 @@ use Rattle.hsp_headline.proofs.Steps.{went_on}
 use Rattle.hsp_stream.specs.AnswerRun.{AnswersAs, EndsLog, HasCosts, Refuses, Run}
 use Rattle.hsp_stream.specs.Faults.{fault_of_input}
 
--- inputs that are accepted have costs that are read
+-- inputs that give an instance have costs that are read
+pub costs_of_inputs : (inputs : Inputs) (it : Instance) → IsInstanceOf inputs (Ok it) → HasCosts inputs
+costs_of_inputs inputs it is =
+    let settings = went_on _ _ it is in
+    let values = went_on _ _ it settings.2 in
+    let demand = went_on _ _ it values.2 in
+    let costs = went_on _ _ it demand.2 in
+    (costs.0, costs.1)
+
+-- so have inputs of which a certificate is accepted
 pub has_costs : (inputs : Inputs) (octets : List ℕ) (accepted : Accepted) → IsAcceptedOf inputs octets (Ok accepted)
     → HasCosts inputs
 has_costs inputs octets accepted is =
     let read =
     went_on (IsInstanceOf inputs) (λ instance. Then (IsCertificate octets) (IsAccepted instance)) accepted is in
-    let settings = went_on _ _ read.0 read.1 in
-    let values = went_on _ _ read.0 settings.2 in
-    let demand = went_on _ _ read.0 values.2 in
-    let costs = went_on _ _ read.0 demand.2 in
-    (costs.0, costs.1)
+    costs_of_inputs inputs read.0 read.1
 
 -- a valid certificate of a plan is one for the instance
 pub plan_for : (it : Instance) (claim : Claim) (plan : Best) → plan_in claim ≡ Ok plan → IsValid (network_of it) claim

@@ -11,7 +11,7 @@ mod KindAnswers
 pub mod PlacePrinting
 pub mod PlaceTalks
 mod RowsAnswered
-mod Accepting
+pub mod Accepting
 mod TalkEnds
 mod TalkFails
 pub mod OwnHash

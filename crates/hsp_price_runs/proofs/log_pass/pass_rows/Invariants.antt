@@ -1,4 +1,4 @@
-use Rattle.std.proofs.Common.{[], ◌-◌, ◌^◌}
+use Rattle.std.proofs.Common.{◌-◌, ◌^◌}
 use Rattle.hsp_csv.specs.Records.{IsReading}
 use Rattle.hsp_price_runs.proofs.LogReading.{PassedSoFar}
 use Rattle.hsp_price_runs.proofs.log_pass.pass_rows.Given as goal
