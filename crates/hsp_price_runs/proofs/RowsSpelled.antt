@@ -40,7 +40,8 @@ comes_last n rows next row e = grind arith
 
 -- the rows that records add are those that they spell
 rows_spelled : (form : CountForm) (n : ℕ) (before all : List Row) (records : List Fields)
-    → rows_with form n before records ≡ Ok all → (rows : List Row) × SpellRows form records rows × (all ≡ before ++ rows)
+    → rows_with form n before records ≡ Ok all
+    → (rows : List Row) × SpellRows form records rows × (all ≡ before ++ rows)
 rows_spelled form n before all [] e =
     let same : before ≡ all = cc (e) in ([], tt, sym same ∙ sym (append-nil before))
 rows_spelled form n before all (fields ∷ more) e =

@@ -1,6 +1,6 @@
 -- A record of a log, as the row that it spells.
-use Rattle.std.proofs.Common.{◌≡◌, ◌∙◌, ◌<◌, ◌≤◌, ◌+◌, ◌++◌, ◌⊎◌, inl, inr, nat_le, ℕ, false, List, [], ◌∷◌, Option, Some, Result, Ok, Err}
-use Rattle.std.proofs.Common.{length, ap, refl, sym, arith}
+use Rattle.std.proofs.Common.{◌≡◌, ◌∙◌, ◌<◌, ◌≤◌, ◌+◌, ◌++◌, ◌⊎◌, inl, inr, nat_le, ℕ, false, List, [], ◌∷◌, length}
+use Rattle.std.proofs.Common.{Option, Some, Result, Ok, Err, ap, refl, sym, arith}
 use Rattle.std.proofs.lemmas.Bool.Decides.{nat_tests}
 use Rattle.hsp_csv.specs.Records.{Fields}
 use Rattle.hsp_text.specs.Answers.{◌>>=◌, or_fault, fault_as}

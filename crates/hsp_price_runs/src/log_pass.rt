@@ -100,8 +100,10 @@ fn pass_rows<R: Read>(
 
 /// Passes over each row of the log that the reader gives. The check has passed over no row yet.
 ///
-/// The log is read as `kinds` reads it. Faults in this order: `ReadFailed`, `Header`; then row by row `ReadFailed`,
-/// `Fields`, `BadName`, `BadHandle`, `BadNumber`, `TooManyRegions`. A log of 2^64 - 1 rows or more ends as `ReadFailed`.
+/// The log is read as `kinds` reads it. A log of 2^64 - 1 rows or more ends as `ReadFailed`.
+///
+/// Faults in this order: `ReadFailed`, `Header`; then row by row `ReadFailed`, `Fields`, `BadName`, `BadHandle`,
+/// `BadNumber`, `TooManyRegions`.
 pub(crate) fn pass_log<R: Read + Drop>(
     alloc: Global,
     check: &mut PriceCheck<'_>,

@@ -6,7 +6,8 @@ ghost use Rattle.hsp_classes.specs.declared.verdict.PriceVerdict.TheVariants.{Ye
 ghost use Rattle.hsp_price_check.specs.Classes.{service_of};
 ghost use Rattle.hsp_stream.specs.AnswerRun.{HasCosts};
 ghost use Rattle.hsp_stream.specs.KindsLog.{IsReadFault, OfLog};
-ghost use Rattle.hsp_price_runs.specs.PriceRun.{IsCertificateIn, IsPriceVerdict, JudgesInstance, JudgesRecords, JudgesText};
+ghost use Rattle.hsp_price_runs.specs.PriceRun.{IsCertificateIn, IsPriceVerdict, JudgesInstance, JudgesRecords};
+ghost use Rattle.hsp_price_runs.specs.PriceRun.{JudgesText};
 ghost use Rattle.hsp_price_runs.specs.PricesShown.{ShowsLog};
 
 use crate::log_pass::pass_log;

@@ -56,7 +56,8 @@ returns-clause-fault g c =
     IfErr-weaker c.judge_costs.result
     (λ (fault : StreamFault). IsReadFault fault
     ⊎ OfLog log (λ records. JudgesInstance inputs octets records it (Err fault)))
-    (λ (fault : StreamFault). IsReadFault fault ⊎ OfLog log (λ records. IsPriceVerdict inputs octets records (Err fault)))
+    (λ (fault : StreamFault). IsReadFault fault
+    ⊎ OfLog log (λ records. IsPriceVerdict inputs octets records (Err fault)))
     (λ fault told. elim told [
       | inl read ↦ inl read
       | inr known ↦
