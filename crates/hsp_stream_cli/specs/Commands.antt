@@ -5,6 +5,7 @@ use Rattle.hsp_cli_orders.specs.declared.fault.CommandFault.{CommandFault}
 use Rattle.hsp_cli_orders.specs.declared.order.InputFiles.{InputFiles}
 use Rattle.hsp_cli_orders.specs.declared.stream_order.FaultsOf.{FaultsOf}
 use Rattle.hsp_cli_orders.specs.declared.stream_order.FrontWords.{FrontWords}
+use Rattle.hsp_cli_orders.specs.declared.stream_order.PriceFiles.{PriceFiles}
 use Rattle.hsp_cli_orders.specs.declared.stream_order.StreamOrder.{StreamOrder}
 use Rattle.hsp_cli_orders.specs.declared.stream_order.StreamOrder.TheVariants as order
 use Rattle.hsp_cli.specs.Commands.{AreOpened, DispatchFails}
@@ -15,10 +16,12 @@ use Rattle.hsp_cli.specs.Files.{Disk, HoldsRest}
 use Rattle.hsp_cli.specs.declared.failure.Failure.TheVariants.{Memory}
 use Rattle.hsp_stream.specs.declared.kinds_files.KindsInputs.{KindsInputs}
 use Rattle.hsp_stream.specs.declared.portions.PortionWords.{PortionWords}
+use Rattle.hsp_stream_cli.specs.Checking.{PrintsVerdict}
 use Rattle.hsp_stream_cli.specs.Faults.{EndsList, HoldsText, asked_for}
-use Rattle.hsp_stream_cli.specs.Files.{AreKindsHeld, AreSourcesHeld, KindsFail, SourcesFail}
+use Rattle.hsp_stream_cli.specs.Files.{AreKindsHeld, ArePricesHeld, AreSourcesHeld, KindsFail, PricesFail, SourcesFail}
 use Rattle.hsp_stream_cli.specs.Printing.{Ended, PrintsTable, PrintsText}
 use Rattle.hsp_stream_cli.specs.Talking.{EndsAnswers, EndsPlaces, IsPortion, TalksOver}
+use Rattle.hsp_stream_cli.specs.declared.files.Priced.{Priced}
 use Rattle.hsp_stream_cli.specs.declared.files.Sources.{Sources}
 use Rattle.hsp_stream_cli.specs.declared.texts.TheConstants.{HELP, VERSION}
 
@@ -52,6 +55,13 @@ AnswersLog disk MayFail files plan log unit front old new ended =
     ⊎ ((it : Opened) × (words : PortionWords) × AreOpened disk files plan log it × IsPortion unit front words
     × TalksOver (disk.fails log) MayFail it.left old new ended (EndsAnswers it.inputs it.certificate words ended))
 
+-- a certificate by prices is judged for a log
+abbrev pub ChecksPrices : Disk → Type 0 → PriceFiles → List ℕ → Option (List ℕ) → Option (List ℕ) → Ended → Type 0
+ChecksPrices disk MayFail files log old new ended =
+    LacksFile (PricesFail disk files ⊎ disk.fails log) old new ended
+    ⊎ ((priced : Priced) × (left : Option (List ℕ)) × ArePricesHeld disk files priced × HoldsRest disk log left
+    × PrintsVerdict MayFail priced left old new ended)
+
 -- the faulty rows of a file are listed
 abbrev pub ListsFaults : Disk → FaultsOf → List ℕ → Option (List ℕ) → Option (List ℕ) → Ended → Type 0
 ListsFaults disk of file old new ended =
@@ -68,6 +78,7 @@ CarriesOut disk MayFail (order.Places settings values log) old new ended =
     StatesPlaces disk MayFail settings values log old new ended
 CarriesOut disk MayFail (order.Answer files plan log unit front) old new ended =
     AnswersLog disk MayFail files plan log unit front old new ended
+CarriesOut disk MayFail (order.Check files log) old new ended = ChecksPrices disk MayFail files log old new ended
 CarriesOut disk MayFail (order.Faults of file) old new ended = ListsFaults disk of file old new ended
 
 -- the order is carried out; where there is none, nothing was written, and the failure is reported

@@ -1,9 +1,12 @@
 -- The files of commands.
-use Rattle.std.specs.Prelude.{◌⊎◌, ℕ, List, Option, option_map}
+use Rattle.std.specs.Prelude.{◌≡◌, ◌⊎◌, ℕ, List, Option, option_map}
 use Rattle.hsp_cli.specs.Commands.{FailsNamed, HoldsNamed}
 use Rattle.hsp_cli.specs.Files.{Disk}
+use Rattle.hsp_cli_orders.specs.declared.stream_order.PriceFiles.{PriceFiles}
 use Rattle.hsp_stream.specs.declared.kinds_files.KindsInputs.{KindsInputs}
+use Rattle.hsp_stream_cli.specs.declared.files.Priced.{Priced}
 use Rattle.hsp_stream_cli.specs.declared.files.Sources.{Sources}
+use Rattle.hsp_stream_cli.specs.declared.files.TheConstants.{NO_ROWS}
 
 -- each source is what its own file holds
 pub record AreSourcesHeld (disk : Disk) (settings : List ℕ) (values : Option (List ℕ)) (sources : Sources) :
@@ -17,9 +20,23 @@ pub record AreKindsHeld (disk : Disk) (settings : List ℕ) (values : Option (Li
   pub values_held : HoldsNamed disk values (option_map (λ v. v.items) inputs.values)
   pub costs_held : disk.holds costs inputs.costs.items
 
+-- the same of a certificate by prices and its inputs, whose table of demand has no row
+pub record ArePricesHeld (disk : Disk) (files : PriceFiles) (priced : Priced) : Type 0 where
+  pub settings_held : disk.holds files.settings priced.inputs.settings.items
+  pub values_held : HoldsNamed disk files.values (option_map (λ v. v.items) priced.inputs.values)
+  pub demand_is : priced.inputs.demand.items ≡ NO_ROWS.now
+  pub costs_held : disk.holds files.costs priced.inputs.costs.items
+  pub capacity_held : disk.holds files.capacity priced.inputs.capacity.items
+  pub prices_held : disk.holds files.prices priced.prices.items
+
 -- one of the files may fail to be read
 abbrev pub SourcesFail : Disk → List ℕ → Option (List ℕ) → Type 0
 SourcesFail disk settings values = disk.fails settings ⊎ FailsNamed disk values
 
 abbrev pub KindsFail : Disk → List ℕ → Option (List ℕ) → List ℕ → Type 0
 KindsFail disk settings values costs = disk.fails settings ⊎ FailsNamed disk values ⊎ disk.fails costs
+
+abbrev pub PricesFail : Disk → PriceFiles → Type 0
+PricesFail disk files =
+    disk.fails files.settings ⊎ FailsNamed disk files.values ⊎ disk.fails files.costs ⊎ disk.fails files.capacity
+    ⊎ disk.fails files.prices

@@ -2,4 +2,5 @@ pub mod Faults
 pub mod Files
 pub mod Printing
 pub mod Talking
+pub mod Checking
 pub mod Commands

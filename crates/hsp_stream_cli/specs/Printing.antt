@@ -17,12 +17,17 @@ use Rattle.hsp_stream.specs.declared.kinds_files.KindsInputs.{KindsInputs}
 abbrev pub Ended : Type 0
 Ended = Result (Completed StreamSums) (Failure StreamFault)
 
--- the text was written; or a write failed, as it may, and a beginning of the text was written
+-- the text was written, and this status returned; or a write failed, as it may, and a beginning of the text was
+-- written
+abbrev pub PrintsWith : ℕ → Type 0 → List ℕ → Option (List ℕ) → Option (List ℕ) → Ended → Type 0
+PrintsWith status MayFail text old new (Ok completed) =
+    Appends old new text × (completed ≡ record { status = status; sums = None })
+PrintsWith status MayFail text old new (Err Write) = MayFail × IsBegun old new text
+PrintsWith status MayFail text old new (Err failure) = ⊥
+
+-- the same with status 0
 abbrev pub PrintsText : Type 0 → List ℕ → Option (List ℕ) → Option (List ℕ) → Ended → Type 0
-PrintsText MayFail text old new (Ok completed) =
-    Appends old new text × (completed ≡ record { status = 0; sums = None })
-PrintsText MayFail text old new (Err Write) = MayFail × IsBegun old new text
-PrintsText MayFail text old new (Err failure) = ⊥
+PrintsText MayFail text old new ended = PrintsWith 0 MayFail text old new ended
 
 -- the table of a log with these octets left, where they are known, or its fault
 abbrev pub IsTable : KindsInputs → Option (List ℕ) → Option (List ℕ) → List ℕ → Type 0

@@ -4,6 +4,7 @@ ghost use Rattle.std.specs.Prelude.{map, string_bytes};
 ghost use Rattle.hsp_stream_cli.specs.Commands.{CarriesOut, Obeys};
 ghost use Rattle.hsp_stream_cli.specs.Printing.{IsHandedOn};
 
+use crate::checking::check_prices;
 use crate::faults::list_faults;
 use crate::files::{read_kinds, read_sources};
 use crate::printing::{print, print_table};
@@ -60,6 +61,7 @@ fn carry_out<S: FileSource, O: Output>(
             let portion = portion_words(alloc, unit, front)?;
             answer_log(alloc, opened, &portion, out)
         }
+        StreamOrder::Check { files: named, log } => check_prices(alloc, files, named, log, out),
         StreamOrder::Faults { of, file } => list_faults(alloc, files, *of, file, out),
     }
 }

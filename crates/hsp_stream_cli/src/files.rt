@@ -2,10 +2,12 @@
 
 ghost use Rattle.std.specs.Prelude.{IfErr, IfOk};
 ghost use Rattle.hsp_cli.specs.Failing.{IsUnread};
-ghost use Rattle.hsp_stream_cli.specs.Files.{AreKindsHeld, AreSourcesHeld, KindsFail, SourcesFail};
+ghost use Rattle.hsp_stream_cli.specs.Files.{AreKindsHeld, ArePricesHeld, AreSourcesHeld, KindsFail, PricesFail};
+ghost use Rattle.hsp_stream_cli.specs.Files.{SourcesFail};
 
 use hsp_cli::{FileSource, Unread, read_named, read_whole};
-use hsp_cli_orders::Word;
+use hsp_cli_orders::{PriceFiles, Word};
+use hsp_runs::Inputs;
 use hsp_stream::KindsInputs;
 use std::alloc::Global;
 
@@ -15,6 +17,17 @@ pub(crate) struct Sources {
     pub(crate) settings: Vec<u8>,
     pub(crate) values: Option<Vec<u8>>,
 }
+
+/// A certificate by prices, and the inputs that it is checked by, but for the log.
+#[derive(Debug, Drop)]
+pub(crate) struct Priced {
+    /// Their table of demand has no row.
+    pub(crate) inputs: Inputs,
+    pub(crate) prices: Vec<u8>,
+}
+
+/// A table of demand without a row.
+pub(crate) const NO_ROWS: &[u8] = b"region,handle,count\n";
 
 /// The files that define sites.
 pub(crate) fn read_sources<S: FileSource>(
@@ -52,4 +65,24 @@ pub(crate) fn read_kinds<S: FileSource>(
         values: read_named(alloc, files, values)?,
         costs: read_whole(alloc, files, costs)?,
     })
+}
+
+/// A certificate by prices, and the files that it is checked by, but for the log.
+pub(crate) fn read_prices<S: FileSource>(
+    alloc: Global,
+    files: &S,
+    named: &PriceFiles<'_>,
+) -> Result<Priced, Unread>
+    ensures held { IfOk result (λ priced. ArePricesHeld (S.disk files.now) named.now priced) }
+    ensures unread { IfErr result (IsUnread (PricesFail (S.disk files.now) named.now)) }
+{
+    let inputs = Inputs {
+        settings: read_whole(alloc, files, &named.settings)?,
+        values: read_named(alloc, files, &named.values)?,
+        demand: Vec::from_slice(alloc, NO_ROWS)?,
+        costs: read_whole(alloc, files, &named.costs)?,
+        capacity: read_whole(alloc, files, &named.capacity)?,
+    };
+    let prices = read_whole(alloc, files, &named.prices)?;
+    Ok(Priced { inputs, prices })
 }

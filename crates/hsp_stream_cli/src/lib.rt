@@ -2,6 +2,7 @@
 // standard output, and how it ends.
 #![tactic(auto)]
 
+mod checking;
 mod commands;
 mod faults;
 mod files;

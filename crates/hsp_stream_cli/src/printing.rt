@@ -1,13 +1,26 @@
 // Texts and tables on an output.
 
 ghost use Rattle.std.specs.Prelude.{IfErr, IfOk, option_map};
-ghost use Rattle.hsp_stream_cli.specs.Printing.{IsHandedOn, IsTable, IsTableFault, PrintsTable, PrintsText};
+ghost use Rattle.hsp_stream_cli.specs.Printing.{IsHandedOn, IsTable, IsTableFault, PrintsTable, PrintsText, PrintsWith};
 
 use crate::program::Ended;
 use hsp_cli::{Completed, Failure, OpenFile, Output};
 use hsp_cli_orders::Word;
 use hsp_stream::{KindsInputs, StreamFault, kinds_run};
 use std::alloc::Global;
+
+/// Writes a text, hands it on, and returns the status to end with after it.
+pub(crate) fn print_with<O: Output>(out: &mut O, text: &[u8], status: u8) -> Ended
+    ensures prints { PrintsWith status O.may_fail text.now (O.contents out.old)
+        (O.contents out.new) result }
+    ensures handed { IsHandedOn (O.contents out.old) (O.handed out.old) (O.contents out.new)
+        (O.handed out.new) result }
+{
+    match out.put(text) {
+        Ok(()) => Ok(Completed { status, sums: None }),
+        Err(_) => Err(Failure::Write),
+    }
+}
 
 /// Writes a text, and hands it on.
 pub(crate) fn print<O: Output>(out: &mut O, text: &[u8]) -> Ended
@@ -16,13 +29,7 @@ pub(crate) fn print<O: Output>(out: &mut O, text: &[u8]) -> Ended
     ensures handed { IsHandedOn (O.contents out.old) (O.handed out.old) (O.contents out.new)
         (O.handed out.new) result }
 {
-    match out.put(text) {
-        Ok(()) => Ok(Completed {
-            status: 0,
-            sums: None,
-        }),
-        Err(_) => Err(Failure::Write),
-    }
+    print_with(out, text, 0)
 }
 
 // The table of a log.

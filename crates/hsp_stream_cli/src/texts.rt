@@ -19,6 +19,11 @@ hsplan-stream answer --settings F [--values F] --demand F --costs F --capacity F
     With --fronts N --front K it answers by the share of the front K of N.
     With --unit N each query of the plan stands for N answers.
 
+hsplan-stream check --settings F [--values F] --costs F --capacity F --log F
+                    --prices F
+    prints yes or no: whether a certificate by prices holds for the log's rows.
+    The log has the header region,handle or region,handle,count.
+
 hsplan-stream faults --demand F | --costs F | --capacity F | --log F
     prints every faulty row of a table or a log: its row, line, field and fault.
 

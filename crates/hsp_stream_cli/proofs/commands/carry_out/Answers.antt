@@ -42,3 +42,6 @@ returns-in_ok-portion-in-Answer-clause-carries_out g c =
       c.in_ok-portion-in-Answer.ensures,
       talks_weaker _ _ _ _ _ _ _ _ c.in_ok-opened-in-Answer.ensures.reads c.answer_log.ensures.talks,
     )))
+
+pub returns-in-Check-clause-carries_out : goal.returns-in-Check-clause-carries_out
+returns-in-Check-clause-carries_out g c = rw c.in-Check.is c.check_prices.ensures.checks
