@@ -8,24 +8,20 @@ use std::alloc::AllocError;
 
 /// A number and the width of its column.
 #[derive(Clone, Copy)]
-pub(crate) struct Column {
+pub struct Column {
     width: usize,
     number: u128,
 }
 
-/// A number in a column of this width.
-pub(crate) fn aligned(width: usize, number: u128) -> Column
+/// A number in a column of this width. A number that is wider than its column stands whole.
+pub fn aligned(width: usize, number: u128) -> Column
     ensures { result ≡ aligned width number }
 {
     Column { width, number }
 }
 
 /// Appends a line: numbers, each right-aligned in its column with a space behind it, and a name.
-pub(crate) fn push_columns(
-    out: &mut Vec<u8>,
-    columns: &[Column],
-    name: &[u8],
-) -> Result<(), AllocError>
+pub fn push_columns(out: &mut Vec<u8>, columns: &[Column], name: &[u8]) -> Result<(), AllocError>
     ensures { OnOk result (out.new.items ≡ out.old.items ++ column_line columns.now name.now) }
 {
     for column in columns {
@@ -46,7 +42,7 @@ fn push_term(out: &mut Vec<u8>, sign: &[u8], number: u128) -> Result<(), AllocEr
 }
 
 /// Appends a line: a word, two numbers, and what is left of the first without the second.
-pub(crate) fn push_difference(
+pub fn push_difference(
     out: &mut Vec<u8>,
     word: &[u8],
     first: u128,

@@ -8,6 +8,7 @@ mod naming;
 mod regions;
 mod shortages;
 
-pub use loads::load_report;
-pub use regions::region_report;
+pub use columns::{Column, aligned, push_columns, push_difference};
+pub use loads::{LOAD, load_report, push_server};
+pub use regions::{REGION, region_report};
 pub use shortages::shortage_report;

@@ -16,10 +16,11 @@ use hsp_check::{Loads, plan_sums};
 use hsp_instance::Instance;
 use std::alloc::{AllocError, Global};
 
-const HEADER: &[u8] = b"place     server       load   capacity         price site\n";
+/// The header of a report of loads.
+pub const LOAD: &[u8] = b"place     server       load   capacity         price site\n";
 
-// Appends the line of a server with a load and a price.
-fn push_server(
+/// Appends the line of a server with a load and a price, as [`load_report`] has it. The server is one of the instance.
+pub fn push_server(
     out: &mut Vec<u8>,
     instance: &Instance,
     server: u32,
@@ -72,7 +73,7 @@ fn loads_text(alloc: Global, instance: &Instance, plan: &BestRef<'_>) -> Result<
 {
     let sums = plan_sums(alloc, instance, plan)?;
     let mut text = Vec::new(alloc);
-    text.extend_from_slice(HEADER)?;
+    text.extend_from_slice(LOAD)?;
     push_loads(&mut text, instance, plan, &sums.loads)?;
     push_difference(
         &mut text,

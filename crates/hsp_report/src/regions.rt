@@ -22,7 +22,8 @@ use hsp_instance::Instance;
 use hsp_text::push_wide;
 use std::alloc::{AllocError, Global};
 
-const HEADER: &[u8] = b"    demand             cost region\n";
+/// The header of a report of regions.
+pub const REGION: &[u8] = b"    demand             cost region\n";
 
 // Whether the row is of the region.
 fn is_of(instance: &Instance, row: u32, region: &[u8]) -> bool
@@ -140,7 +141,7 @@ fn regions_text(
     let arc_flows = planned_arcs(alloc, instance, plan)?;
     let regions = regions_of(alloc, instance)?;
     let mut text = Vec::new(alloc);
-    text.extend_from_slice(HEADER)?;
+    text.extend_from_slice(REGION)?;
     push_regions(&mut text, instance, &arc_flows, &regions)?;
     push_total(&mut text, instance, plan)?;
     Ok(text)
