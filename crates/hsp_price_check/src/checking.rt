@@ -1,6 +1,7 @@
 // The check of a certificate by prices, row by row.
 
-ghost use Rattle.std.specs.Prelude.{◌≡◌, ◌⊎◌, ◌↔◌, ◌++◌, ◌∷◌, ◌<◌, [], All, IfErr, IfOk, IsTrue, List, OnOk, length, ◌≤◌, false, true};
+ghost use Rattle.std.specs.Prelude.{◌≡◌, ◌⊎◌, ◌↔◌, ◌++◌, ◌∷◌, ◌<◌, ◌≤◌, [], false, true};
+ghost use Rattle.std.specs.Prelude.{All, IfErr, IfOk, IsTrue, List, OnOk, length};
 ghost use Rattle.std.specs.List.{AllByRecursion, list_any};
 ghost use Rattle.std.specs.Str.{bytes_eq};
 ghost use Rattle.hsp_names.specs.Lent.{octets_of};
@@ -13,9 +14,10 @@ ghost use Rattle.hsp_tables.specs.Costs.{AreCosts, CostEntry};
 ghost use Rattle.hsp_check.specs.Instance.{capacities_in, limits_in, server_hosts_in};
 ghost use Rattle.hsp_classes.specs.Verdict.{IsVerdict, PlanMeets};
 ghost use Rattle.hsp_classes.specs.declared.verdict.PriceReason.TheVariants.{NoSuchServer, Shape};
-ghost use Rattle.hsp_price_check.specs.Checking.{HasTooMany, IsJudge, IsOfSomeRows, IsPassed};
+ghost use Rattle.hsp_price_check.specs.Checking.{HasTooMany, IsJudge, IsOfSomeRows, IsPassed, judged_plan};
 ghost use Rattle.hsp_price_check.specs.PlanPass.{AreNumbersOf, IsOfRow, IsPlanPass};
 ghost use Rattle.hsp_price_check.specs.Classes.{service_of};
+ghost use Rattle.hsp_price_check.specs.Regions.{cost_by};
 ghost use Rattle.hsp_price_check.specs.declared.fault.PassFault.TheVariants.{OutOfMemory, TooManyRegions};
 
 use crate::capacity::capacity_of_set;
@@ -25,6 +27,7 @@ use crate::fault::PassFault;
 use crate::finding::class_numbers;
 use crate::numbers::{ServiceNumbers, numbers_of};
 use crate::plan_pass::PlanPass;
+use crate::regions::{RegionSums, add_row};
 use crate::set_pass::SetPass;
 use crate::sums::PassSums;
 use hsp_check::flags_of;
@@ -49,7 +52,10 @@ pub(crate) enum Judge<'a> {
 /// and no rows.
 #[derive(Drop)]
 pub struct PriceCheck<'a> {
+    instance: &'a Instance,
+    costs: &'a Costs,
     arcs: RowArcs<'a>,
+    regions: Vec<RegionSums>,
     judge: Judge<'a>,
 }
 
@@ -157,22 +163,28 @@ fn judge_of_set<'a>(
 }
 
 impl Judge<'_> {
-    // Passes over a row of this region with these arcs, which asks for `count` queries.
-    fn add(&mut self, region: &[u8], arcs: &[Arc], count: u64) -> Result<(), AllocError>
+    // Passes over a row of this region with these arcs, which asks for `count` queries, and returns what it costs by
+    // the plan that is judged.
+    fn add(&mut self, region: &[u8], arcs: &[Arc], count: u64) -> Result<u128, AllocError>
         requires judge { (at : Service) × (certificate : PriceCertificate) × (rows : List Row)
             × IsJudge at certificate rows self.old
             × AllByRecursion (IsWithin (length at.servers)) arcs.now }
-        ensures { OnOk result ((at : Service) (certificate : PriceCertificate) (rows : List Row)
-            (row : Row) → IsJudge at certificate rows self.old
+        ensures passed { OnOk result ((at : Service) (certificate : PriceCertificate)
+            (rows : List Row) (row : Row) → IsJudge at certificate rows self.old
             → IsOfRow at row region.now arcs.now count
             → IsJudge at certificate (rows ++ row ∷ []) self.new) }
+        ensures cost { IfOk result (λ cost. (at : Service) (certificate : PriceCertificate)
+            (rows : List Row) (row : Row) → IsJudge at certificate rows self.old
+            → IsOfRow at row region.now arcs.now count
+            → cost ≡ cost_by at (judged_plan self.old) row) }
+        ensures plan { judged_plan self.new ≡ judged_plan self.old }
     {
         match self {
-            Judge::Refused(_) => Ok(()),
+            Judge::Refused(_) => Ok(0),
             Judge::Plan(pass) => pass.add(region, arcs, count),
             Judge::Set(pass) => {
                 pass.add(arcs, count);
-                Ok(())
+                Ok(0)
             }
         }
     }
@@ -211,7 +223,10 @@ impl<'a> PriceCheck<'a> {
             PriceCertificate::Shortage(set) => judge_of_set(alloc, instance, set)?,
         };
         Ok(PriceCheck {
+            instance,
+            costs,
             arcs: RowArcs::new(alloc, instance.sites(), costs),
+            regions: Vec::new(alloc),
             judge,
         })
     }
@@ -252,8 +267,9 @@ impl<'a> PriceCheck<'a> {
         if self.has_no_room(region) {
             return Err(PassFault::TooManyRegions);
         }
-        self.arcs.find(alloc, region, handle)?;
-        self.judge.add(region, self.arcs.arcs(), count)?;
+        let number = self.arcs.find(alloc, region, handle)?;
+        let cost = self.judge.add(region, self.arcs.arcs(), count)?;
+        add_row(&mut self.regions, number, count, cost)?;
         Ok(())
     }
 
