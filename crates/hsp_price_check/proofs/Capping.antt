@@ -12,3 +12,7 @@ term_added f x xs sum term all is so = omega (arith, is, so, sum_by-cons f x xs)
 pub term_skipped : {A : Type 0} (f : A → ℕ) (x : A) (xs : List A) (sum all : ℕ) → f x ≡ 0
     → capped (sum + sum_by f (x ∷ xs)) ≡ capped all → capped (sum + sum_by f xs) ≡ capped all
 term_skipped f x xs sum all none so = omega (arith, none, so, sum_by-cons f x xs)
+
+-- a sum that is kept goes on as the sum does
+pub kept_more : (a b : ℕ) → capped (capped a + b) ≡ capped (a + b)
+kept_more a b = omega arith

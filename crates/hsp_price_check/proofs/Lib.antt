@@ -15,3 +15,6 @@ mod SmallAmounts
 mod JudgedClasses
 mod SetRows
 mod Starting
+mod RegionPlaces
+mod RegionSteps
+mod Judged

@@ -1,5 +1,5 @@
 -- What a row brings by its place: to servers, to the cost and to classes, and whether it is placed.
-use Rattle.std.proofs.Common.{◌≡◌, ◌≤◌, ◌<◌, ◌*◌, ◌∙◌, ℕ, Bool, true, false, List, [], ◌∷◌, length, None}
+use Rattle.std.proofs.Common.{◌≡◌, ◌≤◌, ◌<◌, ◌∙◌, ℕ, Bool, true, false, List, [], ◌∷◌, length, None}
 use Rattle.std.proofs.Common.{inl, inr, refl, ap, sym, subst, arith, eqb-true}
 use Rattle.std.specs.Prelude.{◌==◌, if◌then◌else◌}
 use Rattle.std.specs.List.{list_any}
@@ -14,7 +14,7 @@ use Rattle.hsp_classes.specs.Least.{is_of, least_of, only_arc, servers_of}
 use Rattle.hsp_classes.specs.Sums.{brings, costs, row_cost, row_load}
 use Rattle.hsp_classes.specs.Verdict.{IsPlaced}
 use Rattle.hsp_classes.proofs.ByRow.{no_class as of_no_class, one_of}
-use Rattle.hsp_price_check.specs.Passed.{IsPlaceOf, class_at, no_class, placed_with}
+use Rattle.hsp_price_check.specs.Passed.{IsPlaceOf, class_at, no_class, placed_with, spent}
 use Rattle.hsp_price_check.specs.declared.sums.RowPlace.{RowPlace}
 use Rattle.hsp_price_check.specs.declared.sums.RowPlace.TheVariants.{Nowhere, Over, OfClass, Unlisted}
 use Rattle.hsp_price_check.proofs.Positions.{fails_at, no_position, none_at, one_place}
@@ -23,11 +23,6 @@ use Rattle.hsp_price_check.proofs.Positions.{fails_at, no_position, none_at, one
 abbrev pub taken : RowPlace → ℕ → ℕ → ℕ
 taken (Over arc) count j = if arc.server == j then count else 0
 taken place count j = 0
-
--- what it costs
-abbrev pub spent : RowPlace → ℕ → ℕ
-spent (Over arc) count = arc.cost * count
-spent place count = 0
 
 -- whether it goes to a class
 abbrev pub hits : RowPlace → ℕ → Bool

@@ -13,11 +13,10 @@ use Rattle.hsp_price_text.specs.Claim.{Best, is_best}
 use Rattle.hsp_classes.specs.Least.{is_of, least_of}
 use Rattle.hsp_classes.specs.Sums.{asked_of, cost_in_all, load_at, row_cost, row_load}
 use Rattle.hsp_classes.specs.Verdict.{IsPlaced}
-use Rattle.hsp_price_check.specs.Passed.{AreSums, IsAdded, IsPlaceOf, capped, class_at}
+use Rattle.hsp_price_check.specs.Passed.{AreSums, IsAdded, IsPlaceOf, capped, class_at, spent}
 use Rattle.hsp_price_check.specs.declared.sums.PassSums.{PassSums}
 use Rattle.hsp_price_check.specs.declared.sums.RowPlace.{RowPlace}
-use Rattle.hsp_price_check.proofs.OneRow.{class_is, cost_is, flag_kept, flag_was, hits, load_is, row_placed, spent}
-use Rattle.hsp_price_check.proofs.OneRow.{taken}
+use Rattle.hsp_price_check.proofs.OneRow.{class_is, cost_is, flag_kept, flag_was, hits, load_is, row_placed, taken}
 use Rattle.hsp_price_check.proofs.SumSteps.{asked_many, asked_step, cost_step, load_many, load_step, seen_many}
 use Rattle.hsp_price_check.proofs.SumSteps.{seen_step}
 

@@ -3,17 +3,17 @@ use Rattle.std.proofs.Common.{◌≡◌, ◌<◌, ◌+◌, ◌∙◌, ℕ, Bool,
 use Rattle.std.proofs.Common.{ap, sym, arith, add-zero}
 use Rattle.std.specs.Prelude.{◌==◌, ◌||◌, if◌then◌else◌}
 use Rattle.hsp_check.specs.ArcFlows.{flag_at}
-use Rattle.hsp_price_check.specs.Passed.{asked_with, capped, cost_with, load_with, seen_with}
+use Rattle.hsp_price_check.specs.Passed.{asked_with, capped, cost_with, load_with, seen_with, spent}
 use Rattle.hsp_price_check.specs.declared.sums.RowPlace.{RowPlace}
 use Rattle.hsp_price_check.specs.declared.sums.RowPlace.TheVariants.{Over, OfClass}
-use Rattle.hsp_price_check.proofs.OneRow.{hits, spent, taken}
+use Rattle.hsp_price_check.proofs.OneRow.{hits, taken}
 
 -- a sum that is kept up to the greatest one goes on as the sum does
 capped_more : (x o n count : ℕ) → o ≡ capped x → n ≡ capped (o + count) → n ≡ capped (x + count)
 capped_more x o n count e f = omega arith
 
 -- the same where a test says whether something is added
-capped_where : (t : Bool) (x o n count : ℕ) → o ≡ capped x → n ≡ (if t then capped (o + count) else o)
+pub capped_where : (t : Bool) (x o n count : ℕ) → o ≡ capped x → n ≡ (if t then capped (o + count) else o)
     → n ≡ capped (x + (if t then count else 0))
 capped_where true x o n count e f = capped_more x o n count e f
 capped_where false x o n count e f = f ∙ e ∙ ap capped (sym (add-zero x))

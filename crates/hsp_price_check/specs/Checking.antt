@@ -1,5 +1,5 @@
 -- The check of a certificate by prices, as rows come in.
-use Rattle.std.specs.Prelude.{◌≡◌, ◌<◌, ◌≤◌, List, length}
+use Rattle.std.specs.Prelude.{◌≡◌, ◌<◌, ◌≤◌, List, Option, Some, None, length}
 use Rattle.hsp_tables.specs.Costs.{AreCosts}
 use Rattle.hsp_text.specs.declared.limits.TheConstants.{MOST_REGIONS}
 use Rattle.hsp_instance.specs.Instance.{Row, regions_of}
@@ -10,7 +10,9 @@ use Rattle.hsp_price_text.specs.declared.certificate.PriceCertificate.TheVariant
 use Rattle.hsp_classes.specs.Shown.{IsService}
 use Rattle.hsp_classes.specs.Verdict.{IsVerdict}
 use Rattle.hsp_classes.specs.declared.verdict.PriceVerdict.TheVariants.{No}
+use Rattle.hsp_price_check.specs.Classes.{service_of}
 use Rattle.hsp_price_check.specs.PlanPass.{IsPlanPass}
+use Rattle.hsp_price_check.specs.Regions.{AreRegionSums, cost_by}
 use Rattle.hsp_price_check.specs.SetPass.{IsSetPass}
 use Rattle.hsp_price_check.specs.declared.checking.Judge.{Judge}
 use Rattle.hsp_price_check.specs.declared.checking.Judge.TheVariants as judge
@@ -29,6 +31,12 @@ IsJudge at claim rows (judge.Plan pass) =
 IsJudge at claim rows (judge.Set pass) =
     (set : Short) × (claim ≡ certificate.Shortage set) × IsSetPass at set rows pass
 
+-- the plan that is judged, where no reason stands against it whatever the rows are
+abbrev pub judged_plan : Judge → Option Best
+judged_plan (judge.Refused reason) = None
+judged_plan (judge.Plan pass) = Some pass.plan.now
+judged_plan (judge.Set pass) = None
+
 -- the check has passed over these rows, which name no more regions than they may
 pub record IsPassed (at : Service) (certificate : PriceCertificate) (rows : List Row)
     (check : PriceCheck) : Type 0 where
@@ -39,6 +47,8 @@ pub record IsPassed (at : Service) (certificate : PriceCertificate) (rows : List
   pub regions_are : check.arcs.regions ≡ regions_of rows
   pub few_regions : length (regions_of rows) ≤ MOST_REGIONS
   pub judge : IsJudge at certificate rows check.judge
+  pub service_is : at ≡ service_of check.costs.now check.instance.now
+  pub regions : AreRegionSums (cost_by at (judged_plan check.judge)) rows check.regions.items
 
 abbrev pub IsOfSomeRows : PriceCheck → Type 0
 IsOfSomeRows check =

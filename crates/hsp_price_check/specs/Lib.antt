@@ -5,5 +5,6 @@ pub mod Passed
 pub mod Classes
 pub mod PlanPass
 pub mod SetPass
+pub mod Regions
 pub mod Verdicts
 pub mod Checking

@@ -40,6 +40,11 @@ abbrev pub cost_with : ℕ → RowPlace → ℕ → ℕ
 cost_with old (Over arc) count = capped (old + arc.cost * count)
 cost_with old place count = old
 
+-- what a row costs at its place
+abbrev pub spent : RowPlace → ℕ → ℕ
+spent (Over arc) count = arc.cost * count
+spent place count = 0
+
 abbrev pub asked_with : List ℕ → RowPlace → ℕ → List ℕ → Type 0
 asked_with old (OfClass class) count new = IsAddedTo old class count new
 asked_with old place count new = new ≡ old
@@ -99,3 +104,8 @@ pub record AreSums (at : Service) (plan : Best) (rows : List Row) (sums : PassSu
   pub seen : (k : ℕ) → k < length plan.classes
       → flag_at sums.seen.items k ≡ list_any (λ row. is_of at plan (class_at plan k) row) rows
   pub placed : IsTrue sums.placed ↔ All (λ row. IsPlaced at plan row (least_of at plan row)) rows
+
+-- the loads are what servers take by a plan
+pub record AreLoadsOf (at : Service) (plan : Best) (rows : List Row) (loads : List ℕ) : Type 0 where
+  pub many : length loads ≡ length at.servers
+  pub each : (j : ℕ) → j < length at.servers → slice_index loads j ≡ capped (load_at at plan rows j)

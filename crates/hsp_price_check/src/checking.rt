@@ -1,22 +1,26 @@
 // The check of a certificate by prices, row by row.
 
-ghost use Rattle.std.specs.Prelude.{◌≡◌, ◌⊎◌, ◌↔◌, ◌++◌, ◌∷◌, ◌<◌, [], All, IfErr, IfOk, IsTrue, List};
-ghost use Rattle.std.specs.Prelude.{OnOk, length, ◌≤◌, false, true};
+ghost use Rattle.std.specs.Prelude.{◌≡◌, ◌⊎◌, ◌↔◌, ◌++◌, ◌∷◌, ◌<◌, ◌≤◌, ◌+◌, [], false, true};
+ghost use Rattle.std.specs.Prelude.{All, IfErr, IfOk, IfSome, IsSome, IsTrue, List, OnOk, Some, length, slice_get};
 ghost use Rattle.std.specs.List.{AllByRecursion, list_any};
 ghost use Rattle.std.specs.Str.{bytes_eq};
 ghost use Rattle.hsp_names.specs.Lent.{octets_of};
 ghost use Rattle.hsp_instance.specs.Instance.{Row, regions_of};
 ghost use Rattle.hsp_instance.specs.RowArcs.{IsWithin, row_named};
 ghost use Rattle.hsp_kinds.specs.Rows.{Service};
+ghost use Rattle.hsp_price_text.specs.Claim.{Best};
 ghost use Rattle.hsp_price_text.specs.declared.certificate.PriceCertificate.{PriceCertificate};
 ghost use Rattle.hsp_price_text.specs.declared.certificate.PriceCertificate.TheVariants.{Plan, Shortage};
 ghost use Rattle.hsp_tables.specs.Costs.{AreCosts, CostEntry};
 ghost use Rattle.hsp_check.specs.Instance.{capacities_in, limits_in, server_hosts_in};
 ghost use Rattle.hsp_classes.specs.Verdict.{IsVerdict, PlanMeets};
 ghost use Rattle.hsp_classes.specs.declared.verdict.PriceReason.TheVariants.{NoSuchServer, Shape};
-ghost use Rattle.hsp_price_check.specs.Checking.{HasTooMany, IsJudge, IsOfSomeRows, IsPassed};
+ghost use Rattle.hsp_classes.specs.declared.verdict.PriceVerdict.TheVariants.{Yes};
+ghost use Rattle.hsp_price_check.specs.Checking.{HasTooMany, IsJudge, IsOfSomeRows, IsPassed, judged_plan};
 ghost use Rattle.hsp_price_check.specs.PlanPass.{AreNumbersOf, IsOfRow, IsPlanPass};
 ghost use Rattle.hsp_price_check.specs.Classes.{service_of};
+ghost use Rattle.hsp_price_check.specs.Passed.{AreLoadsOf, capped};
+ghost use Rattle.hsp_price_check.specs.Regions.{classes_sum, cost_by, region_cost, region_demand};
 ghost use Rattle.hsp_price_check.specs.declared.fault.PassFault.TheVariants.{OutOfMemory, TooManyRegions};
 
 use crate::capacity::capacity_of_set;
@@ -26,6 +30,7 @@ use crate::fault::PassFault;
 use crate::finding::class_numbers;
 use crate::numbers::{ServiceNumbers, numbers_of};
 use crate::plan_pass::PlanPass;
+use crate::regions::{RegionSums, add_classes, add_row};
 use crate::set_pass::SetPass;
 use crate::sums::PassSums;
 use hsp_check::flags_of;
@@ -50,7 +55,10 @@ pub(crate) enum Judge<'a> {
 /// and no rows.
 #[derive(Drop)]
 pub struct PriceCheck<'a> {
+    instance: &'a Instance,
+    costs: &'a Costs,
     arcs: RowArcs<'a>,
+    regions: Vec<RegionSums>,
     judge: Judge<'a>,
 }
 
@@ -158,22 +166,28 @@ fn judge_of_set<'a>(
 }
 
 impl Judge<'_> {
-    // Passes over a row of this region with these arcs, which asks for `count` queries.
-    fn add(&mut self, region: &[u8], arcs: &[Arc], count: u64) -> Result<(), AllocError>
+    // Passes over a row of this region with these arcs, which asks for `count` queries, and returns what it costs by
+    // the plan that is judged.
+    fn add(&mut self, region: &[u8], arcs: &[Arc], count: u64) -> Result<u128, AllocError>
         requires judge { (at : Service) × (certificate : PriceCertificate) × (rows : List Row)
             × IsJudge at certificate rows self.old
             × AllByRecursion (IsWithin (length at.servers)) arcs.now }
-        ensures { OnOk result ((at : Service) (certificate : PriceCertificate) (rows : List Row)
-            (row : Row) → IsJudge at certificate rows self.old
+        ensures passed { OnOk result ((at : Service) (certificate : PriceCertificate)
+            (rows : List Row) (row : Row) → IsJudge at certificate rows self.old
             → IsOfRow at row region.now arcs.now count
             → IsJudge at certificate (rows ++ row ∷ []) self.new) }
+        ensures cost { IfOk result (λ cost. (at : Service) (certificate : PriceCertificate)
+            (rows : List Row) (row : Row) → IsJudge at certificate rows self.old
+            → IsOfRow at row region.now arcs.now count
+            → cost ≡ cost_by at (judged_plan self.old) row) }
+        ensures plan { judged_plan self.new ≡ judged_plan self.old }
     {
         match self {
-            Judge::Refused(_) => Ok(()),
+            Judge::Refused(_) => Ok(0),
             Judge::Plan(pass) => pass.add(region, arcs, count),
             Judge::Set(pass) => {
                 pass.add(arcs, count);
-                Ok(())
+                Ok(0)
             }
         }
     }
@@ -212,7 +226,10 @@ impl<'a> PriceCheck<'a> {
             PriceCertificate::Shortage(set) => judge_of_set(alloc, instance, set)?,
         };
         Ok(PriceCheck {
+            instance,
+            costs,
             arcs: RowArcs::new(alloc, instance.sites(), costs),
+            regions: Vec::new(alloc),
             judge,
         })
     }
@@ -253,8 +270,9 @@ impl<'a> PriceCheck<'a> {
         if self.has_no_room(region) {
             return Err(PassFault::TooManyRegions);
         }
-        self.arcs.find(alloc, region, handle)?;
-        self.judge.add(region, self.arcs.arcs(), count)?;
+        let number = self.arcs.find(alloc, region, handle)?;
+        let cost = self.judge.add(region, self.arcs.arcs(), count)?;
+        add_row(&mut self.regions, number, count, cost)?;
         Ok(())
     }
 
@@ -266,5 +284,73 @@ impl<'a> PriceCheck<'a> {
             → IsVerdict at rows certificate verdict) }
     {
         self.judge.verdict(alloc)
+    }
+
+    /// What each server takes by the plan: what the rows with one least server and the classes bring to it. There are
+    /// none for a short set, and for a plan against which a reason stands whatever the rows are. Loads above 2^128 - 1
+    /// are kept as that.
+    pub fn loads(&self) -> Option<&[u128]>
+        ensures loads { IfSome result (λ loads. (at : Service) (certificate : PriceCertificate)
+            (rows : List Row) → IsPassed at certificate rows self.now
+            → (plan : Best) × (certificate ≡ Plan plan) × AreLoadsOf at plan rows loads.now) }
+        ensures valid { (at : Service) (rows : List Row) (plan : Best)
+            → IsPassed at (Plan plan) rows self.now → IsVerdict at rows (Plan plan) Yes
+            → IsSome result }
+    {
+        match &self.judge {
+            Judge::Plan(pass) => Some(pass.sums.loads.as_slice()),
+            Judge::Refused(_) => None,
+            Judge::Set(_) => None,
+        }
+    }
+
+    /// How many regions the rows had.
+    pub fn regions(&self) -> usize
+        ensures known { result ≡ length self.now.arcs.regions }
+        ensures rows { (at : Service) (certificate : PriceCertificate) (rows : List Row)
+            → IsPassed at certificate rows self.now → result ≡ length (regions_of rows) }
+    {
+        self.arcs.regions()
+    }
+
+    // What the rows of a region cost, with what its classes cost by the plan that is judged.
+    fn region_cost(&self, region: &[u8], rows_cost: u128) -> u128
+        requires { IsOfSomeRows self.now }
+        ensures { (at : Service) (certificate : PriceCertificate) (rows : List Row) (plan : Best)
+            → IsPassed at certificate rows self.now → judged_plan self.now.judge ≡ Some plan
+            → result ≡ capped (rows_cost + classes_sum at plan.classes region.now) }
+    {
+        match &self.judge {
+            Judge::Plan(pass) => add_classes(
+                self.instance,
+                self.costs,
+                pass.plan.classes(),
+                region,
+                rows_cost,
+            ),
+            Judge::Refused(_) => rows_cost,
+            Judge::Set(_) => rows_cost,
+        }
+    }
+
+    /// The name of the region with this number, which is below [`PriceCheck::regions`], what its rows ask for, and
+    /// what its rows with one least server and its classes cost by a plan that is valid. Regions are numbered in the
+    /// order in which the rows name them first. Sums above 2^128 - 1 are kept as that.
+    pub fn region(&self, number: usize) -> (&[u8], u128, u128)
+        requires passed { IsOfSomeRows self.now }
+        requires number { number < length self.now.arcs.regions }
+        ensures name { (at : Service) (certificate : PriceCertificate) (rows : List Row)
+            → IsPassed at certificate rows self.now
+            → slice_get (regions_of rows) number ≡ Some result.0.now }
+        ensures demand { (at : Service) (certificate : PriceCertificate) (rows : List Row)
+            → IsPassed at certificate rows self.now
+            → result.1 ≡ capped (region_demand rows result.0.now) }
+        ensures cost { (at : Service) (rows : List Row) (plan : Best)
+            → IsPassed at (Plan plan) rows self.now → IsVerdict at rows (Plan plan) Yes
+            → result.2 ≡ capped (region_cost at plan rows result.0.now) }
+    {
+        let name = self.arcs.region(number);
+        let sums = self.regions[number];
+        (name, sums.demand, self.region_cost(name, sums.cost))
     }
 }

@@ -53,8 +53,8 @@ fn cost_at(instance: &Instance, costs: &Costs, region: &[u8], server: u32) -> u6
     costs.find(region, instance.sites().name(site)).unwrap_or(0)
 }
 
-// What a class costs.
-fn class_cost(instance: &Instance, costs: &Costs, class: &Class) -> u128
+/// What a class costs.
+pub(crate) fn class_cost(instance: &Instance, costs: &Costs, class: &Class) -> u128
     requires { AreThere (service_of costs.now instance.now) class.now.servers }
     ensures { result ≡ capped (class_cost (service_of costs.now instance.now) class.now) }
 {

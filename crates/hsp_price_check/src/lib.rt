@@ -12,6 +12,7 @@ mod least;
 mod numbers;
 mod plan_pass;
 mod plan_verdict;
+mod regions;
 mod set_pass;
 mod sums;
 

@@ -6,6 +6,7 @@ ghost use Rattle.hsp_instance.specs.Instance.{Row};
 ghost use Rattle.hsp_instance.specs.RowArcs.{IsWithin};
 ghost use Rattle.hsp_kinds.specs.Rows.{Service};
 ghost use Rattle.hsp_price_text.specs.Claim.{Best};
+ghost use Rattle.hsp_classes.specs.Sums.{row_cost};
 ghost use Rattle.hsp_price_check.specs.PlanPass.{IsOfRow, IsOfRows, IsPlaceBy, IsPlanPass};
 
 use crate::finding::find_class;
@@ -52,17 +53,25 @@ fn place_of(
 }
 
 impl PlanPass<'_> {
-    /// Passes over a row of this region with these arcs, which asks for `count` queries.
-    pub(crate) fn add(&mut self, region: &[u8], arcs: &[Arc], count: u64) -> Result<(), AllocError>
+    /// Passes over a row of this region with these arcs, which asks for `count` queries, and returns what it costs.
+    pub(crate) fn add(
+        &mut self,
+        region: &[u8],
+        arcs: &[Arc],
+        count: u64,
+    ) -> Result<u128, AllocError>
         requires pass { IsOfRows self.old }
         requires within { AllByRecursion (IsWithin (length self.old.extras.items)) arcs.now }
-        ensures { OnOk result ((at : Service) (plan : Best) (rows : List Row) (row : Row)
+        ensures passed { OnOk result ((at : Service) (plan : Best) (rows : List Row) (row : Row)
             → IsPlanPass at plan rows self.old → IsOfRow at row region.now arcs.now count
             → IsPlanPass at plan (rows ++ row ∷ []) self.new) }
+        ensures cost { IfOk result (λ cost. (at : Service) (plan : Best) (rows : List Row)
+            (row : Row) → IsPlanPass at plan rows self.old
+            → IsOfRow at row region.now arcs.now count → cost ≡ row_cost at plan row) }
+        ensures plan { self.new.plan.now ≡ self.old.plan.now }
     {
         fill_least(&mut self.least, arcs, &self.extras)?;
         let place = place_of(&self.least, &mut self.servers, &self.classes, region)?;
-        self.sums.add(place, count);
-        Ok(())
+        Ok(self.sums.add(place, count))
     }
 }

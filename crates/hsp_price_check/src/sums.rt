@@ -60,16 +60,19 @@ fn cost_of(cost: u64, count: u64) -> u128
 }
 
 impl PassSums {
-    ghost use Rattle.hsp_price_check.specs.Passed.{IsAdded};
+    ghost use Rattle.hsp_price_check.specs.Passed.{IsAdded, spent};
 
-    // Adds a row that goes over an arc.
-    fn add_over(&mut self, arc: Arc, count: u64)
+    // Adds a row that goes over an arc, and returns what it costs.
+    fn add_over(&mut self, arc: Arc, count: u64) -> u128
         requires server { arc.server < length self.old.loads.items }
         requires cost { arc.cost ≤ GREATEST_COST }
-        ensures { IsAdded self.old (Over arc) count self.new }
+        ensures added { IsAdded self.old (Over arc) count self.new }
+        ensures cost { result ≡ arc.cost * count }
     {
         add_at(&mut self.loads, arc.server as usize, count);
-        self.cost = self.cost.saturating_add(cost_of(arc.cost, count));
+        let cost = cost_of(arc.cost, count);
+        self.cost = self.cost.saturating_add(cost);
+        cost
     }
 
     // Adds a row of a class.
@@ -82,16 +85,26 @@ impl PassSums {
         set_at(&mut self.seen, class as usize);
     }
 
-    /// Adds a row with its count at its place.
-    pub(crate) fn add(&mut self, place: RowPlace, count: u64)
+    /// Adds a row with its count at its place, and returns what it costs: a row of a class costs nothing of its own.
+    pub(crate) fn add(&mut self, place: RowPlace, count: u64) -> u128
         requires { IsInside self.old place }
-        ensures { IsAdded self.old place count self.new }
+        ensures added { IsAdded self.old place count self.new }
+        ensures cost { result ≡ spent place count }
     {
         match place {
-            RowPlace::Nowhere => self.placed = self.placed && count == 0,
+            RowPlace::Nowhere => {
+                self.placed = self.placed && count == 0;
+                0
+            }
             RowPlace::Over(arc) => self.add_over(arc, count),
-            RowPlace::OfClass(class) => self.add_to_class(class, count),
-            RowPlace::Unlisted => self.placed = false,
+            RowPlace::OfClass(class) => {
+                self.add_to_class(class, count);
+                0
+            }
+            RowPlace::Unlisted => {
+                self.placed = false;
+                0
+            }
         }
     }
 }

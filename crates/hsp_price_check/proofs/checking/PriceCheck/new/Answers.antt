@@ -1,6 +1,7 @@
-use Rattle.std.proofs.Common.{◌∙◌, [], arith}
+use Rattle.std.proofs.Common.{◌∙◌, [], arith, refl, rules}
 use Rattle.hsp_price_check.specs.Checking.{IsJudge}
 use Rattle.hsp_price_check.specs.Classes.{service_of}
+use Rattle.hsp_price_check.proofs.RegionSteps.{no_regions}
 use Rattle.hsp_price_check.proofs.checking.PriceCheck.new.Goals as goal
 use Rattle.hsp_price_check.proofs.checking.PriceCheck.new.Goals.{in-Plan+in_ok-judge-in-Plan}
 use Rattle.hsp_price_check.proofs.checking.PriceCheck.new.Goals.{in-Shortage+in_ok-judge-in-Shortage}
@@ -28,4 +29,6 @@ returns c =
       regions_are = c.new.ensures.regions;
       few_regions = omega arith;
       judge = judge;
+      service_is = refl;
+      regions = no_regions _ _ (search rules);
     }
