@@ -1,4 +1,5 @@
-// Tests of the runs over logs of any length: tables of kinds, places, answers by a portion of a plan, and faulty rows.
+// Tests of the runs over logs of any length: tables of kinds, places, answers by a portion of a plan, certificates by
+// prices, and faulty rows.
 // Then of the lines that are printed, and of what the runs stand on: rows that are lines, rows that were seen.
 #![tactic(auto)]
 
@@ -12,6 +13,8 @@ mod faulty_tests;
 mod kinds_tests;
 #[cfg(test)]
 mod line_tests;
+#[cfg(test)]
+mod price_tests;
 #[cfg(test)]
 mod row_tests;
 #[cfg(test)]

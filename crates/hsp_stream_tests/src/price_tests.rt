@@ -1,0 +1,204 @@
+// The check of a certificate by prices, from the octets of its files and its log to the verdict and its line.
+//
+// By the worked service 10/1 may go to the servers 1 and 4, 10/2 to 0 and 3, and 10/3 to 1 and 2.
+
+ghost use Rattle.hsp_price_check.specs.Checking.{IsOfSomeRows};
+
+use crate::fakes::Rows;
+use crate::same::is_same;
+use crate::worked::owned;
+use hsp_cert::CertFault;
+use hsp_classes::{PriceReason, PriceVerdict};
+use hsp_faults::Fault;
+use hsp_instance::Instance;
+use hsp_names::HandleRef;
+use hsp_price_check::PriceCheck;
+use hsp_price_runs::{price_check_run, price_verdict_line, price_verdict_status};
+use hsp_price_text::{PriceCertificate, read_prices};
+use hsp_runs::{Inputs, costs_in, instance_in};
+use hsp_stream::{RowFault, StreamFault};
+use hsp_tables::Costs;
+use hsp_test_support::service::{CAPACITY, COSTS, DEMAND, SETTINGS};
+use std::alloc::{AllocError, Global};
+use std::io::Read;
+use std::process::Abort;
+
+// The server 1 is full at the price 1. Of the three queries from r2 one stays there, and two go to the server 2.
+const PLAN: &[u8] =
+    b"HSPLAN PRICES 1\nPLAN\ncost 17\nserver 0 0\nserver 1 1\nserver 2 0\nserver 3 0\nserver 4 0\n\
+    class r2 1 1 2 2\nEND\n";
+
+// The same with another class.
+const TOO_MUCH: &[u8] =
+    b"HSPLAN PRICES 1\nPLAN\ncost 16\nserver 0 0\nserver 1 1\nserver 2 0\nserver 3 0\n\
+    server 4 0\nclass r2 1 2 2 1\nEND\n";
+
+// The same with another cost.
+const TOO_CHEAP: &[u8] =
+    b"HSPLAN PRICES 1\nPLAN\ncost 16\nserver 0 0\nserver 1 1\nserver 2 0\nserver 3 0\n\
+    server 4 0\nclass r2 1 1 2 2\nEND\n";
+
+// A set that 10/3 can't leave. It takes 8.
+const SET: &[u8] = b"HSPLAN PRICES 1\nSHORT\nserver 1\nserver 2\ndemand 9\ncapacity 8\nEND\n";
+
+// The inputs of the service, without a row of demand.
+fn inputs_of(alloc: Global) -> Result<Inputs, AllocError> {
+    Ok(Inputs {
+        settings: owned(alloc, SETTINGS)?,
+        values: None,
+        demand: owned(alloc, b"region,handle,count\n")?,
+        costs: owned(alloc, COSTS)?,
+        capacity: owned(alloc, CAPACITY)?,
+    })
+}
+
+type Judged = Result<PriceVerdict, StreamFault>;
+
+// What the run gives.
+fn judged_once<R: Read + Drop>(alloc: Global, prices: &[u8], log: R) -> Judged {
+    let Ok(inputs) = inputs_of(alloc) else {
+        return Err(StreamFault::OutOfMemory);
+    };
+    price_check_run(alloc, &inputs, prices, log)
+}
+
+// The same, once more where memory ran out.
+fn judged<R: Read + Copy + Drop>(alloc: Global, prices: &[u8], log: R) -> Judged {
+    match judged_once(alloc, prices, log) {
+        Err(StreamFault::OutOfMemory) => judged_once(alloc, prices, log),
+        ended => ended,
+    }
+}
+
+// The run over the log has this end.
+fn ends(rt: &impl Abort, alloc: Global, prices: &[u8], log: &[u8], wanted: Judged) {
+    is_same(rt, judged(alloc, prices, Rows::only(log)), wanted);
+}
+
+#[test]
+fn a_plan_by_prices_is_judged_by_the_rows_of_a_log(rt: HostRuntime) {
+    let alloc = rt.alloc();
+    ends(&rt, alloc, PLAN, DEMAND, Ok(PriceVerdict::Yes));
+    let load = PriceVerdict::No(PriceReason::Load);
+    ends(&rt, alloc, TOO_MUCH, DEMAND, Ok(load));
+    let cost = PriceVerdict::No(PriceReason::Cost);
+    ends(&rt, alloc, TOO_CHEAP, DEMAND, Ok(cost));
+    let none = PriceVerdict::No(PriceReason::NotLeast);
+    ends(&rt, alloc, PLAN, b"region,handle\n", Ok(none));
+}
+
+#[test]
+fn rows_may_come_in_parts_and_in_any_order(rt: HostRuntime) {
+    let log = b"region,handle,count\nr2,10/3,1\nr1,10/2,0\nr1,10/2,4\nr1,10/1,5\nr2,10/3,2\n";
+    ends(&rt, rt.alloc(), PLAN, log, Ok(PriceVerdict::Yes));
+}
+
+#[test]
+fn a_set_of_servers_is_judged_by_the_rows_that_it_catches(rt: HostRuntime) {
+    let alloc = rt.alloc();
+    let more = b"region,handle,count\nr1,10/1,50\nr2,10/3,9\n";
+    ends(&rt, alloc, SET, more, Ok(PriceVerdict::Yes));
+    let sum = PriceVerdict::No(PriceReason::DemandSum);
+    ends(&rt, alloc, SET, DEMAND, Ok(sum));
+}
+
+#[test]
+fn a_fault_of_the_log_comes_before_the_verdict(rt: HostRuntime) {
+    let alloc = rt.alloc();
+    let text = Fault::Cert(CertFault::Ended);
+    ends(
+        &rt,
+        alloc,
+        b"HSPLAN PRICES 1\n",
+        DEMAND,
+        Err(StreamFault::Input(text)),
+    );
+    let header = StreamFault::Log(RowFault::Header);
+    ends(&rt, alloc, PLAN, b"", Err(header));
+    let fields = StreamFault::Log(RowFault::Fields { row: 1 });
+    ends(
+        &rt,
+        alloc,
+        PLAN,
+        b"region,handle\nr1,10/1\nr1\n",
+        Err(fields),
+    );
+    let failing = Rows {
+        head: DEMAND,
+        row: b"r1,10/1,1\n",
+        times: 3,
+        end: b"",
+        fails: true,
+    };
+    let failed = Err(StreamFault::Log(RowFault::ReadFailed));
+    is_same(&rt, judged(alloc, PLAN, failing), failed);
+}
+
+// The line of a verdict, once more where memory ran out.
+fn has_line(rt: &impl Abort, alloc: Global, verdict: PriceVerdict, wanted: &[u8]) {
+    let line = match price_verdict_line(alloc, verdict) {
+        Ok(line) => Ok(line),
+        Err(_) => price_verdict_line(alloc, verdict),
+    };
+    match line {
+        Ok(line) => is_same(rt, line.as_slice(), wanted),
+        Err(_) => is_same(rt, true, false),
+    }
+}
+
+#[test]
+fn a_verdict_has_a_line_and_a_status(rt: HostRuntime) {
+    let alloc = rt.alloc();
+    has_line(&rt, alloc, PriceVerdict::Yes, b"yes\n");
+    let no = PriceVerdict::No(PriceReason::NotShort);
+    has_line(&rt, alloc, no, b"no 11 NotShort\n");
+    is_same(&rt, price_verdict_status(PriceVerdict::Yes), 0);
+    is_same(&rt, price_verdict_status(no), 3);
+}
+
+// What the servers 1 and 2 take, and what the first region asks for and costs. None where memory ran out.
+type Sums = Option<(u128, u128, u128, u128)>;
+
+// The same of a check that has passed over rows.
+fn sums_in(check: &PriceCheck<'_>) -> Sums
+    requires { IsOfSomeRows check.now }
+{
+    let loads = check.loads()?;
+    if loads.len() < 3 || check.regions() == 0 {
+        return None;
+    }
+    let (_, demand, cost) = check.region(0);
+    Some((loads[1], loads[2], demand, cost))
+}
+
+// The same of one row of the region r2.
+fn sums_by(
+    alloc: Global,
+    instance: &Instance,
+    costs: &Costs,
+    certificate: &PriceCertificate,
+) -> Sums {
+    let mut check = PriceCheck::new(alloc, instance, costs, certificate).ok()?;
+    let handle = HandleRef::parse(b"10/3").ok()?;
+    match check.add(alloc, b"r2", handle, 3) {
+        Ok(()) => sums_in(&check),
+        Err(_) => None,
+    }
+}
+
+fn sums(alloc: Global) -> Sums {
+    let inputs = inputs_of(alloc).ok()?;
+    let instance = instance_in(alloc, &inputs).ok()?;
+    let costs = costs_in(alloc, COSTS).ok()?;
+    let certificate = read_prices(alloc, PLAN).ok()?;
+    sums_by(alloc, &instance, &costs, &certificate)
+}
+
+#[test]
+fn a_check_lends_loads_and_the_sums_of_regions(rt: HostRuntime) {
+    let found = match sums(rt.alloc()) {
+        None => sums(rt.alloc()),
+        found => found,
+    };
+    is_same(&rt, found, Some((1, 2, 3, 8)));
+}
