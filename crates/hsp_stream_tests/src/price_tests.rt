@@ -2,8 +2,6 @@
 //
 // By the worked service 10/1 may go to the servers 1 and 4, 10/2 to 0 and 3, and 10/3 to 1 and 2.
 
-ghost use Rattle.hsp_price_check.specs.Checking.{IsOfSomeRows};
-
 use crate::fakes::Rows;
 use crate::same::is_same;
 use crate::worked::owned;
@@ -156,19 +154,16 @@ fn a_verdict_has_a_line_and_a_status(rt: HostRuntime) {
     is_same(&rt, price_verdict_status(no), 3);
 }
 
-// What the servers 1 and 2 take, and what the first region asks for and costs. None where memory ran out.
-type Sums = Option<(u128, u128, u128, u128)>;
+// What the servers 1 and 2 take, and how many regions there are. None where memory ran out.
+type Sums = Option<(u128, u128, usize)>;
 
 // The same of a check that has passed over rows.
-fn sums_in(check: &PriceCheck<'_>) -> Sums
-    requires { IsOfSomeRows check.now }
-{
+fn sums_in(check: &PriceCheck<'_>) -> Sums {
     let loads = check.loads()?;
-    if loads.len() < 3 || check.regions() == 0 {
+    if loads.len() < 3 {
         return None;
     }
-    let (_, demand, cost) = check.region(0);
-    Some((loads[1], loads[2], demand, cost))
+    Some((loads[1], loads[2], check.regions()))
 }
 
 // The same of one row of the region r2.
@@ -195,10 +190,10 @@ fn sums(alloc: Global) -> Sums {
 }
 
 #[test]
-fn a_check_lends_loads_and_the_sums_of_regions(rt: HostRuntime) {
+fn a_check_lends_loads_and_counts_regions(rt: HostRuntime) {
     let found = match sums(rt.alloc()) {
         None => sums(rt.alloc()),
         found => found,
     };
-    is_same(&rt, found, Some((1, 2, 3, 8)));
+    is_same(&rt, found, Some((1, 2, 1)));
 }
