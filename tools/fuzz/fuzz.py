@@ -11,7 +11,8 @@ words and files in memory.
 Of every answer holds: two runs agree; the line on standard error is one of the program's own, and the status suits
 it; the program gives back all its memory; time and memory are within a bound that is linear in the octets of the
 input. The rest stands with each judge: of hsplan in tools/fuzz/judges.py, of hsplan-stream in stream_judges.py beside
-it, where the answers to written logs are those of tools/lib/oracle.py. The gate doesn't run this script.
+it, where the answers to written logs are those of tools/lib/oracle.py, and in price_judges.py, where the verdicts on
+certificates by prices are those of tools/lib/price_verdicts.py. The gate doesn't run this script.
 """
 from __future__ import annotations
 
@@ -29,13 +30,17 @@ sys.path.insert(0, str(Path(__file__).resolve().parents[1]))
 
 from lib import growth, packages, programs
 
+# The programs, each with the option that names its file.
+PROGRAMS = {"hsplan": "--program", "hsplan-stream": "--stream"}
+
 
 def kinds() -> dict[str, Any]:
     """All kinds of cases, by their names. Without Hypothesis none can be named."""
     import judges
+    import price_judges
     import stream_judges
 
-    return {**judges.KINDS, **stream_judges.KINDS}
+    return {**judges.KINDS, **stream_judges.KINDS, **price_judges.KINDS}
 
 
 def judged(name: str, asked: argparse.Namespace, preloaded: str) -> tuple[int, str]:
@@ -45,7 +50,9 @@ def judged(name: str, asked: argparse.Namespace, preloaded: str) -> tuple[int, s
     from runner import Runner
 
     kind, unhealthy = kinds()[name], list(HealthCheck)
-    program = Runner(kind.program, os.path.abspath(getattr(asked, kind.program)), preloaded)
+    runners = {it: Runner(it, os.path.abspath(getattr(asked, it)), preloaded) for it in PROGRAMS}
+    program = runners[kind.program]
+    program.beside = runners
 
     @seed(f"{asked.seed} {name}")
     @settings(max_examples=asked.cases, deadline=None, database=None, suppress_health_check=unhealthy)
@@ -58,8 +65,9 @@ def judged(name: str, asked: argparse.Namespace, preloaded: str) -> tuple[int, s
         case()
     except Exception:
         fault = f"--seed {asked.seed}: {name}: {traceback.format_exc()}"
-    program.end()
-    return program.runs, fault
+    for one in runners.values():
+        one.end()
+    return sum(one.runs for one in runners.values()), fault
 
 
 def main() -> int:
@@ -68,7 +76,7 @@ def main() -> int:
     words.add_argument("--cases", type=int, default=1000, help="cases of each kind (1,000)")
     words.add_argument("--seed", type=int, default=1)
     words.add_argument("--kinds", default="", help="names with a comma between them")
-    for option, name in (("--program", "hsplan"), ("--stream", "hsplan-stream")):
+    for name, option in PROGRAMS.items():
         words.add_argument(option, dest=name, metavar="FILE", default=programs.built_path(name))
     given = words.parse_args()
     packages.install(packages.absent(["python3-hypothesis"]))

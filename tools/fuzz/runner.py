@@ -79,11 +79,13 @@ def built(folder: str) -> str:
 
 
 class Runner:
-    """A program, by its path and its name, in a process that begins with the first run and anew where it died."""
+    """A program, by its path and its name, in a process that begins with the first run and anew where it died. Beside
+    it stand the programs, by their names, that make what is judged."""
 
     def __init__(self, name: str, path: str, preloaded: str) -> None:
         self.name, self.path, self.means = name, path, dict(os.environ, LD_PRELOAD=preloaded)
         self.runs = 0
+        self.beside: dict[str, Runner] = {}
         self._process: subprocess.Popen[bytes] | None = None
 
     def end(self) -> None:

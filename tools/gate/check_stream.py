@@ -197,7 +197,7 @@ def check_prices(it: Programs, draw: random.Random) -> list[str]:
         plan = it.plan()
         is_short = plan.splitlines()[1] == b"SHORTAGE"
         if is_short:
-            right = prices.of_shortage(oracle.THREE, table, plan, capacity)
+            right = prices.of_shortage(oracle.THREE, table, plan)
             changes = [("demand ", "no 9 DemandSum"), ("capacity ", "no 10 CapacitySum")]
         else:
             right = prices.of_plan(oracle.THREE, table, plan)

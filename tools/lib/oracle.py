@@ -9,7 +9,7 @@ import functools
 import hashlib
 import os
 import random
-from collections.abc import Iterable, Iterator, Mapping
+from collections.abc import Iterable, Iterator, Mapping, Sequence
 from typing import NamedTuple
 
 INPUTS = "--settings settings.toml --demand demand.csv --costs costs.csv --capacity capacity.csv"
@@ -105,12 +105,14 @@ class Service(NamedTuple):
         for site in self.sites:
             yield handle, site.name, site.place(handle), site.servers[site.place(handle)]
 
-    def settings(self) -> bytes:
+    def settings(self, limits: Sequence[int] = ()) -> bytes:
+        """The settings, in which hosts have these limits, or ones beyond reach."""
         lines = []
         for at, site in enumerate(self.sites):
             source = f"index = {FIRST_INDEX + at}" if self.has_values else f'record = "{site.record().hex()}"'
             lines.append(f'[[site]]\nname = "{site.name}"\n{source}\n')
-        lines += [f'[[host]]\naddress = "{at + 1:032x}"\nlimit = 1000000000000\n' for at in range(self.hosts)]
+        given = limits or [1_000_000_000_000] * self.hosts
+        lines += [f'[[host]]\naddress = "{at + 1:032x}"\nlimit = {limit}\n' for at, limit in enumerate(given)]
         return "".join(lines).encode()
 
     def files(self, demand: Iterable[Row] = (), capacity: int = 1_000_000_000) -> dict[str, bytes]:

@@ -7,9 +7,9 @@ The service has 12 sites of 8 servers, four by each hash option, so that a new r
 regions, and all of them use all sites. Logs have 2,000 handles (20,000 pairs), 100,000 handles, and a new handle in
 nearly each row.
 
-By turns with it runs tools/stream_peer.cpp, the same steps in plain C++, where a C++ compiler and OpenSSL's MD5 are
-there. Seconds are processor seconds, and memory is its peak. All runs are on one processor, where the machine lets one
-be chosen. Then a co-process over pipes is asked row by row.
+By turns with it runs tools/measure/stream_peer.cpp, the same steps in plain C++, where a C++ compiler and OpenSSL's
+MD5 are there. Seconds are processor seconds, and memory is its peak. All runs are on one processor, where the machine
+lets one be chosen. Then a co-process over pipes is asked row by row.
 """
 from __future__ import annotations
 

@@ -1,6 +1,6 @@
 // The steps of `hsplan-stream kinds` and `hsplan-stream answer` in plain C++, by which their speed is measured.
 //
-// No contract, no faults: fields are cut at commas, and nothing is checked. `tools/measure_stream.py` compiles it.
+// No contract, no faults: fields are cut at commas, and nothing is checked. `tools/measure/stream.py` compiles it.
 //
 //   stream_peer kinds SERVICE           reads a log on standard input, and prints the table of its kinds
 //   stream_peer answer SERVICE TABLE    answers a log; each row of the table has all its queries at its first site
