@@ -14,3 +14,4 @@ mod ClassPlan
 mod Paid
 mod Shown
 mod Short
+pub mod Bounds

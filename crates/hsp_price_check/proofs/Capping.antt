@@ -1,5 +1,5 @@
 -- Sums that a pass keeps up to a greatest one.
-use Rattle.std.proofs.Common.{◌≡◌, ◌+◌, ◌∷◌, ℕ, List, arith, sum_by}
+use Rattle.std.proofs.Common.{◌≡◌, ◌≤◌, ◌<◌, ◌+◌, ◌^◌, ◌∷◌, ℕ, List, arith, sum_by}
 use Rattle.std.proofs.lemmas.List.Sums.{sum_by-cons}
 use Rattle.hsp_price_check.specs.Passed.{capped}
 
@@ -16,3 +16,7 @@ term_skipped f x xs sum all none so = omega (arith, none, so, sum_by-cons f x xs
 -- a sum that is kept goes on as the sum does
 pub kept_more : (a b : ℕ) → capped (capped a + b) ≡ capped (a + b)
 kept_more a b = omega arith
+
+-- what is kept of a sum within a small bound is the sum
+pub kept_within : (n m : ℕ) → m < 2 ^ 64 → n ≤ m → capped n ≡ n
+kept_within n m small within = grind (arith, small, within)

@@ -9,7 +9,8 @@ use Rattle.hsp_kinds.specs.Rows.{Service}
 use Rattle.hsp_price_text.specs.Claim.{Best, Class, is_class}
 use Rattle.hsp_price_text.proofs.DraftSteps.{best_parts}
 use Rattle.hsp_classes.proofs.GivenClasses.{IsGiven, given_classes}
-use Rattle.hsp_price_check.proofs.Judging.{exact, kept_within}
+use Rattle.hsp_price_check.proofs.Capping.{kept_within}
+use Rattle.hsp_price_check.proofs.Judging.{exact}
 use Rattle.hsp_price_check.proofs.SmallAmounts.{amounts_small}
 use Rattle.hsp_classes.specs.Least.{is_of}
 use Rattle.hsp_classes.specs.Sums.{asked_of}

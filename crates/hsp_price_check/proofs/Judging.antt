@@ -1,12 +1,11 @@
 -- What a plan's pass tests at its end is what the certificate has to meet.
-use Rattle.std.proofs.Common.{◌≡◌, ◌≤◌, ◌<◌, ◌^◌, ℕ, true, List, [], ◌∷◌, length, map}
-use Rattle.std.proofs.Common.{zero, suc, nat_le, slice_index, if◌then◌else◌, ap, sym, ◌∙◌, arith}
-use Rattle.std.specs.List.{AllByRecursion}
+use Rattle.std.proofs.Common.{◌≡◌, ◌≤◌, ◌<◌, ◌^◌, ℕ, true, List, length, map}
+use Rattle.std.proofs.Common.{nat_le, slice_index, if◌then◌else◌, ap, sym, ◌∙◌, arith}
 use Rattle.std.proofs.lemmas.List.{length-map}
 use Rattle.std.proofs.lemmas.Bool.{and_parts}
 use Rattle.hsp_text.specs.declared.limits.TheConstants.{GREATEST_CAPACITY, GREATEST_SUM}
 use Rattle.hsp_transport.specs.Sums.{sum_below}
-use Rattle.hsp_instance.specs.Instance.{IsServer, Row, Server}
+use Rattle.hsp_instance.specs.Instance.{Row, Server}
 use Rattle.hsp_check.specs.ArcFlows.{host_in}
 use Rattle.hsp_check.specs.Lists.{AreHosted, AreIdle, AreWithin}
 use Rattle.hsp_check.specs.Plan.{is_on}
@@ -16,28 +15,19 @@ use Rattle.hsp_transport.proofs.Summing.{sum_below_same}
 use Rattle.hsp_classes.specs.Sums.{cost_in_all, host_load_at, load_at}
 use Rattle.hsp_classes.specs.Verdict.{PlanMeets}
 use Rattle.hsp_classes.specs.declared.verdict.PriceReason.TheVariants.{Load, Cost, IdlePrice}
+use Rattle.hsp_classes.proofs.Bounds.{capacity_low}
 use Rattle.hsp_price_check.specs.Passed.{capped}
 use Rattle.hsp_price_check.specs.PlanPass.{IsPlanPass}
 use Rattle.hsp_price_check.specs.declared.plan_pass.PlanPass.{PlanPass}
+use Rattle.hsp_price_check.proofs.Capping.{kept_within}
 
 -- a sum that is kept as a small number is that number
 pub exact : (n m : ℕ) → m < 2 ^ 64 → capped n ≡ m → n ≡ m
 exact n m small is = grind (arith, small, is)
 
--- what is kept of a sum within a small bound is the sum
-pub kept_within : (n m : ℕ) → m < 2 ^ 64 → n ≤ m → capped n ≡ n
-kept_within n m small within = grind (arith, small, within)
-
 -- and a sum that is kept within the bound is within it
 pub within_kept : (n m : ℕ) → m < 2 ^ 64 → capped n ≤ m → n ≤ m
 within_kept n m small within = grind (arith, small, within)
-
--- the capacity of a server is within its limit
-pub capacity_low : (sites : _) (hosts : ℕ) (servers : List Server) → AllByRecursion (IsServer sites hosts) servers → (j : ℕ)
-    → slice_index (map (λ server. server.capacity) servers) j ≤ GREATEST_CAPACITY
-capacity_low sites hosts [] all j = omega arith
-capacity_low sites hosts (s ∷ servers) all zero = all.0.capacity
-capacity_low sites hosts (s ∷ servers) all (suc j) = capacity_low sites hosts servers all.1 j
 
 module _ (at : Service) (plan : Best) (rows : List Row) (pass : PlanPass) (is : IsPlanPass at plan rows pass) where
   abbrev capacities : List ℕ

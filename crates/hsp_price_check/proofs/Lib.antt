@@ -1,4 +1,4 @@
-mod Capping
+pub mod Capping
 mod LeastPays
 mod ClassPlaces
 mod ClassSums

@@ -1,22 +1,22 @@
 -- What a pass keeps of the sums of a valid plan is exact.
-use Rattle.std.proofs.Common.{◌≡◌, ◌≤◌, ◌<◌, ◌+◌, ◌^◌, ℕ, Bool, true, false, List, length, sum_by, slice_index, arith}
-use Rattle.std.proofs.Common.{leb-true, if◌then◌else◌, refl}
+use Rattle.std.proofs.Common.{◌≡◌, ◌≤◌, ◌<◌, ◌*◌, ℕ, Bool, true, false, List, length, sum_by, arith}
+use Rattle.std.proofs.Common.{leb-true, if◌then◌else◌}
 use Rattle.std.specs.Str.{bytes_eq}
 use Rattle.std.proofs.lemmas.Bool.{and_parts}
 use Rattle.std.proofs.lemmas.List.Sums.{sum_by-le-sum_by}
 use Rattle.hsp_instance.specs.Instance.{Row}
 use Rattle.hsp_kinds.specs.Rows.{Service}
-use Rattle.hsp_price_text.specs.Claim.{Best, Class, is_best}
+use Rattle.hsp_price_text.specs.Claim.{Best, is_best}
 use Rattle.hsp_price_text.specs.declared.certificate.PriceCertificate.TheVariants.{Plan}
 use Rattle.hsp_classes.specs.Shown.{IsService}
 use Rattle.hsp_classes.specs.Sums.{class_cost, load_at, row_cost}
 use Rattle.hsp_classes.specs.Verdict.{IsVerdict}
 use Rattle.hsp_classes.specs.declared.verdict.PriceReason.TheVariants.{Cost, Load}
 use Rattle.hsp_classes.specs.declared.verdict.PriceVerdict.TheVariants.{Yes}
+use Rattle.hsp_classes.proofs.Bounds.{capacity_low, demand_low}
 use Rattle.hsp_price_check.specs.Passed.{capped}
-use Rattle.hsp_price_check.specs.Regions.{classes_sum, cost_in, region_cost, region_demand, rows_sum}
-use Rattle.hsp_price_check.proofs.Judging.{capacity_low, kept_within}
-use Rattle.hsp_price_report.proofs.Bounds.{demand_low}
+use Rattle.hsp_price_check.specs.Regions.{cost_in, region_cost, region_demand}
+use Rattle.hsp_price_check.proofs.Capping.{kept_within}
 
 -- a number or nothing is at most the number
 part_low : (t : Bool) (n : ℕ) → (if t then n else 0) ≤ n

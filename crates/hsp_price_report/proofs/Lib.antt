@@ -1,3 +1,3 @@
-mod Bounds
+mod Lines
 mod Exact
 mod Totals

@@ -1,5 +1,5 @@
 -- The regions of rows have each row and each class between them once.
-use Rattle.std.proofs.Common.{◌≡◌, ◌∙◌, ◌+◌, ℕ, Bool, true, false, List, [], ◌∷◌, All, ap₂, refl, sum_by, sym, cond}
+use Rattle.std.proofs.Common.{◌≡◌, ◌∙◌, ◌+◌, ℕ, Bool, true, false, List, [], ◌∷◌, All, ap₂, get_or, refl, sym}
 use Rattle.std.specs.List.{list_any}
 use Rattle.std.specs.Str.{bytes_eq}
 use Rattle.std.proofs.lemmas.Bool.{and_parts}
@@ -27,17 +27,19 @@ class_there : (names : List (List ℕ)) (at : Service) (plan : Best) (class : Cl
     → All (λ (row : Row). among row.region names ≡ true) rows → list_any (λ row. is_of at plan class row) rows ≡ true
     → among class.region names ≡ true
 class_there names at plan class [] all e = absurd (cc (e))
-class_there names at plan class (row ∷ rows) all e = here (is_of at plan class row) refl e
+class_there names at plan class (row ∷ rows) all e =
+    here (is_of at plan class row) refl e
+    (class_there names at plan class rows (All-tail (λ (other : Row). among other.region names ≡ true) row rows all))
   where
     here : (t : Bool) → is_of at plan class row ≡ t
-        → list_any (λ other. is_of at plan class other) (row ∷ rows) ≡ true → among class.region names ≡ true
-    here true is some =
+        → list_any (λ other. is_of at plan class other) (row ∷ rows) ≡ true
+        → (list_any (λ other. is_of at plan class other) rows ≡ true → among class.region names ≡ true)
+        → among class.region names ≡ true
+    here true is some later =
         let same : class.region ≡ row.region =
         (bytes_eq-Decides class.region row.region).0 (and_parts (bytes_eq class.region row.region) _ is).0 in
         rw same (All-head (λ (other : Row). among other.region names ≡ true) row rows all)
-    here false is some =
-        class_there names at plan class rows (All-tail (λ (other : Row). among other.region names ≡ true) row rows all)
-        (rw is at some)
+    here false is some later = later (rw is at some)
 
 -- the costs of all regions add up to that of the plan
 pub costs_add_up : CostsAddUp
@@ -48,5 +50,5 @@ costs_add_up at plan rows valid =
     sum_by_add (rows_sum (row_cost at plan) rows) (classes_sum at plan.classes) names
     ∙ ap₂ (λ a b. a + b) (between names (λ (row : Row). row.region) (row_cost at plan) rows once there)
     (between names (λ (class : Class). class.region) (class_cost at) plan.classes once
-    (λ i d l. class_there names at plan _ rows there (valid NotLeast i d l)))
+    (λ i d l. class_there names at plan (get_or plan.classes i d) rows there (valid NotLeast i d l)))
     ∙ sym (valid Cost)

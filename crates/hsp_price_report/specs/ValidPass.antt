@@ -1,5 +1,5 @@
 -- What a report is of: a check that has passed over rows, and whose verdict on a plan is yes.
-use Rattle.std.specs.Prelude.{◌≡◌, true, List}
+use Rattle.std.specs.Prelude.{List}
 use Rattle.hsp_tables.specs.Costs.{CostEntry}
 use Rattle.hsp_instance.specs.Instance.{Instance, Row}
 use Rattle.hsp_kinds.specs.Rows.{Service}

@@ -1,21 +1,23 @@
 -- The rows that a valid plan serves ask together for no more than servers and hosts can take.
-use Rattle.std.proofs.Common.{◌≡◌, ◌∙◌, ◌≤◌, ◌<◌, ◌+◌, ◌*◌, ◌==◌, ◌&&◌, ℕ, zero, suc, Bool, true, false, List, [], ◌∷◌}
+use Rattle.std.proofs.Common.{◌≡◌, ◌∙◌, ◌≤◌, ◌<◌, ◌*◌, ◌==◌, ◌&&◌, ℕ, zero, suc, Bool, true, false, List, [], ◌∷◌}
+use Rattle.std.specs.Prelude.{is_none, min, if◌then◌else◌}
 use Rattle.std.proofs.Common.{inl, inr, length, map, not, slice_index, sum_by, refl, ap, ap₂, sym, arith}
 use Rattle.std.proofs.lemmas.Bool.{cases_lt}
 use Rattle.std.proofs.lemmas.List.{length-map, get_or-map}
 use Rattle.std.proofs.lemmas.List.Folds.{list_any_none}
-use Rattle.std.specs.List.{AllByRecursion, list_any}
-use Rattle.hsp_text.specs.declared.limits.TheConstants.{GREATEST_LIMIT}
+use Rattle.std.specs.List.{AllByRecursion}
+use Rattle.hsp_text.specs.declared.limits.TheConstants.{GREATEST_CAPACITY, GREATEST_LIMIT}
 use Rattle.hsp_transport.specs.Sums.{sum_below}
 use Rattle.hsp_transport.proofs.Rowwise.{when}
 use Rattle.hsp_transport.proofs.Summing.{by_place, sum_below_same}
-use Rattle.hsp_instance.specs.Instance.{Host, IsLimited, Row, Server}
+use Rattle.hsp_instance.specs.Instance.{Host, IsLimited, IsServer, Row, Server, Site}
 use Rattle.hsp_check.specs.Network.{Network}
+use Rattle.hsp_check.specs.Plan.{on_host}
 use Rattle.hsp_check.specs.Short.{demand_of}
 use Rattle.hsp_check.specs.declared.arc.NetworkArc.{NetworkArc}
 use Rattle.hsp_kinds.specs.Rows.{Service, network_for}
 use Rattle.hsp_kinds.proofs.ByTables.{no_row}
-use Rattle.hsp_prices.specs.ServerSets.{AreShort, capacity_of_servers, is_caught}
+use Rattle.hsp_prices.specs.ServerSets.{capacity_in, capacity_of_servers, is_caught}
 use Rattle.hsp_prices.proofs.Catching.{short_servers_show_none}
 use Rattle.hsp_price_text.specs.Claim.{Best, is_best}
 use Rattle.hsp_price_text.specs.declared.certificate.PriceCertificate.TheVariants.{Plan}
@@ -26,7 +28,6 @@ use Rattle.hsp_classes.specs.declared.verdict.PriceVerdict.TheVariants.{Yes}
 use Rattle.hsp_classes.proofs.Networks.{network_there}
 use Rattle.hsp_classes.proofs.ServerArcs.{own_arcs}
 use Rattle.hsp_classes.proofs.Shown.{plan_is_shown}
-use Rattle.hsp_price_check.proofs.Judging.{capacity_low}
 
 -- so many terms, each of them at most 10^12
 terms_low : (n : ℕ) (f : ℕ → ℕ) → ((k : ℕ) → k < n → f k ≤ 1000000000000) → sum_below n f ≤ n * 1000000000000
@@ -36,12 +37,25 @@ terms_low (suc n) f low =
     let last : f n ≤ 1000000000000 = low n (omega arith) in
     omega (arith, rest, last)
 
--- a limit is within its own limit
+-- the capacity of a server is within its limit
+pub capacity_low : (sites : List Site) (hosts : ℕ) (servers : List Server)
+    → AllByRecursion (IsServer sites hosts) servers → (j : ℕ)
+    → slice_index (map (λ server. server.capacity) servers) j ≤ GREATEST_CAPACITY
+capacity_low sites hosts [] all j = omega arith
+capacity_low sites hosts (s ∷ servers) all zero = all.0.capacity
+capacity_low sites hosts (s ∷ servers) all (suc j) = capacity_low sites hosts servers all.1 j
+
+-- and the limit of a host is within its own
 limit_low : (hosts : List Host) → AllByRecursion IsLimited hosts → (h : ℕ)
     → slice_index (map (λ (host : Host). host.limit) hosts) h ≤ GREATEST_LIMIT
 limit_low [] all h = omega arith
 limit_low (host ∷ hosts) all zero = all.0
 limit_low (host ∷ hosts) all (suc h) = limit_low hosts all.1 h
+
+-- a number or nothing is at most the number
+none_or : (t : Bool) (n : ℕ) → (if t then n else 0) ≤ n
+none_or true n = omega arith
+none_or false n = omega arith
 
 -- all servers
 abbrev each : ℕ → Bool
@@ -72,11 +86,12 @@ module _ (at : Service) (rows : List Row) where
   capacity_is_low is =
       let n = network_for at rows in
       let servers =
-      terms_low (length n.capacities) _ (λ j l.
-      let low = capacity_low at.sites (length at.hosts) at.servers is.servers.each j in grind (arith, low)) in
+      terms_low (length n.capacities) (λ j. if is_none (n.host_of j) then capacity_in n each j else 0) (λ j l.
+      let low = capacity_low at.sites (length at.hosts) at.servers is.servers.each j in
+      omega (arith, low, none_or (is_none (n.host_of j)) (slice_index n.capacities j))) in
       let hosts =
-      terms_low (length n.limits) _ (λ h l.
-      let low = limit_low at.hosts is.hosts.each h in grind (arith, low)) in
+      terms_low (length n.limits) (λ h. min (slice_index n.limits h) (on_host n (capacity_in n each) h)) (λ h l.
+      let low = limit_low at.hosts is.hosts.each h in omega (arith, low)) in
       omega (
         arith,
         servers,
@@ -97,6 +112,6 @@ module _ (at : Service) (rows : List Row) where
         | inl short ↦
             absurd
             (short_servers_show_none n each (network_there at is (arcs_of at) (own_arcs at is) rows) short x.0
-            x.1.best.0)
+            x.1.best.feasible)
         | inr within ↦ omega (arith, within, demand_is, capacity_is_low is)
       ]
