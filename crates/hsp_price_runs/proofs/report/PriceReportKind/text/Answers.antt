@@ -1,0 +1,7 @@
+use Rattle.std.proofs.lemmas.Result.{IfOk-weaker}
+use Rattle.hsp_price_runs.proofs.report.PriceReportKind.text.Goals as goal
+
+pub returns-in-Region : goal.returns-in-Region
+returns-in-Region c =
+    IfOk-weaker c.price_region_report.result _ _ (λ text all costs rows is. rw c.in-Region.is (all _ rows is))
+    c.price_region_report.ensures
