@@ -1,6 +1,5 @@
-use Rattle.std.proofs.Common.{◌≡◌, ◌⊎◌, inl, inr, List, Ok, Err, subst}
-use Rattle.std.proofs.lemmas.Result.{IfErr-weaker, IfOk-weaker}
-use Rattle.hsp_csv.specs.Records.{Fields}
+use Rattle.std.proofs.Common.{◌≡◌, Ok, subst}
+use Rattle.std.proofs.lemmas.Result.{IfOk-weaker}
 use Rattle.hsp_classes.specs.declared.verdict.PriceVerdict.{PriceVerdict}
 use Rattle.hsp_classes.specs.declared.verdict.PriceVerdict.TheVariants.{Yes}
 use Rattle.hsp_stream.specs.KindsLog.{OfLog}
