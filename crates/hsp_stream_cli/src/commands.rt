@@ -9,6 +9,7 @@ use crate::faults::list_faults;
 use crate::files::{read_kinds, read_sources};
 use crate::printing::{print, print_table};
 use crate::program::Ended;
+use crate::reporting::report_prices;
 use crate::talking::{answer_log, portion_words, state_places};
 use crate::texts::{HELP, VERSION};
 use hsp_cli::{FileSource, Output, open_log};
@@ -62,6 +63,11 @@ fn carry_out<S: FileSource, O: Output>(
             answer_log(alloc, opened, &portion, out)
         }
         StreamOrder::Check { files: named, log } => check_prices(alloc, files, named, log, out),
+        StreamOrder::Report {
+            files: named,
+            log,
+            kind,
+        } => report_prices(alloc, files, named, *kind, log, out),
         StreamOrder::Faults { of, file } => list_faults(alloc, files, *of, file, out),
     }
 }
