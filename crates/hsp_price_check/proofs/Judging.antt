@@ -33,7 +33,7 @@ pub within_kept : (n m : ℕ) → m < 2 ^ 64 → capped n ≤ m → n ≤ m
 within_kept n m small within = grind (arith, small, within)
 
 -- the capacity of a server is within its limit
-capacity_low : (sites : _) (hosts : ℕ) (servers : List Server) → AllByRecursion (IsServer sites hosts) servers → (j : ℕ)
+pub capacity_low : (sites : _) (hosts : ℕ) (servers : List Server) → AllByRecursion (IsServer sites hosts) servers → (j : ℕ)
     → slice_index (map (λ server. server.capacity) servers) j ≤ GREATEST_CAPACITY
 capacity_low sites hosts [] all j = omega arith
 capacity_low sites hosts (s ∷ servers) all zero = all.0.capacity

@@ -18,7 +18,7 @@ use Rattle.hsp_headline.proofs.PageRead.{stated_well}
 use Rattle.hsp_headline.proofs.Steps.{went_on}
 use Rattle.hsp_price_check.specs.Classes.{service_of}
 use Rattle.hsp_stream.proofs.PageCosts.{costs_of_page}
-use Rattle.hsp_price_runs.specs.PriceRun.{IsCertificateIn, JudgesInstance, OfInput}
+use Rattle.hsp_price_runs.specs.PriceRun.{AnswersInstance, AnswersRead, IsCertificateIn, IsVerdictBy, OfInput}
 use Rattle.hsp_price_runs.specs.PricesShown.{ShowsLog, ShowsRows}
 use Rattle.hsp_price_runs.proofs.RowsSpelled.{log_spelled}
 
@@ -34,24 +34,24 @@ module _ (plans : PlanIsShown) (shortages : ShortageIsShown) where
   rows_shown at rows (Shortage set) service is valid = shortages at rows set service valid
 
   -- Yes by the inputs shows it of the log
-  pub yes_shows : (inputs : Inputs) (octets : List ℕ) (records : List Fields) (it : Instance) → IsInstance it
-      → Defines inputs it → JudgesInstance inputs octets records it (Ok Yes) → ShowsLog inputs octets records
-  yes_shows inputs octets records it limits page (costs, read, judged) =
+  pub yes_shows : (inputs : Inputs) (octets : List ℕ) (records : List Fields)
+      → AnswersRead (λ it. IsVerdictBy) inputs octets (Ok Yes) records → ShowsLog inputs octets records
+  yes_shows inputs octets records (it, own, (costs, read, judged)) =
       let certificate = went_on _ _ Yes judged in
       let text = text_means certificate.0 certificate.1 in
       let rows = went_on _ _ Yes certificate.2 in
       record {
         it = it;
-        defines = page;
+        defines = own.defines;
         costs = costs;
-        are_costs = costs_of_page inputs it costs page read;
+        are_costs = costs_of_page inputs it costs own.defines read;
         rows = rows.0;
         spelled = log_spelled records rows.0 (sym rows.1);
         certificate = certificate.0;
         is = text.0;
         text = text.1;
         shows =
-            rows_shown (service_of costs it) rows.0 certificate.0 (is_service costs it limits) text.0 rows.2;
+            rows_shown (service_of costs it) rows.0 certificate.0 (is_service costs it own.within) text.0 rows.2;
       }
     where
       text_means : (certificate : PriceCertificate) → OfInput (IsCertificateIn octets) (Ok certificate)

@@ -1,5 +1,7 @@
 pub mod LogRows
 pub mod Passing
 pub mod PriceRun
+pub mod Asking
+pub mod PriceReport
 pub mod PricesShown
 pub mod PriceVerdictText

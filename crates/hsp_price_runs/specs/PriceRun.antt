@@ -1,9 +1,10 @@
--- The verdict on a certificate by prices, by the rows of a log, or the first fault.
+-- What is answered of a certificate by prices, by the rows of a log, or the first fault. What is asked is a relation
+-- between an instance, its service, a certificate, rows and answers.
 use Rattle.std.specs.Prelude.{◌≡◌, ◌≢◌, ℕ, List, Result, Ok, Err}
 use Rattle.hsp_csv.specs.Records.{Fields}
 use Rattle.hsp_text.specs.Answers.{Then, fault_as}
 use Rattle.hsp_tables.specs.Costs.{CostEntry}
-use Rattle.hsp_instance.specs.Instance.{Instance, Row}
+use Rattle.hsp_instance.specs.Instance.{Instance, IsInstance, Row}
 use Rattle.hsp_cert.specs.declared.fault.CertFault.{CertFault}
 use Rattle.hsp_cert.specs.declared.fault.CertFault.TheVariants as cert_fault
 use Rattle.hsp_kinds.specs.Rows.{Service}
@@ -13,6 +14,7 @@ use Rattle.hsp_classes.specs.Verdict.{IsVerdict}
 use Rattle.hsp_classes.specs.declared.verdict.PriceVerdict.{PriceVerdict}
 use Rattle.hsp_faults.specs.declared.fault.Fault.{Fault}
 use Rattle.hsp_faults.specs.declared.fault.Fault.TheVariants.{Cert}
+use Rattle.hsp_headline.specs.Headline.{Defines}
 use Rattle.hsp_headline.specs.Instance.{IsInstanceOf, ReadsCosts}
 use Rattle.hsp_headline.specs.declared.inputs.Inputs.{Inputs}
 use Rattle.hsp_price_check.specs.Classes.{service_of}
@@ -30,26 +32,55 @@ IsCertificateIn octets answer =
 abbrev pub OfInput : {X : Type 0} → (Result X Fault → Type 0) → Result X StreamFault → Type 0
 OfInput {X} Is answer = (read : Result X Fault) × Is read × (answer ≡ fault_as fault_of_input read)
 
+-- ---- questions
+
+-- first the rows are read of the log, and then it is asked by them
+abbrev pub AnswersRecords : {X : Type 0} → (List Row → Result X StreamFault → Type 0) → Result X StreamFault
+    → List Fields → Type 0
+AnswersRecords Is answer records = Then (λ rows. rows ≡ log_rows records) Is answer
+
+-- before that the certificate is read
+abbrev pub AnswersText : {X : Type 0} → (PriceCertificate → List Row → Result X StreamFault → Type 0) → List ℕ
+    → Result X StreamFault → List Fields → Type 0
+AnswersText Is octets answer records =
+    Then (OfInput (IsCertificateIn octets)) (λ certificate own. AnswersRecords (Is certificate) own records) answer
+
+-- by an instance and the costs of the inputs
+abbrev pub AnswersInstance : {X : Type 0}
+    → (Instance → Service → PriceCertificate → List Row → Result X StreamFault → Type 0) → Inputs → List ℕ
+    → List Fields → Instance → Result X StreamFault → Type 0
+AnswersInstance Is inputs octets records it answer =
+    (costs : List CostEntry) × ReadsCosts inputs.costs.items (Ok costs)
+    × AnswersText (Is it (service_of costs it)) octets answer records
+
+-- first of all the inputs are read
+abbrev pub AnswersInputs : {X : Type 0}
+    → (Instance → Service → PriceCertificate → List Row → Result X StreamFault → Type 0) → Inputs → List ℕ
+    → Result X StreamFault → List Fields → Type 0
+AnswersInputs Is inputs octets answer records =
+    Then (OfInput (IsInstanceOf inputs)) (AnswersInstance Is inputs octets records) answer
+
+-- ---- the verdict
+
 -- the verdict by rows, which is no fault
 abbrev pub IsVerdictBy : Service → PriceCertificate → List Row → Result PriceVerdict StreamFault → Type 0
 IsVerdictBy at certificate rows (Ok verdict) = IsVerdict at rows certificate verdict
 IsVerdictBy at certificate rows (Err e) = ⊥
 
--- first the rows are read of the log, and then the certificate is judged by them
-abbrev pub JudgesRecords : Service → PriceCertificate → List Fields → Result PriceVerdict StreamFault → Type 0
-JudgesRecords at certificate records = Then (λ rows. rows ≡ log_rows records) (IsVerdictBy at certificate)
-
--- before that the certificate is read
-abbrev pub JudgesText : Service → List ℕ → List Fields → Result PriceVerdict StreamFault → Type 0
-JudgesText at octets records =
-    Then (OfInput (IsCertificateIn octets)) (λ certificate. JudgesRecords at certificate records)
-
--- by an instance and the costs of the inputs
-abbrev pub JudgesInstance : Inputs → List ℕ → List Fields → Instance → Result PriceVerdict StreamFault → Type 0
-JudgesInstance inputs octets records it answer =
-    (costs : List CostEntry) × ReadsCosts inputs.costs.items (Ok costs)
-    × JudgesText (service_of costs it) octets records answer
-
--- first of all the inputs are read
 abbrev pub IsPriceVerdict : Inputs → List ℕ → List Fields → Result PriceVerdict StreamFault → Type 0
-IsPriceVerdict inputs octets records = Then (OfInput (IsInstanceOf inputs)) (JudgesInstance inputs octets records)
+IsPriceVerdict inputs octets records answer = AnswersInputs (λ it. IsVerdictBy) inputs octets answer records
+
+-- ---- while it is asked
+
+-- the instance of the inputs, within its limits
+pub record IsReadFrom (inputs : Inputs) (it : Instance) : Type 0 where
+  pub is : IsInstanceOf inputs (Ok it)
+  pub within : IsInstance it
+  pub defines : Defines inputs it
+
+-- by the instance that was read
+abbrev pub AnswersRead : {X : Type 0}
+    → (Instance → Service → PriceCertificate → List Row → Result X StreamFault → Type 0) → Inputs → List ℕ
+    → Result X StreamFault → List Fields → Type 0
+AnswersRead Is inputs octets answer records =
+    (it : Instance) × IsReadFrom inputs it × AnswersInstance Is inputs octets records it answer

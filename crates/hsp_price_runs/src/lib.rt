@@ -1,9 +1,12 @@
-// The verdict on a certificate by prices, by the rows of a log of any length.
+// The verdict on a certificate by prices, and its reports, by the rows of a log of any length.
 #![tactic(auto)]
 
+mod asked;
 mod log_pass;
+mod report;
 mod run;
 mod verdict_text;
 
+pub use report::{PriceReport, PriceReportKind, price_report_run};
 pub use run::price_check_run;
 pub use verdict_text::{price_verdict_line, price_verdict_status};

@@ -1,15 +1,15 @@
-// The verdict on a certificate by prices.
+// Questions to a check of a certificate by prices, and the verdict.
 
 ghost use Rattle.std.specs.Prelude.{◌≡◌, ◌⊎◌, Err, IfErr, IfOk, Ok};
 ghost use Rattle.hsp_headline.specs.Memory.{OrNoMemory};
 ghost use Rattle.hsp_classes.specs.declared.verdict.PriceVerdict.TheVariants.{Yes};
 ghost use Rattle.hsp_price_check.specs.Classes.{service_of};
-ghost use Rattle.hsp_stream.specs.AnswerRun.{HasCosts};
 ghost use Rattle.hsp_stream.specs.KindsLog.{IsReadFault, OfLog};
-ghost use Rattle.hsp_price_runs.specs.PriceRun.{IsCertificateIn, IsPriceVerdict, JudgesInstance, JudgesRecords};
-ghost use Rattle.hsp_price_runs.specs.PriceRun.{JudgesText};
+ghost use Rattle.hsp_price_runs.specs.PriceRun.{AnswersInputs, AnswersRead, AnswersRecords, AnswersText};
+ghost use Rattle.hsp_price_runs.specs.PriceRun.{IsCertificateIn, IsPriceVerdict};
 ghost use Rattle.hsp_price_runs.specs.PricesShown.{ShowsLog};
 
+use crate::asked::{Asked, AskedVerdict};
 use crate::log_pass::pass_log;
 use hsp_cert::CertFault;
 use hsp_classes::PriceVerdict;
@@ -25,6 +25,13 @@ use hsp_tables::Costs;
 use std::alloc::Global;
 use std::io::Read;
 
+// An instance and the costs of its service.
+#[derive(Clone, Copy)]
+struct ServiceRef<'a> {
+    instance: &'a Instance,
+    costs: &'a Costs,
+}
+
 // The certificate that octets spell.
 fn certificate_in(alloc: Global, octets: &[u8]) -> Result<PriceCertificate, Fault>
     ensures { OrNoMemory (IsCertificateIn octets.now) result }
@@ -36,67 +43,81 @@ fn certificate_in(alloc: Global, octets: &[u8]) -> Result<PriceCertificate, Faul
     }
 }
 
-// The verdict on a certificate, by the rows of a log.
-fn judge_log<R: Read + Drop>(
+// The answer of a check of a certificate, by the rows of a log.
+fn ask_log<A: Asked, R: Read + Drop>(
     alloc: Global,
-    instance: &Instance,
-    costs: &Costs,
+    asked: &A,
+    service: ServiceRef<'_>,
     certificate: &PriceCertificate,
     log: R,
-) -> Result<PriceVerdict, StreamFault>
-    ensures verdict { IfOk result (λ verdict. OfLog (R.remaining log) (λ records.
-        JudgesRecords (service_of costs.now instance.now) certificate.now records (Ok verdict))) }
-    ensures fault { IfErr result (λ fault. IsReadFault fault ⊎ OfLog (R.remaining log) (λ records.
-        JudgesRecords (service_of costs.now instance.now) certificate.now records (Err fault))) }
+) -> Result<A::Answer, StreamFault>
+    ensures answer { IfOk result (λ answer. OfLog (R.remaining log) (AnswersRecords
+        (A.Is asked.now service.instance.now (service_of service.costs.now service.instance.now)
+        certificate.now) (Ok answer))) }
+    ensures fault { IfErr result (λ fault. IsReadFault fault
+        ⊎ OfLog (R.remaining log) (AnswersRecords
+        (A.Is asked.now service.instance.now (service_of service.costs.now service.instance.now)
+        certificate.now) (Err fault))) }
 {
-    let mut check = PriceCheck::new(alloc, instance, costs, certificate)?;
+    let mut check = PriceCheck::new(alloc, service.instance, service.costs, certificate)?;
     pass_log(alloc, &mut check, log)?;
-    Ok(check.verdict(alloc)?)
+    asked.answer(alloc, service.instance, certificate, &check)
 }
 
-// The verdict on the certificate that octets spell.
-fn judge_text<R: Read + Drop>(
+// The answer of a check of the certificate that octets spell.
+fn ask_text<A: Asked, R: Read + Drop>(
     alloc: Global,
-    instance: &Instance,
-    costs: &Costs,
+    asked: &A,
+    service: ServiceRef<'_>,
     prices: &[u8],
     log: R,
-) -> Result<PriceVerdict, StreamFault>
-    ensures verdict { IfOk result (λ verdict. OfLog (R.remaining log) (λ records.
-        JudgesText (service_of costs.now instance.now) prices.now records (Ok verdict))) }
-    ensures fault { IfErr result (λ fault. IsReadFault fault ⊎ OfLog (R.remaining log) (λ records.
-        JudgesText (service_of costs.now instance.now) prices.now records (Err fault))) }
+) -> Result<A::Answer, StreamFault>
+    ensures answer { IfOk result (λ answer. OfLog (R.remaining log) (AnswersText
+        (A.Is asked.now service.instance.now (service_of service.costs.now service.instance.now))
+        prices.now (Ok answer))) }
+    ensures fault { IfErr result (λ fault. IsReadFault fault
+        ⊎ OfLog (R.remaining log) (AnswersText
+        (A.Is asked.now service.instance.now (service_of service.costs.now service.instance.now))
+        prices.now (Err fault))) }
 {
     let certificate = certificate_in(alloc, prices)?;
-    judge_log(alloc, instance, costs, &certificate, log)
+    ask_log(alloc, asked, service, &certificate, log)
 }
 
-// The same by the costs of the inputs. They were read before, so that only memory can run out.
-fn judge_costs<R: Read + Drop>(
+/// The answer of a check of the certificate that the octets of `prices` spell, by the rows of a log.
+pub(crate) fn ask_inputs<A: Asked, R: Read + Drop>(
     alloc: Global,
+    asked: &A,
     inputs: &Inputs,
-    instance: &Instance,
     prices: &[u8],
     log: R,
-) -> Result<PriceVerdict, StreamFault>
-    requires { HasCosts inputs.now }
-    ensures verdict { IfOk result (λ verdict. OfLog (R.remaining log) (λ records.
-        JudgesInstance inputs.now prices.now records instance.now (Ok verdict))) }
-    ensures fault { IfErr result (λ fault. IsReadFault fault ⊎ OfLog (R.remaining log) (λ records.
-        JudgesInstance inputs.now prices.now records instance.now (Err fault))) }
+) -> Result<A::Answer, StreamFault>
+    ensures answer { IfOk result (λ answer. OfLog (R.remaining log)
+        (AnswersRead (A.Is asked.now) inputs.now prices.now (Ok answer))) }
+    ensures fault { IfErr result (λ fault. IsReadFault fault ⊎ OfLog (R.remaining log)
+        (AnswersInputs (A.Is asked.now) inputs.now prices.now (Err fault))) }
 {
+    let instance = instance_in(alloc, inputs)?;
+    // The instance is within its limits.
+    let _rows = instance.rows();
     match costs_in(alloc, &inputs.costs) {
-        Ok(costs) => judge_text(alloc, instance, &costs, prices, log),
+        Ok(costs) => {
+            let service = ServiceRef {
+                instance: &instance,
+                costs: &costs,
+            };
+            ask_text(alloc, asked, service, prices, log)
+        }
+        // The costs were read before, so that only memory can run out.
         Err(_) => Err(StreamFault::OutOfMemory),
     }
 }
 
-/// Whether the octets of `prices` are the text of a certificate by prices that is valid for the rows of the log, and
-/// otherwise the first reason why it isn't. There may be any number of rows, and none is kept.
+/// The verdict on the certificate by prices that the octets of `prices` spell, by the rows of a log. The inputs are
+/// those of a service without rows: their table of demand has none.
 ///
-/// The inputs define sites, servers, hosts and costs. Their demand is read as well, but its rows count for nothing: a
-/// header will do. The log has the header `region,handle` or `region,handle,count`. A count is a whole number up to
-/// 1,000,000,000,000; without one each row counts 1. The same region and handle may come again.
+/// The log's header is `region,handle` or `region,handle,count`. A row without a count asks for one query. The log may
+/// have any number of rows, in any order, and a pair of region and handle any number of them. None of them is held.
 ///
 /// Faults in this order: `Input` with `Settings`, `Values`, `Demand`, `Costs`, `Capacity`, `Build` or `Cert`; of the
 /// log `ReadFailed`, `Header`, and row by row `Fields`, `BadName`, `BadHandle`, `BadNumber`, `TooManyRegions`. A log of
@@ -120,8 +141,5 @@ pub fn price_check_run<R: Read + Drop>(
 {
     plan_is_shown();
     shortage_is_shown();
-    let instance = instance_in(alloc, inputs)?;
-    // The instance is within its limits.
-    let _rows = instance.rows();
-    judge_costs(alloc, inputs, &instance, prices, log)
+    ask_inputs(alloc, &AskedVerdict, inputs, prices, log)
 }

@@ -35,7 +35,7 @@ either_way a b = same_twice a b (bytes_eq a b) (bytes_eq b a) refl refl
 -- ---- names, each once
 
 -- whether a name is one of names
-abbrev among : List ℕ → List (List ℕ) → Bool
+abbrev pub among : List ℕ → List (List ℕ) → Bool
 among name names = list_any (λ g. bytes_eq g name) names
 
 -- a name is among others where one equals it
@@ -44,7 +44,7 @@ among_is name [] = refl
 among_is name (g ∷ names) = rw (either_way g name, among_is name names) refl
 
 -- what is told of the name among names is told once, or not at all
-abbrev Once : List (List ℕ) → Type 0
+abbrev pub Once : List (List ℕ) → Type 0
 Once names =
     (name : List ℕ) (w : ℕ) → sum_by (λ g. if bytes_eq g name then w else 0) names ≡ (if among name names then w else 0)
 
@@ -124,13 +124,13 @@ seen_there (k ∷ keys) names zero d l =
 seen_there (k ∷ keys) names (suc i) d l = seen_there keys (insert_key bytes_eq names k) i d (omega (arith, l))
 
 -- each region of rows stands once
-regions_once : (rows : List Row) → Once (regions_of rows)
+pub regions_once : (rows : List Row) → Once (regions_of rows)
 regions_once rows = seen_once (map (λ (row : Row). row.region) rows) [] (λ name w. refl)
 
 -- ---- sums over regions and rows
 
 -- what things weigh is what those of each name weigh, over names each of which stands once
-between : {A : Type 0} (names : List (List ℕ)) (name_of : A → List ℕ) (weight : A → ℕ) (xs : List A) → Once names
+pub between : {A : Type 0} (names : List (List ℕ)) (name_of : A → List ℕ) (weight : A → ℕ) (xs : List A) → Once names
     → All (λ x. among (name_of x) names ≡ true) xs
     → sum_by (λ g. sum_by (λ x. if bytes_eq g (name_of x) then weight x else 0) xs) names ≡ sum_by weight xs
 between names name_of weight [] once there = sum_by_none names
@@ -151,7 +151,7 @@ between {A} names name_of weight (x ∷ xs) once there =
     ∙ sym (sum_by-cons weight x xs)
 
 -- the region of each row is among the regions
-row_there : (rows : List Row) (i : ℕ) (d : Row) → i < length rows
+pub row_there : (rows : List Row) (i : ℕ) (d : Row) → i < length rows
     → among (slice_index_or rows i d).region (regions_of rows) ≡ true
 row_there rows i d l =
     let keys = map (λ (row : Row). row.region) rows in

@@ -1,0 +1,102 @@
+-- The rows that a valid plan serves ask together for no more than servers and hosts can take.
+use Rattle.std.proofs.Common.{◌≡◌, ◌∙◌, ◌≤◌, ◌<◌, ◌+◌, ◌*◌, ◌==◌, ◌&&◌, ℕ, zero, suc, Bool, true, false, List, [], ◌∷◌}
+use Rattle.std.proofs.Common.{inl, inr, length, map, not, slice_index, sum_by, refl, ap, ap₂, sym, arith}
+use Rattle.std.proofs.lemmas.Bool.{cases_lt}
+use Rattle.std.proofs.lemmas.List.{length-map, get_or-map}
+use Rattle.std.proofs.lemmas.List.Folds.{list_any_none}
+use Rattle.std.specs.List.{AllByRecursion, list_any}
+use Rattle.hsp_text.specs.declared.limits.TheConstants.{GREATEST_LIMIT}
+use Rattle.hsp_transport.specs.Sums.{sum_below}
+use Rattle.hsp_transport.proofs.Rowwise.{when}
+use Rattle.hsp_transport.proofs.Summing.{by_place, sum_below_same}
+use Rattle.hsp_instance.specs.Instance.{Host, IsLimited, Row, Server}
+use Rattle.hsp_check.specs.Network.{Network}
+use Rattle.hsp_check.specs.Short.{demand_of}
+use Rattle.hsp_check.specs.declared.arc.NetworkArc.{NetworkArc}
+use Rattle.hsp_kinds.specs.Rows.{Service, network_for}
+use Rattle.hsp_kinds.proofs.ByTables.{no_row}
+use Rattle.hsp_prices.specs.ServerSets.{AreShort, capacity_of_servers, is_caught}
+use Rattle.hsp_prices.proofs.Catching.{short_servers_show_none}
+use Rattle.hsp_price_text.specs.Claim.{Best, is_best}
+use Rattle.hsp_price_text.specs.declared.certificate.PriceCertificate.TheVariants.{Plan}
+use Rattle.hsp_classes.specs.Least.{arcs_of}
+use Rattle.hsp_classes.specs.Shown.{IsService}
+use Rattle.hsp_classes.specs.Verdict.{IsVerdict}
+use Rattle.hsp_classes.specs.declared.verdict.PriceVerdict.TheVariants.{Yes}
+use Rattle.hsp_classes.proofs.Networks.{network_there}
+use Rattle.hsp_classes.proofs.ServerArcs.{own_arcs}
+use Rattle.hsp_classes.proofs.Shown.{plan_is_shown}
+use Rattle.hsp_price_check.proofs.Judging.{capacity_low}
+
+-- so many terms, each of them at most 10^12
+terms_low : (n : ℕ) (f : ℕ → ℕ) → ((k : ℕ) → k < n → f k ≤ 1000000000000) → sum_below n f ≤ n * 1000000000000
+terms_low zero f low = omega arith
+terms_low (suc n) f low =
+    let rest : sum_below n f ≤ n * 1000000000000 = terms_low n f (λ k l. low k (omega (arith, l))) in
+    let last : f n ≤ 1000000000000 = low n (omega arith) in
+    omega (arith, rest, last)
+
+-- a limit is within its own limit
+limit_low : (hosts : List Host) → AllByRecursion IsLimited hosts → (h : ℕ)
+    → slice_index (map (λ (host : Host). host.limit) hosts) h ≤ GREATEST_LIMIT
+limit_low [] all h = omega arith
+limit_low (host ∷ hosts) all zero = all.0
+limit_low (host ∷ hosts) all (suc h) = limit_low hosts all.1 h
+
+-- all servers
+abbrev each : ℕ → Bool
+each j = true
+
+-- no arc leads out of the set of all servers
+caught : (n : Network) (i : ℕ) → is_caught n each i ≡ true
+caught n i =
+    ap not (list_any_none (λ (a : NetworkArc). a.row == i && not (each a.server)) n.arcs (λ k d l. none _))
+  where
+    none : (t : Bool) → (t && false) ≡ false
+    none true = refl
+    none false = refl
+
+module _ (at : Service) (rows : List Row) where
+  -- all rows are caught
+  demand_is : demand_of (network_for at rows) (is_caught (network_for at rows) each) ≡ sum_by (λ row. row.count) rows
+  demand_is =
+      ap
+      (λ n. sum_below n (λ i. when (is_caught (network_for at rows) each i)
+      (slice_index (network_for at rows).demands i))) (length-map rows (λ (r : Row). r.count))
+      ∙ sum_below_same (length rows) _ _ (λ i l.
+      ap₂ when (caught (network_for at rows) i) (get_or-map (λ (r : Row). r.count) rows i no_row 0 l))
+      ∙ sym (by_place (λ (r : Row). r.count) no_row rows)
+
+  -- all servers and hosts take at most so much
+  capacity_is_low : IsService at → capacity_of_servers (network_for at rows) each ≤ 2048 * 1000000000000
+  capacity_is_low is =
+      let n = network_for at rows in
+      let servers =
+      terms_low (length n.capacities) _ (λ j l.
+      let low = capacity_low at.sites (length at.hosts) at.servers is.servers.each j in grind (arith, low)) in
+      let hosts =
+      terms_low (length n.limits) _ (λ h l.
+      let low = limit_low at.hosts is.hosts.each h in grind (arith, low)) in
+      omega (
+        arith,
+        servers,
+        hosts,
+        is.servers.few,
+        is.hosts.few,
+        length-map at.servers (λ (s : Server). s.capacity),
+        length-map at.hosts (λ (h : Host). h.limit),
+      )
+
+  -- the rows of a valid plan ask for no more
+  pub demand_low : (plan : Best) → IsService at → is_best plan ≡ true → IsVerdict at rows (Plan plan) Yes
+      → sum_by (λ row. row.count) rows ≤ 2048 * 1000000000000
+  demand_low plan is fits valid =
+      let n = network_for at rows in
+      let x = plan_is_shown at rows plan is fits valid in
+      elim (cases_lt (capacity_of_servers n each) (demand_of n (is_caught n each))) [
+        | inl short ↦
+            absurd
+            (short_servers_show_none n each (network_there at is (arcs_of at) (own_arcs at is) rows) short x.0
+            x.1.best.0)
+        | inr within ↦ omega (arith, within, demand_is, capacity_is_low is)
+      ]

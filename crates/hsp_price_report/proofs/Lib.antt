@@ -1,0 +1,3 @@
+mod Bounds
+mod Exact
+mod Totals

@@ -1,0 +1,4 @@
+pub mod ValidPass
+pub mod LoadReport
+pub mod RegionReport
+pub mod RegionTotals
