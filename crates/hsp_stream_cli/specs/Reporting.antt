@@ -23,13 +23,13 @@ kind_of asked.Region = kind.Region
 -- the report by a certificate for a log with these octets left, where they are known
 abbrev pub IsShownReport : Priced → AskedPriceReport → Option (List ℕ) → PriceReport → Type 0
 IsShownReport priced asked left report =
-    OfLog left (λ records. IsPriceReport priced.inputs priced.prices.items (kind_of asked) records (Ok report))
+    OfLog left (λ records. IsPriceReport (kind_of asked) priced.inputs priced.prices.items records (Ok report))
 
 -- why there is none
 abbrev pub IsReportFault : Priced → AskedPriceReport → Option (List ℕ) → StreamFault → Type 0
 IsReportFault priced asked left fault =
     IsReadFault fault
-    ⊎ OfLog left (λ records. IsPriceReport priced.inputs priced.prices.items (kind_of asked) records (Err fault))
+    ⊎ OfLog left (λ records. IsPriceReport (kind_of asked) priced.inputs priced.prices.items records (Err fault))
 
 -- the text is printed with status 0; or the line of the reason with the status of a no
 abbrev pub PrintsShown : Type 0 → PriceReport → Option (List ℕ) → Option (List ℕ) → Ended → Type 0
