@@ -21,7 +21,7 @@ use Rattle.hsp_stream_cli.specs.Checking.{PrintsVerdict}
 use Rattle.hsp_stream_cli.specs.Faults.{EndsList, HoldsText, asked_for}
 use Rattle.hsp_stream_cli.specs.Files.{AreKindsHeld, ArePricesHeld, AreSourcesHeld, KindsFail, PricesFail, SourcesFail}
 use Rattle.hsp_stream_cli.specs.Printing.{Ended, PrintsTable, PrintsText}
-use Rattle.hsp_stream_cli.specs.Reporting.{PrintsReport}
+use Rattle.hsp_stream_cli.specs.Reporting.{PrintsReport, kind_of}
 use Rattle.hsp_stream_cli.specs.Talking.{EndsAnswers, EndsPlaces, IsPortion, TalksOver}
 use Rattle.hsp_stream_cli.specs.declared.files.Priced.{Priced}
 use Rattle.hsp_stream_cli.specs.declared.files.Sources.{Sources}
@@ -74,7 +74,7 @@ ChecksPrices disk MayFail files log old new ended =
 abbrev pub ReportsPrices : Disk → Type 0 → PriceFiles → AskedPriceReport → List ℕ → Option (List ℕ) → Option (List ℕ)
     → Ended → Type 0
 ReportsPrices disk MayFail files kind log old new ended =
-    ByPrices disk files log old new ended (λ priced left. PrintsReport MayFail priced kind left old new ended)
+    ByPrices disk files log old new ended (λ priced left. PrintsReport MayFail priced (kind_of kind) left old new ended)
 
 -- the faulty rows of a file are listed
 abbrev pub ListsFaults : Disk → FaultsOf → List ℕ → Option (List ℕ) → Option (List ℕ) → Ended → Type 0

@@ -20,25 +20,25 @@ abbrev pub kind_of : AskedPriceReport → PriceReportKind
 kind_of asked.Load = kind.Load
 kind_of asked.Region = kind.Region
 
--- the report by a certificate for a log with these octets left, where they are known
-abbrev pub IsShownReport : Priced → AskedPriceReport → Option (List ℕ) → PriceReport → Type 0
-IsShownReport priced asked left report =
-    OfLog left (λ records. IsPriceReport (kind_of asked) priced.inputs priced.prices.items records (Ok report))
+-- the report of a kind by a certificate, for a log with these octets left, where they are known
+abbrev pub IsShownReport : Priced → PriceReportKind → Option (List ℕ) → PriceReport → Type 0
+IsShownReport priced kind left report =
+    OfLog left (λ records. IsPriceReport kind priced.inputs priced.prices.items records (Ok report))
 
 -- why there is none
-abbrev pub IsReportFault : Priced → AskedPriceReport → Option (List ℕ) → StreamFault → Type 0
-IsReportFault priced asked left fault =
+abbrev pub IsReportFault : Priced → PriceReportKind → Option (List ℕ) → StreamFault → Type 0
+IsReportFault priced kind left fault =
     IsReadFault fault
-    ⊎ OfLog left (λ records. IsPriceReport (kind_of asked) priced.inputs priced.prices.items records (Err fault))
+    ⊎ OfLog left (λ records. IsPriceReport kind priced.inputs priced.prices.items records (Err fault))
 
--- the text is printed with status 0; or the line of the reason with the status of a no
+-- the text is printed with status 0; or the line of a no with its reason, and the status of a no
 abbrev pub PrintsShown : Type 0 → PriceReport → Option (List ℕ) → Option (List ℕ) → Ended → Type 0
 PrintsShown MayFail (report.Shown text) old new ended = PrintsText MayFail text.items old new ended
 PrintsShown MayFail (report.Refused reason) old new ended = PrintsLine MayFail (No reason) old new ended
 
 -- the report is printed; or nothing was written, and its fault is returned
-abbrev pub PrintsReport : Type 0 → Priced → AskedPriceReport → Option (List ℕ) → Option (List ℕ) → Option (List ℕ)
+abbrev pub PrintsReport : Type 0 → Priced → PriceReportKind → Option (List ℕ) → Option (List ℕ) → Option (List ℕ)
     → Ended → Type 0
-PrintsReport MayFail priced asked left old new ended =
-    ((report : PriceReport) × IsShownReport priced asked left report × PrintsShown MayFail report old new ended)
-    ⊎ ((fault : StreamFault) × IsReportFault priced asked left fault × (new ≡ old) × (ended ≡ Err (Refused fault)))
+PrintsReport MayFail priced kind left old new ended =
+    ((report : PriceReport) × IsShownReport priced kind left report × PrintsShown MayFail report old new ended)
+    ⊎ ((fault : StreamFault) × IsReportFault priced kind left fault × (new ≡ old) × (ended ≡ Err (Refused fault)))

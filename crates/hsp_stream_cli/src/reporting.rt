@@ -27,8 +27,8 @@ fn kind_of(asked: AskedPriceReport) -> PriceReportKind
 
 // Prints a report. Where the certificate isn't valid, it prints the line of the no, which has status 3.
 fn print_shown<O: Output>(alloc: Global, report: PriceReport, out: &mut O) -> Ended
-    ensures prints { PrintsShown O.may_fail report.entry (O.contents out.old)
-        (O.contents out.new) result }
+    ensures prints { PrintsShown O.may_fail report (O.contents out.old) (O.contents out.new)
+        result }
     ensures handed { IsHandedOn (O.contents out.old) (O.handed out.old) (O.contents out.new)
         (O.handed out.new) result }
 {
@@ -42,7 +42,7 @@ fn print_shown<O: Output>(alloc: Global, report: PriceReport, out: &mut O) -> En
 fn print_report<F: OpenFile, O: Output>(
     alloc: Global,
     priced: &Priced,
-    kind: AskedPriceReport,
+    kind: PriceReportKind,
     log: F,
     out: &mut O,
 ) -> Ended
@@ -51,7 +51,7 @@ fn print_report<F: OpenFile, O: Output>(
     ensures handed { IsHandedOn (O.contents out.old) (O.handed out.old) (O.contents out.new)
         (O.handed out.new) result }
 {
-    match price_report_run(alloc, &priced.inputs, &priced.prices, kind_of(kind), log) {
+    match price_report_run(alloc, &priced.inputs, &priced.prices, kind, log) {
         Ok(report) => print_shown(alloc, report, out),
         Err(fault) => Err(Failure::Refused(fault)),
     }
@@ -73,5 +73,5 @@ pub(crate) fn report_prices<S: FileSource, O: Output>(
 {
     let priced = read_prices(alloc, files, named)?;
     let log = files.open(log)?;
-    print_report(alloc, &priced, kind, log, out)
+    print_report(alloc, &priced, kind_of(kind), log, out)
 }

@@ -8,5 +8,5 @@ returns-clause-reports g c =
       _,
       c.in_ok-priced.ensures.held,
       c.in_ok-log.ensures.held,
-      c.print_report.ensures.prints,
+      rw c.kind_of.ensures at c.print_report.ensures.prints,
     )
