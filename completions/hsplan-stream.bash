@@ -2,7 +2,7 @@
 
 _hsplan_stream_commands() {
     case $1 in
-        "") echo "kinds places answer check faults --help --version" ;;
+        "") echo "kinds places answer check report faults --help --version" ;;
     esac
 }
 
@@ -12,6 +12,7 @@ _hsplan_stream_options() {
         "places") echo "--settings --log --values --help" ;;
         "answer") echo "--settings --demand --costs --capacity --plan --log --values --unit --fronts --front --help" ;;
         "check") echo "--settings --costs --capacity --log --prices --values --help" ;;
+        "report") echo "--settings --costs --capacity --log --prices --kind --values --help" ;;
         "faults") echo "--demand --costs --capacity --log --help" ;;
     esac
 }
@@ -21,6 +22,7 @@ _hsplan_stream_values() {
     case $1 in
         *" --settings" | *" --costs" | *" --log" | *" --values" | *" --demand" | *" --capacity" | *" --plan" | *" --prices") echo -f ;;
         *" --unit" | *" --fronts" | *" --front") echo - ;;
+        *" --kind") echo "-W load region" ;;
     esac
 }
 

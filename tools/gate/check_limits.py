@@ -7,8 +7,8 @@ One service has 64 regions, 32 sites, 1,024 servers, 1,024 hosts and 8,192 rows 
 them with handles of 4,096 octets; names, identifiers and costs are the longest and greatest. Every command runs over
 it, with a plan that sends each row to all sites, and with a shortage of all rows. Logs have 1,000,000 answers of each
 kind, by a dispatcher and by 64 fronts, and end with a bad row of seven digits. hsplan-stream joins a log of 8,192
-kinds, and refuses one of a kind more. It checks the same plan and shortage by prices, and a certificate of 1,048,576
-classes, and refuses one of a class more.
+kinds, and refuses one of a kind more. It checks the same plan and shortage by prices, and reports the plan. It checks a
+certificate of 1,048,576 classes, and refuses one of a class more.
 
 Then files of each length from 0 to 8,193, and of 65,535 to 65,537 octets, are read whole.
 
@@ -293,10 +293,15 @@ def stream_cases(folder: str) -> Iterator[Case]:
             file.write(lines(["region,handle", *log]))
         words = ["kinds", "--settings", "settings.toml", "--costs", "costs.csv", "--log", name]
         yield Case(words, printed, reported, status)
-    check = ["check", "--settings", "settings.toml", "--costs", "costs.csv", "--log", "demand.csv", "--capacity"]
-    yield Case([*check, "capacity.csv", "--prices", "plan.prices"], b"yes\n")
-    yield Case([*check, "little.csv", "--prices", "short.prices"], b"yes\n")
+    by = ["--settings", "settings.toml", "--costs", "costs.csv", "--log", "demand.csv", "--capacity"]
+    check, report = ["check", *by], ["report", *by]
+    plan, short = ["capacity.csv", "--prices", "plan.prices"], ["little.csv", "--prices", "short.prices"]
+    yield Case([*check, *plan], b"yes\n")
+    yield Case([*check, *short], b"yes\n")
     yield Case([*check, "capacity.csv", "--prices", "classes.prices"], b"no 3 NotLeast\n", status=3)
+    yield Case([*report, *plan, "--kind", "load"], loads())
+    yield Case([*report, *plan, "--kind", "region"], regions())
+    yield Case([*report, *short, "--kind", "load"], b"", "hsplan-stream: WrongKind\n", 3)
     line = 3 + 2 * SITES * SERVERS + CLASSES + 1
     fault = f"hsplan-stream: certificate: BadLine line {line}\n"
     yield Case([*check, "capacity.csv", "--prices", "more.prices"], b"", fault, 1)

@@ -8,13 +8,14 @@ tools/gate/check_program.py runs them. Here are tried:
 
 - the options that the help names;
 - random logs: the table of kinds with and without units, places, and answers by a plan, by each front and in units;
-- certificates by prices of random logs, made of plans and shortages of their kinds, and with a number changed;
+- certificates by prices of random logs, made of plans and shortages of their kinds, and with a number changed; their
+  reports, which are those of `hsplan report` of the table of the kinds;
 - a log in parts, whose tables are joined;
 - examples/twelve-sites, planned by rows and by kinds, at the same cost;
 - a co-process over pipes: each row is answered within a second, before the next one is written;
-- a log of a million handles: its table, its plan, `check` of its certificate by prices, and `answer` over the same
-  log, line by line as `hsplan dispatch` answers the log with each handle replaced by its row's; none of its runs takes
-  more than 64 MB;
+- a log of a million handles: its table, its plan, `check` and `report` of its certificate by prices, and `answer` over
+  the same log, line by line as `hsplan dispatch` answers the log with each handle replaced by its row's; none of its
+  runs takes more than 64 MB;
 - each open, read and write of some runs failing in turn.
 """
 from __future__ import annotations
@@ -43,11 +44,14 @@ from lib import oracle, prices
 FILES = "--settings settings.toml --costs costs.csv"
 INPUTS = oracle.INPUTS
 ANSWER = f"answer {INPUTS} --plan plan.txt --log /dev/stdin"
-CHECK = f"check {FILES} --capacity capacity.csv --log /dev/stdin --prices plan.prices"
+BY_PRICES = f"{FILES} --capacity capacity.csv --log /dev/stdin --prices plan.prices"
+CHECK = f"check {BY_PRICES}"
+KINDS_OF_REPORTS = ("load", "region")
+REPORTS = [f"report {BY_PRICES} --kind {kind}" for kind in KINDS_OF_REPORTS]
 LIMIT_KB = 64 * 1024
 HELP_BEGINS = "hsplan-stream: tables, places and answers for logs of any length\n"
 
-COMMANDS = ("kinds", "places", "answer", "check", "faults")
+COMMANDS = ("kinds", "places", "answer", "check", "report", "faults")
 
 Ended = tuple[bytes, bytes, int]
 
@@ -77,6 +81,11 @@ class Programs:
         with open(os.path.join(folder or self.folder, "plan.txt"), "wb") as file:
             file.write(text)
         return text
+
+    def report(self, kind: str, folder: str = "") -> bytes:
+        """What hsplan reports by plan.txt."""
+        words = ["report", *INPUTS.split(), "--plan", "plan.txt", "--kind", kind]
+        return subprocess.run([self.hsplan, *words], cwd=folder or self.folder, stdout=subprocess.PIPE).stdout
 
     def plan_by_prices(self, table: bytes) -> None:
         """Keeps a plan of the table of demand as plan.txt, and its certificate by prices as plan.prices."""
@@ -206,10 +215,21 @@ def check_prices(it: Programs, draw: random.Random) -> list[str]:
         for text, wanted in tried:
             if wanted == "yes" or text != right:
                 it.put("plan.prices", text)
-                status = 0 if wanted == "yes" else 3
-                found += fault(f"{wanted} of {capacity}", it.run(CHECK, log), (f"{wanted}\n".encode(), b"", status))
+                verdict = (f"{wanted}\n".encode(), b"", 0 if wanted == "yes" else 3)
+                found += fault(f"{wanted} of {capacity}", it.run(CHECK, log), verdict)
+                reports = verdict if wanted != "yes" else (b"", b"hsplan-stream: WrongKind\n", 3) if is_short else None
+                found += check_reports(it, capacity, log, reports)
                 seen.add(wanted)
     return found + fault("verdicts", len(seen), 5)
+
+
+def check_reports(it: Programs, capacity: int, log: bytes, wanted: Ended | None) -> list[str]:
+    """The reports by a certificate, which print what is wanted; without it what hsplan reports of the kinds."""
+    found = []
+    for words, kind in zip(REPORTS, KINDS_OF_REPORTS):
+        own = wanted or (it.report(kind), b"", 0)
+        found += fault(f"report of {kind} of {capacity}", it.run(words, log), own)
+    return found
 
 
 def with_one_more(text: bytes, word: str) -> bytes:
@@ -305,6 +325,11 @@ def check_million(it: Programs, number: int) -> list[str]:
         Programs(it.stream, it.hsplan, folder).plan_by_prices(table)
         checked = measured([it.stream, *CHECK.split()], folder, path[0], path[5])
         found += fault("check of a million handles", (checked[0], checked[1] < LIMIT_KB), (0, True))
+        for asked, kind in zip(REPORTS, KINDS_OF_REPORTS):
+            shown = measured([it.stream, *asked.split()], folder, path[0], path[5])
+            found += fault(f"report of {kind} of a million handles", (shown[0], shown[1] < LIMIT_KB), (0, True))
+            with open(path[5], "rb") as file:
+                found += fault(f"report of {kind} of a million handles", file.read(), it.report(kind, folder))
         replaced(table, path[0], path[3])
         reported = measured([it.stream, *ANSWER.split()], folder, path[0], path[2])
         found += fault("answers to a million handles", (reported[0], reported[1] < LIMIT_KB), (0, True))
@@ -330,6 +355,8 @@ FAILING = [
     ("places --settings settings.toml --log log.csv", b""),
     (f"{ANSWER.replace('/dev/stdin', 'log.csv')} --unit 2", b""),
     (CHECK.replace("/dev/stdin", "log.csv"), b""),
+    (REPORTS[0].replace("/dev/stdin", "demand.csv"), b""),
+    (REPORTS[1].replace("/dev/stdin", "demand.csv"), b""),
     ("faults --demand log.csv", b""),
     ("faults --log log.csv", b""),
     ("--help", b""),

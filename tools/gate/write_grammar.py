@@ -39,7 +39,7 @@ ROWS = {
     "sites": "MOST_SITES",
     "servers of a site, and of all sites together": "MOST_SERVERS",
     "hosts": "MOST_HOSTS",
-    "regions in one table, or in a log of `check`": "MOST_REGIONS",
+    "regions in one table, or in a log of `check` or `report`": "MOST_REGIONS",
     "rows of the demand": "MOST_DEMAND_ROWS",
     "rows of the costs": "MOST_COST_ROWS",
     "rows of the capacities": "MOST_CAPACITY_ROWS",
@@ -54,7 +54,7 @@ ROWS = {
     "rows of a log of `hsplan-stream`": "",
     "octets of a row of `places` or `answer`; a row of another log has no limit but memory": "LONGEST_ROW",
     "kinds, and regions, that `kinds` joins a log to": "MOST_DEMAND_ROWS MOST_REGIONS",
-    "count of a row of a log of `kinds` or `check`": "GREATEST_ROW_COUNT",
+    "count of a row of a log of `kinds`, `check` or `report`": "GREATEST_ROW_COUNT",
     "unit of `kinds` and `answer`": "GREATEST_UNIT",
     "fronts": "MOST_FRONTS",
     "classes of a certificate by prices": "MOST_CLASSES",
@@ -92,6 +92,16 @@ def program_of(command: str) -> str:
 '''
 
 
+VALUE_OF = '''
+
+def value_of(program: str, option: str) -> str:
+    """What stands behind an option of a program."""
+    return OWN_VALUES.get(program, {}).get(option, VALUES[option])
+
+
+'''
+
+
 def _written(value: Any) -> str:
     """A tuple of texts, or of such tuples, as `black` writes it."""
     if isinstance(value, str):
@@ -120,6 +130,11 @@ def _of_programs() -> str:
     return f"COMMANDS: dict[str, dict[str, Command]] = {{\n{''.join(lines)}}}\n"
 
 
+def _of_values(values: dict[str, str]) -> str:
+    """A dictionary of texts in one line."""
+    return "{" + ", ".join(f"{_written(name)}: {_written(value)}" for name, value in values.items()) + "}"
+
+
 def _listed(name: str, pairs: dict[str, str], kind: str) -> str:
     lines = "".join(f'    "{key}": {value},\n' for key, value in pairs.items())
     return f"{name}: dict[str, {kind}] = {{\n{lines}}}\n"
@@ -128,6 +143,9 @@ def _listed(name: str, pairs: dict[str, str], kind: str) -> str:
 def module() -> str:
     """The companion's module."""
     options = grammar.options().values()
+    others = {
+        program: {name: it.value for name, it in own.items()} for program, own in grammar.own_options().items() if program
+    }
     tables = {kind: _written(",".join(header)) for kind, header in grammar.table_headers().items()}
     logs = {
         command: _written([",".join(header) for header in headers])
@@ -141,6 +159,9 @@ def module() -> str:
             PROGRAM_OF,
             "# What stands behind each option: a file, a number, or one of some words.\n",
             _listed("VALUES", {option.name: _written(option.value) for option in options}, "str"),
+            "# The same of a program, where it differs.\n",
+            _listed("OWN_VALUES", {program: _of_values(own) for program, own in others.items()}, "dict[str, str]"),
+            VALUE_OF,
             'FILES = tuple(name for name, value in VALUES.items() if value == "FILE")\n\n',
             "# The headers of the tables, and those of each command's log; `fronts` is a dispatch for several fronts.\n",
             _listed("HEADERS", tables, "str"),
@@ -158,9 +179,9 @@ def module() -> str:
 
 def programs() -> list[Program]:
     """hsplan and hsplan-stream with their commands."""
-    options = {name: Option(*it) for name, it in grammar.options().items()}
     found = []
     for name, flags in FLAGS.items():
+        options = {option: Option(*it) for option, it in grammar.options(name).items()}
         own = [it for it in grammar.commands() if it.program == name]
         more = flags[:1]
         commands = [

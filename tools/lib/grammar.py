@@ -25,6 +25,7 @@ LOGS = {
     "places": "hsp_stream/src/handle_rows.rt fn form_of",
     "answer": "hsp_stream/src/answerer.rt fn form_of",
     "check": "hsp_stream/src/kinds_log.rt fn form_of",
+    "report": "hsp_stream/src/kinds_log.rt fn form_of",
 }
 TABLES = ("demand", "costs", "capacity")
 
@@ -75,12 +76,20 @@ def matched(pattern: str, text: str, what: str) -> list[re.Match[str]]:
     return found
 
 
-def options() -> dict[str, Option]:
-    """All options by their names, in the order of the comment in tables.rt."""
-    lines = matched(
-        r"^// --(\w+) ([^\s:]+): ([^\n]*)$", source("hsp_cli_options/src/tables.rt"), "options of tables.rt"
-    )
-    return {line[1]: Option(line[1], line[2], line[3]) for line in lines}
+def own_options() -> dict[str, dict[str, Option]]:
+    """The options by their names, in the order of the comment in tables.rt: of each program what it has otherwise, and
+    of no program those of both."""
+    pattern = r"^// (?:([\w-]+) )?--(\w+) ([^\s:]+): ([^\n]*)$"
+    found: dict[str, dict[str, Option]] = {}
+    for line in matched(pattern, source("hsp_cli_options/src/tables.rt"), "options of tables.rt"):
+        found.setdefault(line[1] or "", {})[line[2]] = Option(line[2], line[3], line[4])
+    return found
+
+
+def options(program: str = "") -> dict[str, Option]:
+    """All options by their names, as a program has them."""
+    own = own_options()
+    return own[""] | own.get(program, {})
 
 
 def commands() -> list[Command]:

@@ -41,6 +41,11 @@ COMMANDS: dict[str, dict[str, Command]] = {
             ("values", "unit", "fronts", "front"),
         ),
         "check": Command("hsplan-stream", ("settings", "costs", "capacity", "log", "prices"), ("values",)),
+        "report": Command(
+            "hsplan-stream",
+            ("settings", "costs", "capacity", "log", "prices", "kind"),
+            ("values",),
+        ),
         "faults": Command("hsplan-stream", (), ("demand", "costs", "capacity", "log")),
     },
 }
@@ -69,6 +74,17 @@ VALUES: dict[str, str] = {
     "fronts": "N",
     "front": "N",
 }
+# The same of a program, where it differs.
+OWN_VALUES: dict[str, dict[str, str]] = {
+    "hsplan-stream": {"kind": "load|region"},
+}
+
+
+def value_of(program: str, option: str) -> str:
+    """What stands behind an option of a program."""
+    return OWN_VALUES.get(program, {}).get(option, VALUES[option])
+
+
 FILES = tuple(name for name, value in VALUES.items() if value == "FILE")
 
 # The headers of the tables, and those of each command's log; `fronts` is a dispatch for several fronts.
@@ -84,6 +100,7 @@ LOG_HEADERS: dict[str, tuple[str, ...]] = {
     "places": ("handle", "region,handle"),
     "answer": ("region,handle", "region,body"),
     "check": ("region,handle", "region,handle,count"),
+    "report": ("region,handle", "region,handle,count"),
     "faults": ("region,handle", "region,body", "front,region,handle", "region,handle,count", "handle"),
 }
 LOG_HEAD = LOG_HEADERS["dispatch"][0].encode() + b"\n"

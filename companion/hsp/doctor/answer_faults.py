@@ -147,9 +147,12 @@ def verdict(question: Question, said: Said) -> Explained:
 
 def wrong_kind(question: Question, said: Said) -> Explained:
     """A shortage where a plan is wanted, or a plan where a shortage is."""
-    text = question.files["plan"].original
-    is_shortage = text.line(2) == "SHORTAGE"
-    if question.command == "report":
+    form = form_of(question)
+    text = question.files[form.role].original
+    is_shortage = text.line(2) in ("SHORTAGE", "SHORT")
+    if form is PRICES:
+        remedy = "read its servers and sums in the file: hsplan-stream report shows plans only"
+    elif question.command == "report":
         remedy = "report it by --kind shortage" if is_shortage else "report it by --kind load or --kind region"
     else:
         remedy = "plan again with more capacity: hsp plan shows the least purchase"

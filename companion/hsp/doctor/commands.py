@@ -5,7 +5,7 @@ from __future__ import annotations
 from dataclasses import dataclass
 from typing import NamedTuple
 
-from hsp.base.grammar import COMMANDS, VALUES, Command, program_of
+from hsp.base.grammar import COMMANDS, Command, program_of, value_of
 
 
 class Word(NamedTuple):
@@ -36,7 +36,7 @@ class Line:
 def shown(line: Line) -> str:
     """The form of the line's command, as a manual page shows it."""
     takes = line.takes
-    words = [f"--{name} {VALUES[name]}" for name in takes.needed]
+    words = [f"--{name} {value_of(line.program, name)}" for name in takes.needed]
     return " ".join([line.program, line.command, *words, *([takes.last.upper()] if takes.last else [])])
 
 

@@ -191,7 +191,7 @@ class Question:
 
     def ask(self) -> Said:
         """What hsplan says. Its answer is the status only, since answers to a log may be long."""
-        short = self.command in ("check", "plan", "faults")
+        short = self.command in ("check", "report", "plan", "faults")
         done = subprocess.run(
             [program(self.program), *self.arguments()],
             stdin=subprocess.DEVNULL,
@@ -199,7 +199,7 @@ class Question:
             stderr=subprocess.PIPE,
         )
         line = done.stderr.decode("utf-8", "replace").strip()
-        verdict = done.stdout.decode("utf-8", "replace").strip() if self.command == "check" else ""
+        verdict = done.stdout.decode("utf-8", "replace").strip() if self.command in ("check", "report") else ""
         if done.returncode == 3 and verdict.startswith("no "):
             return Said(3, verdict, "check", verdict.split()[-1])
         if self.command == "faults" and done.returncode == 1:

@@ -16,6 +16,7 @@ from hsp.base.grammar import (
     VALUES,
     Command,
     program_of,
+    value_of,
 )
 from hsp.base.paths import shell_word
 from hsp.base.spelling import near
@@ -24,7 +25,6 @@ from hsp.doctor.findings import Finding, Place, Words, found, quoted
 from hsp.doctor.question import Said
 
 USAGE = "Usage"
-KINDS = VALUES["kind"].split("|")
 VERSION = ("-V", "--version", "version", "-v")
 HELP = ("-h", "--help", "help", *VERSION)
 # The commands of hsp that take a folder, and ask the doctor first.
@@ -132,12 +132,12 @@ def _option_faults(line: Line, takes: Command, options: list[Option]) -> Iterato
     for option in options:
         if option.name not in takes.options:
             yield _unknown_option(line, takes, option, right)
-        elif about := _of_option(option, option.name in seen):
+        elif about := _of_option(takes.program, option, option.name in seen):
             yield at_word(line, *about)
         seen.add(option.name)
 
 
-def _of_option(option: Option, is_second: bool) -> tuple[Word | None, Words] | None:
+def _of_option(program: str, option: Option, is_second: bool) -> tuple[Word | None, Words] | None:
     """What is wrong with an option that the command has, or with its value."""
     name, value, own = option.name, option.value, option.value_word
     if not option.word.text.startswith("--"):
@@ -152,10 +152,10 @@ def _of_option(option: Option, is_second: bool) -> tuple[Word | None, Words] | N
         return option.word, Words(f"--{name} has no value", remedy, why)
     if own and own is not option.word and value.startswith("-") and len(value) > 1:
         return own, Words(f"{value} is read as an option", f"write --{name}={value}", "it begins with a hyphen")
-    if name == "kind" and value not in KINDS:
-        meant, kinds = near(value, KINDS, 0.6), ", ".join(KINDS)
-        remedy = f"write {meant}" if meant else f"write one of {kinds}"
-        return own, Words(f"no kind {quoted(value)}", remedy, f"the kinds are {kinds}")
+    if name == "kind" and value not in (kinds := value_of(program, name).split("|")):
+        meant, listed = near(value, kinds, 0.6), ", ".join(kinds)
+        remedy = f"write {meant}" if meant else f"write one of {listed}"
+        return own, Words(f"no kind {quoted(value)}", remedy, f"the kinds are {listed}")
     return None
 
 

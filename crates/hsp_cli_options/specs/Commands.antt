@@ -17,6 +17,11 @@ abbrev pub inputs : List Rule
 inputs = needed (codes "settings") ∷ option (codes "values") ∷ needed (codes "demand") ∷ needed (codes "costs")
     ∷ needed (codes "capacity") ∷ []
 
+-- the files of the inputs of a certificate by prices, for which a log stands in place of the demand
+abbrev pub price_inputs : List Rule
+price_inputs = needed (codes "settings") ∷ option (codes "values") ∷ needed (codes "costs")
+    ∷ needed (codes "capacity") ∷ []
+
 -- the name and the arguments of each command of hsplan
 abbrev pub commands : List (Text × List Rule)
 commands = (
@@ -44,10 +49,10 @@ stream_commands = (
       inputs ++ needed (codes "plan") ∷ needed (codes "log") ∷ option (codes "unit")
           ∷ option (codes "fronts") ∷ option (codes "front") ∷ [],
     )
+    ∷ (codes "check", price_inputs ++ needed (codes "log") ∷ needed (codes "prices") ∷ [])
     ∷ (
-      codes "check",
-      needed (codes "settings") ∷ option (codes "values") ∷ needed (codes "costs") ∷ needed (codes "capacity")
-          ∷ needed (codes "log") ∷ needed (codes "prices") ∷ [],
+      codes "report",
+      price_inputs ++ needed (codes "log") ∷ needed (codes "prices") ∷ needed (codes "kind") ∷ [],
     )
     ∷ (
       codes "faults",

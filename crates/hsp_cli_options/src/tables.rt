@@ -21,7 +21,8 @@ pub(crate) struct Subcommand<'a> {
     pub(crate) others: &'a [Argument<'a>],
 }
 
-// What stands behind each option, and what that is. tools/gate/write_grammar.py reads these lines.
+// What stands behind each option, and what that is. A line that begins with a program is of this program only.
+// tools/gate/write_grammar.py reads these lines.
 // --settings FILE: sites and hosts, TOML
 // --values FILE: a value list
 // --demand FILE: queries of regions for handles, CSV
@@ -34,6 +35,7 @@ pub(crate) struct Subcommand<'a> {
 // --servers N: number of servers
 // --index N: index of the value
 // --kind load|region|shortage: what is shown
+// hsplan-stream --kind load|region: what is shown
 // --unit N: queries that count as one
 // --fronts N: number of fronts
 // --front N: number of this front, from 0
@@ -42,6 +44,14 @@ const INPUTS: [Argument<'static>; 5] = [
     Needed("settings"),
     Optional("values"),
     Needed("demand"),
+    Needed("costs"),
+    Needed("capacity"),
+];
+
+// The inputs of a certificate by prices, for which a log stands in place of the demand.
+const PRICE_INPUTS: [Argument<'static>; 4] = [
+    Needed("settings"),
+    Optional("values"),
     Needed("costs"),
     Needed("capacity"),
 ];
@@ -87,7 +97,7 @@ pub(crate) const COMMANDS: [Subcommand<'static>; 6] = [
 ];
 
 /// The commands of `hsplan-stream`.
-pub(crate) const STREAM_COMMANDS: [Subcommand<'static>; 5] = [
+pub(crate) const STREAM_COMMANDS: [Subcommand<'static>; 6] = [
     Subcommand {
         name: "kinds",
         inputs: &[Needed("settings"), Optional("values"), Needed("costs")],
@@ -111,13 +121,13 @@ pub(crate) const STREAM_COMMANDS: [Subcommand<'static>; 5] = [
     },
     Subcommand {
         name: "check",
-        inputs: &[
-            Needed("settings"),
-            Optional("values"),
-            Needed("costs"),
-            Needed("capacity"),
-        ],
+        inputs: &PRICE_INPUTS,
         others: &[Needed("log"), Needed("prices")],
+    },
+    Subcommand {
+        name: "report",
+        inputs: &PRICE_INPUTS,
+        others: &[Needed("log"), Needed("prices"), Needed("kind")],
     },
     Subcommand {
         name: "faults",

@@ -8,6 +8,8 @@ use Rattle.hsp_cli_options.specs.Commands.{stream_app}
 use Rattle.hsp_cli_orders.specs.Orders.{HasInputs}
 use Rattle.hsp_cli_orders.specs.declared.fault.CommandFault.{CommandFault}
 use Rattle.hsp_cli_orders.specs.declared.fault.CommandFault.TheVariants as fault
+use Rattle.hsp_cli_orders.specs.declared.stream_order.AskedPriceReport.{AskedPriceReport}
+use Rattle.hsp_cli_orders.specs.declared.stream_order.AskedPriceReport.TheVariants as shown
 use Rattle.hsp_cli_orders.specs.declared.stream_order.FaultsOf.{FaultsOf}
 use Rattle.hsp_cli_orders.specs.declared.stream_order.FaultsOf.TheVariants as of
 use Rattle.hsp_cli_orders.specs.declared.stream_order.FrontWords.{FrontWords}
@@ -46,6 +48,11 @@ pub record HasPriceFiles (rows : List Row) (files : PriceFiles) : Type 0 where
   pub capacity : first_of (codes "capacity") rows ≡ Some files.capacity
   pub prices : first_of (codes "prices") rows ≡ Some files.prices
 
+-- the word for a kind of report
+abbrev pub price_report_word : AskedPriceReport → Text
+price_report_word shown.Load = codes "load"
+price_report_word shown.Region = codes "region"
+
 -- just this one of the four files is given
 abbrev pub IsOnly : FaultsOf → List ℕ → List Row → Type 0
 IsOnly of.Demand file rows =
@@ -80,6 +87,9 @@ IsStreamOrderIn (order.Answer inputs plan log unit front) name rows =
     × (first_of (codes "unit") rows ≡ unit) × HasFront rows front
 IsStreamOrderIn (order.Check files log) name rows =
     (name ≡ codes "check") × HasPriceFiles rows files × (first_of (codes "log") rows ≡ Some log)
+IsStreamOrderIn (order.Report files log kind) name rows =
+    (name ≡ codes "report") × HasPriceFiles rows files × (first_of (codes "log") rows ≡ Some log)
+    × (first_of (codes "kind") rows ≡ Some (price_report_word kind))
 IsStreamOrderIn (order.Faults of file) name rows = (name ≡ codes "faults") × IsOnly of file rows
 
 -- the order of what clap's matches give

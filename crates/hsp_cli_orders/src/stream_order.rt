@@ -20,6 +20,15 @@ pub struct PriceFiles<'a> {
     pub prices: Word<'a>,
 }
 
+/// What a report by prices shows.
+#[derive(Clone, Copy, Debug, PartialEq, Eq)]
+pub enum AskedPriceReport {
+    /// `load`: what each server takes.
+    Load,
+    /// `region`: what each region asks for, and what that costs.
+    Region,
+}
+
 /// What is looked at for faulty rows.
 #[derive(Clone, Copy, Debug, PartialEq, Eq)]
 pub enum FaultsOf {
@@ -66,6 +75,12 @@ pub enum StreamOrder<'a> {
     Check {
         files: PriceFiles<'a>,
         log: Word<'a>,
+    },
+    /// `report` with a certificate by prices, the files that it is checked by, `--log F` and `--kind K`
+    Report {
+        files: PriceFiles<'a>,
+        log: Word<'a>,
+        kind: AskedPriceReport,
     },
     /// `faults` with one of `--demand F`, `--costs F`, `--capacity F` and `--log F`
     Faults {

@@ -6,15 +6,17 @@ ghost use Rattle.clap.specs.Words.{fault_of, found_of, rows_of, subcommand_of};
 ghost use Rattle.hsp_cli_options.specs.Commands.{stream_app};
 ghost use Rattle.hsp_cli_orders.specs.StreamOrders.{HasFront, HasPriceFiles, IsStreamOrder, IsStreamOrderIn};
 ghost use Rattle.hsp_cli_orders.specs.StreamOrders.{IsStreamOrdered, IsStreamUsage, asked, is_help, is_version};
+ghost use Rattle.hsp_cli_orders.specs.StreamOrders.{price_report_word};
 ghost use Rattle.hsp_cli_orders.specs.declared.fault.CommandFault.TheVariants as fault;
+ghost use Rattle.hsp_cli_orders.specs.declared.stream_order.AskedPriceReport.{AskedPriceReport};
 ghost use Rattle.hsp_cli_orders.specs.declared.stream_order.FrontWords.{FrontWords};
 ghost use Rattle.hsp_cli_orders.specs.declared.stream_order.PriceFiles.{PriceFiles};
 ghost use Rattle.hsp_cli_orders.specs.declared.stream_order.StreamOrder.{StreamOrder};
 ghost use Rattle.std.specs.Prelude.{Option};
 
 use crate::fault::CommandFault;
-use crate::reading::{command_fault, inputs_of, word_of};
-use crate::stream_order::{FaultsOf, FrontWords, PriceFiles, StreamOrder};
+use crate::reading::{command_fault, inputs_of, text_of, word_of};
+use crate::stream_order::{AskedPriceReport, FaultsOf, FrontWords, PriceFiles, StreamOrder};
 use clap::ArgMatches;
 use hsp_cli_options::stream_command;
 use std::alloc::Global;
@@ -100,7 +102,6 @@ fn answer_of<'a>(matches: &ArgMatches<'a>) -> Option<StreamOrder<'a>>
     })
 }
 
-// The one file that is given, if there is just one.
 // The names of a certificate by prices and of what it is checked by, or None where one is absent.
 fn price_files_of<'a>(matches: &ArgMatches<'a>) -> Option<PriceFiles<'a>>
     ensures given { IfSome result
@@ -129,6 +130,33 @@ fn check_of<'a>(matches: &ArgMatches<'a>) -> Option<StreamOrder<'a>>
     })
 }
 
+// The report that is asked for by the word.
+fn asked_report(word: &str) -> Option<AskedPriceReport>
+    ensures kind { IfSome result (λ kind. word.now ≡ price_report_word kind) }
+    ensures none { IfNone result ((kind : AskedPriceReport)
+        → word.now ≡ price_report_word kind → ⊥) }
+{
+    match word {
+        "load" => Some(AskedPriceReport::Load),
+        "region" => Some(AskedPriceReport::Region),
+        _ => None,
+    }
+}
+
+fn report_of<'a>(matches: &ArgMatches<'a>) -> Option<StreamOrder<'a>>
+    ensures order { IfSome result (λ order.
+        IsStreamOrderIn order (codes "report") (rows_of (found_of matches.now))) }
+    ensures none { IfNone result ((order : StreamOrder)
+        → IsStreamOrderIn order (codes "report") (rows_of (found_of matches.now)) → ⊥) }
+{
+    Some(StreamOrder::Report {
+        files: price_files_of(matches)?,
+        log: word_of(matches, "log")?,
+        kind: asked_report(text_of(matches, "kind")?)?,
+    })
+}
+
+// The one file that is given, if there is just one.
 fn faults_of<'a>(matches: &ArgMatches<'a>) -> Option<StreamOrder<'a>>
     ensures order { IfSome result (λ order.
         IsStreamOrderIn order (codes "faults") (rows_of (found_of matches.now))) }
@@ -163,6 +191,7 @@ fn form_of<'a>(name: &str, matches: &ArgMatches<'a>) -> Option<StreamOrder<'a>>
         "places" => places_of(matches),
         "answer" => answer_of(matches),
         "check" => check_of(matches),
+        "report" => report_of(matches),
         "faults" => faults_of(matches),
         _ => None,
     }
@@ -202,7 +231,8 @@ fn command_order<'a>(alloc: Global, words: &'a [String]) -> Result<StreamOrder<'
 /// The order that the words give to `hsplan-stream`. The first word is the command.
 ///
 /// `--help` and `--version` are orders where they stand by themselves, and `--help` also behind one word. The fault is
-/// `Usage` for whatever else clap's parser refuses, and for only one of `--fronts` and `--front`.
+/// `Usage` for whatever else clap's parser refuses, for only one of `--fronts` and `--front`, and for an unknown kind
+/// of report.
 pub fn read_stream_command<'a>(
     alloc: Global,
     words: &'a [String],

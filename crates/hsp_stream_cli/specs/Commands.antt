@@ -3,6 +3,7 @@ use Rattle.std.specs.Prelude.{◌≡◌, ◌⊎◌, ℕ, List, Option, Result, O
 use Rattle.hsp_cli_orders.specs.StreamOrders.{IsStreamOrdered}
 use Rattle.hsp_cli_orders.specs.declared.fault.CommandFault.{CommandFault}
 use Rattle.hsp_cli_orders.specs.declared.order.InputFiles.{InputFiles}
+use Rattle.hsp_cli_orders.specs.declared.stream_order.AskedPriceReport.{AskedPriceReport}
 use Rattle.hsp_cli_orders.specs.declared.stream_order.FaultsOf.{FaultsOf}
 use Rattle.hsp_cli_orders.specs.declared.stream_order.FrontWords.{FrontWords}
 use Rattle.hsp_cli_orders.specs.declared.stream_order.PriceFiles.{PriceFiles}
@@ -20,6 +21,7 @@ use Rattle.hsp_stream_cli.specs.Checking.{PrintsVerdict}
 use Rattle.hsp_stream_cli.specs.Faults.{EndsList, HoldsText, asked_for}
 use Rattle.hsp_stream_cli.specs.Files.{AreKindsHeld, ArePricesHeld, AreSourcesHeld, KindsFail, PricesFail, SourcesFail}
 use Rattle.hsp_stream_cli.specs.Printing.{Ended, PrintsTable, PrintsText}
+use Rattle.hsp_stream_cli.specs.Reporting.{PrintsReport, kind_of}
 use Rattle.hsp_stream_cli.specs.Talking.{EndsAnswers, EndsPlaces, IsPortion, TalksOver}
 use Rattle.hsp_stream_cli.specs.declared.files.Priced.{Priced}
 use Rattle.hsp_stream_cli.specs.declared.files.Sources.{Sources}
@@ -55,12 +57,24 @@ AnswersLog disk MayFail files plan log unit front old new ended =
     ⊎ ((it : Opened) × (words : PortionWords) × AreOpened disk files plan log it × IsPortion unit front words
     × TalksOver (disk.fails log) MayFail it.left old new ended (EndsAnswers it.inputs it.certificate words ended))
 
+-- what is printed of a certificate by prices, its inputs, and what is left of a log, where the files are read
+abbrev pub ByPrices : Disk → PriceFiles → List ℕ → Option (List ℕ) → Option (List ℕ) → Ended
+    → (Priced → Option (List ℕ) → Type 0) → Type 0
+ByPrices disk files log old new ended Prints =
+    LacksFile (PricesFail disk files ⊎ disk.fails log) old new ended
+    ⊎ ((priced : Priced) × (left : Option (List ℕ)) × ArePricesHeld disk files priced × HoldsRest disk log left
+    × Prints priced left)
+
 -- a certificate by prices is judged for a log
 abbrev pub ChecksPrices : Disk → Type 0 → PriceFiles → List ℕ → Option (List ℕ) → Option (List ℕ) → Ended → Type 0
 ChecksPrices disk MayFail files log old new ended =
-    LacksFile (PricesFail disk files ⊎ disk.fails log) old new ended
-    ⊎ ((priced : Priced) × (left : Option (List ℕ)) × ArePricesHeld disk files priced × HoldsRest disk log left
-    × PrintsVerdict MayFail priced left old new ended)
+    ByPrices disk files log old new ended (λ priced left. PrintsVerdict MayFail priced left old new ended)
+
+-- a log is reported on by such a certificate
+abbrev pub ReportsPrices : Disk → Type 0 → PriceFiles → AskedPriceReport → List ℕ → Option (List ℕ) → Option (List ℕ)
+    → Ended → Type 0
+ReportsPrices disk MayFail files kind log old new ended =
+    ByPrices disk files log old new ended (λ priced left. PrintsReport MayFail priced (kind_of kind) left old new ended)
 
 -- the faulty rows of a file are listed
 abbrev pub ListsFaults : Disk → FaultsOf → List ℕ → Option (List ℕ) → Option (List ℕ) → Ended → Type 0
@@ -79,6 +93,8 @@ CarriesOut disk MayFail (order.Places settings values log) old new ended =
 CarriesOut disk MayFail (order.Answer files plan log unit front) old new ended =
     AnswersLog disk MayFail files plan log unit front old new ended
 CarriesOut disk MayFail (order.Check files log) old new ended = ChecksPrices disk MayFail files log old new ended
+CarriesOut disk MayFail (order.Report files log kind) old new ended =
+    ReportsPrices disk MayFail files kind log old new ended
 CarriesOut disk MayFail (order.Faults of file) old new ended = ListsFaults disk of file old new ended
 
 -- the order is carried out; where there is none, nothing was written, and the failure is reported

@@ -3,4 +3,5 @@ pub mod Files
 pub mod Printing
 pub mod Talking
 pub mod Checking
+pub mod Reporting
 pub mod Commands

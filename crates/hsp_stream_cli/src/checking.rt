@@ -13,8 +13,8 @@ use hsp_cli_orders::{PriceFiles, Word};
 use hsp_price_runs::{price_check_run, price_verdict_line, price_verdict_status};
 use std::alloc::Global;
 
-// Prints the line of a verdict. A no has status 3.
-fn print_line<O: Output>(alloc: Global, verdict: PriceVerdict, out: &mut O) -> Ended
+/// Prints the line of a verdict. A no has status 3.
+pub(crate) fn print_line<O: Output>(alloc: Global, verdict: PriceVerdict, out: &mut O) -> Ended
     ensures prints { PrintsLine O.may_fail verdict (O.contents out.old) (O.contents out.new)
         result }
     ensures handed { IsHandedOn (O.contents out.old) (O.handed out.old) (O.contents out.new)

@@ -9,6 +9,7 @@ use crate::faults::list_faults;
 use crate::files::{read_kinds, read_sources};
 use crate::printing::{print, print_table};
 use crate::program::Ended;
+use crate::reporting::report_prices;
 use crate::talking::{answer_log, portion_words, state_places};
 use crate::texts::{HELP, VERSION};
 use hsp_cli::{FileSource, Output, open_log};
@@ -18,11 +19,11 @@ use std::alloc::Global;
 // Carries out the order: prints a text or a table on `out`, or answers a log there, and returns what to end with.
 fn carry_out<S: FileSource, O: Output>(
     alloc: Global,
-    files: &S,
+    source: &S,
     order: &StreamOrder<'_>,
     out: &mut O,
 ) -> Ended
-    ensures carries_out { CarriesOut (S.disk files.now) O.may_fail order.now (O.contents out.old)
+    ensures carries_out { CarriesOut (S.disk source.now) O.may_fail order.now (O.contents out.old)
         (O.contents out.new) result }
     ensures handed { IsHandedOn (O.contents out.old) (O.handed out.old) (O.contents out.new)
         (O.handed out.new) result }
@@ -37,8 +38,8 @@ fn carry_out<S: FileSource, O: Output>(
             unit,
             log,
         } => {
-            let inputs = read_kinds(alloc, files, settings, values, costs)?;
-            let log = files.open(log)?;
+            let inputs = read_kinds(alloc, source, settings, values, costs)?;
+            let log = source.open(log)?;
             print_table(alloc, &inputs, unit, log, out)
         }
         StreamOrder::Places {
@@ -46,8 +47,8 @@ fn carry_out<S: FileSource, O: Output>(
             values,
             log,
         } => {
-            let sources = read_sources(alloc, files, settings, values)?;
-            let log = files.open(log)?;
+            let sources = read_sources(alloc, source, settings, values)?;
+            let log = source.open(log)?;
             state_places(alloc, &sources, log, out)
         }
         StreamOrder::Answer {
@@ -57,12 +58,15 @@ fn carry_out<S: FileSource, O: Output>(
             unit,
             front,
         } => {
-            let opened = open_log(alloc, files, inputs, plan, log)?;
+            let opened = open_log(alloc, source, inputs, plan, log)?;
             let portion = portion_words(alloc, unit, front)?;
             answer_log(alloc, opened, &portion, out)
         }
-        StreamOrder::Check { files: named, log } => check_prices(alloc, files, named, log, out),
-        StreamOrder::Faults { of, file } => list_faults(alloc, files, *of, file, out),
+        StreamOrder::Check { files, log } => check_prices(alloc, source, files, log, out),
+        StreamOrder::Report { files, log, kind } => report_prices(
+            alloc, source, files, *kind, log, out,
+        ),
+        StreamOrder::Faults { of, file } => list_faults(alloc, source, *of, file, out),
     }
 }
 

@@ -8,6 +8,7 @@ mod faults;
 mod files;
 mod printing;
 mod program;
+mod reporting;
 mod talking;
 mod texts;
 

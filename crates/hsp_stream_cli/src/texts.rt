@@ -24,6 +24,10 @@ hsplan-stream check --settings F [--values F] --costs F --capacity F --log F
     prints yes or no: whether a certificate by prices holds for the log's rows.
     The log has the header region,handle or region,handle,count.
 
+hsplan-stream report --settings F [--values F] --costs F --capacity F --log F
+                     --prices F --kind load|region
+    prints a line for each server or region by such a certificate, and the sums.
+
 hsplan-stream faults --demand F | --costs F | --capacity F | --log F
     prints every faulty row of a table or a log: its row, line, field and fault.
 

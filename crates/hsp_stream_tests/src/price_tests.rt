@@ -1,4 +1,5 @@
-// The check of a certificate by prices, from the octets of its files and its log to the verdict and its line.
+// The check of a certificate by prices, from the octets of its files and its log to the verdict and its line, and its
+// reports.
 //
 // By the worked service 10/1 may go to the servers 1 and 4, 10/2 to 0 and 3, and 10/3 to 1 and 2.
 
@@ -11,7 +12,8 @@ use hsp_faults::Fault;
 use hsp_instance::Instance;
 use hsp_names::HandleRef;
 use hsp_price_check::PriceCheck;
-use hsp_price_runs::{price_check_run, price_verdict_line, price_verdict_status};
+use hsp_price_runs::{PriceReport, PriceReportKind, price_check_run, price_report_run};
+use hsp_price_runs::{price_verdict_line, price_verdict_status};
 use hsp_price_text::{PriceCertificate, read_prices};
 use hsp_runs::{Inputs, costs_in, instance_in};
 use hsp_stream::{RowFault, StreamFault};
@@ -152,6 +154,102 @@ fn a_verdict_has_a_line_and_a_status(rt: HostRuntime) {
     has_line(&rt, alloc, no, b"no 11 NotShort\n");
     is_same(&rt, price_verdict_status(PriceVerdict::Yes), 0);
     is_same(&rt, price_verdict_status(no), 3);
+}
+
+type Reported = Result<PriceReport, StreamFault>;
+
+// What the run of a report gives.
+fn reported_once<R: Read + Drop>(
+    alloc: Global,
+    prices: &[u8],
+    kind: PriceReportKind,
+    log: R,
+) -> Reported {
+    let Ok(inputs) = inputs_of(alloc) else {
+        return Err(StreamFault::OutOfMemory);
+    };
+    price_report_run(alloc, &inputs, prices, kind, log)
+}
+
+// The same, once more where memory ran out.
+fn reported<R: Read + Copy + Drop>(
+    alloc: Global,
+    prices: &[u8],
+    kind: PriceReportKind,
+    log: R,
+) -> Reported {
+    match reported_once(alloc, prices, kind, log) {
+        Err(StreamFault::OutOfMemory) => reported_once(alloc, prices, kind, log),
+        ended => ended,
+    }
+}
+
+// The report of the plan is this text.
+fn shows(rt: &impl Abort, alloc: Global, kind: PriceReportKind, log: &[u8], wanted: &[u8]) {
+    match reported(alloc, PLAN, kind, Rows::only(log)) {
+        Ok(PriceReport::Shown(text)) => is_same(rt, text.as_slice(), wanted),
+        ended => is_same(rt, ended, Err(StreamFault::BadUnit)),
+    }
+}
+
+// There is no report, but this.
+fn shows_none(rt: &impl Abort, alloc: Global, prices: &[u8], log: &[u8], wanted: StreamFault) {
+    is_same(
+        rt,
+        reported(alloc, prices, PriceReportKind::Load, Rows::only(log)),
+        Err(wanted),
+    );
+}
+
+// What hsplan prints of a plan with these prices: 10/1 and 10/2 go to E, and of 10/3 one query goes to E and two to W.
+const LOADS: &[u8] = b"place     server       load   capacity         price site\n    \
+    0          7          4         10             0 E\n    1          3          6          6             1 E\n    \
+    0          1          2          2             0 W\n    1          2          0         10             0 W\n    \
+    2          9          0         10             0 W\nbound 23 - 6 = 17\n";
+
+const REGIONS: &[u8] =
+    b"    demand             cost region\n         9                9 r1\n         3                8 r2\n\
+    total 12 17\n";
+
+// The same of a log that names r2 first.
+const OTHER_REGIONS: &[u8] =
+    b"    demand             cost region\n         3                8 r2\n         9                9 r1\n\
+    total 12 17\n";
+
+#[test]
+fn reports_show_loads_and_regions_by_the_rows_of_a_log(rt: HostRuntime) {
+    let alloc = rt.alloc();
+    shows(&rt, alloc, PriceReportKind::Load, DEMAND, LOADS);
+    shows(&rt, alloc, PriceReportKind::Region, DEMAND, REGIONS);
+    let log = b"region,handle,count\nr2,10/3,1\nr1,10/2,0\nr1,10/2,4\nr1,10/1,5\nr2,10/3,2\n";
+    shows(&rt, alloc, PriceReportKind::Load, log, LOADS);
+    shows(&rt, alloc, PriceReportKind::Region, log, OTHER_REGIONS);
+}
+
+#[test]
+fn a_report_of_a_certificate_that_is_not_valid_is_the_reason(rt: HostRuntime) {
+    let alloc = rt.alloc();
+    for kind in [PriceReportKind::Load, PriceReportKind::Region] {
+        let ended = reported(alloc, TOO_CHEAP, kind, Rows::only(DEMAND));
+        is_same(&rt, ended, Ok(PriceReport::Refused(PriceReason::Cost)));
+        let ended = reported(alloc, SET, kind, Rows::only(DEMAND));
+        is_same(&rt, ended, Ok(PriceReport::Refused(PriceReason::DemandSum)));
+    }
+}
+
+#[test]
+fn a_report_has_the_faults_of_a_check_and_last_a_wrong_kind(rt: HostRuntime) {
+    let alloc = rt.alloc();
+    let ended = StreamFault::Input(Fault::Cert(CertFault::Ended));
+    shows_none(&rt, alloc, b"HSPLAN PRICES 1\n", b"", ended);
+    let header = StreamFault::Log(RowFault::Header);
+    shows_none(&rt, alloc, PLAN, b"", header);
+    let more = b"region,handle,count\nr1,10/1,50\nr2,10/3,9\n";
+    let wrong = StreamFault::Input(Fault::WrongKind);
+    shows_none(&rt, alloc, SET, more, wrong);
+    let fields = StreamFault::Log(RowFault::Fields { row: 2 });
+    let cut = b"region,handle,count\nr1,10/1,50\nr2,10/3,9\nr2\n";
+    shows_none(&rt, alloc, SET, cut, fields);
 }
 
 // What the servers 1 and 2 take, and how many regions there are. None where memory ran out.

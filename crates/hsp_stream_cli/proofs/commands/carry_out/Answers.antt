@@ -45,3 +45,6 @@ returns-in_ok-portion-in-Answer-clause-carries_out g c =
 
 pub returns-in-Check-clause-carries_out : goal.returns-in-Check-clause-carries_out
 returns-in-Check-clause-carries_out g c = rw c.in-Check.is c.check_prices.ensures.checks
+
+pub returns-in-Report-clause-carries_out : goal.returns-in-Report-clause-carries_out
+returns-in-Report-clause-carries_out g c = rw c.in-Report.is c.report_prices.ensures.reports

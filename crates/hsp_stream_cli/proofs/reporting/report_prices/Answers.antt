@@ -1,0 +1,12 @@
+use Rattle.std.proofs.Common.{inr}
+use Rattle.hsp_stream_cli.proofs.reporting.report_prices.Goals as goal
+
+pub returns-clause-reports : goal.returns-clause-reports
+returns-clause-reports g c =
+    inr (
+      c.in_ok-priced.priced,
+      _,
+      c.in_ok-priced.ensures.held,
+      c.in_ok-log.ensures.held,
+      rw c.kind_of.ensures at c.print_report.ensures.prints,
+    )
