@@ -1,0 +1,6 @@
+pub mod Holding
+pub mod Choosing
+pub mod Taking
+pub mod Starting
+pub mod Standing
+pub mod Laws
