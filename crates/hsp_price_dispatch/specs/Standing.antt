@@ -25,8 +25,8 @@ pub record IsStanding (own : Held) (server_hosts : List (Option ℕ)) (held host
   pub hosts_below : HostsAreBelow (length own.host_rooms) server_hosts
   pub rooms_many : length own.rooms ≡ length own.service.servers
   pub servers_in : All (λ cell. cell.server < length own.service.servers) own.cells
-  pub held : (j : ℕ) → slice_index held j ≡ held_at own j
-  pub host_held : (h : ℕ) → slice_index host_held h ≡ host_held_at own h
+  pub held_is : (j : ℕ) → slice_index held j ≡ held_at own j
+  pub host_held_is : (h : ℕ) → slice_index host_held h ≡ host_held_at own h
 
 -- the prices, the classes and the numbers of their first cells
 pub record IsIndexOf (own : Held) (index : Index) : Type 0 where

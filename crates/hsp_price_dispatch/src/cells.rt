@@ -1,7 +1,9 @@
 // The amounts of classes, in cells: one for each server of each class, class by class.
 
-ghost use Rattle.std.specs.Prelude.{◌≡◌, ◌++◌, ◌<◌, IfOk, OnOk, length, slice_set};
+ghost use Rattle.std.specs.Prelude.{◌≡◌, ◌++◌, ◌≤◌, ◌<◌, ℕ, All, IfOk, OnOk, length, slice_index, slice_set};
 ghost use Rattle.std.specs.List.{flat_map};
+ghost use Rattle.hsp_classes.specs.Sums.{sends};
+ghost use Rattle.hsp_price_dispatch.specs.Choosing.{first_cell};
 ghost use Rattle.hsp_price_dispatch.specs.Holding.{cell_at, one_given};
 ghost use Rattle.hsp_price_dispatch.specs.Starting.{cells_of};
 
@@ -66,4 +68,21 @@ pub(crate) fn give_one(cells: &mut [Cell], number: usize)
         share: cell.share,
         left: cell.left - 1,
     };
+}
+
+/// For each class the number of its first cell.
+pub(crate) fn first_cells(alloc: Global, classes: &[Class]) -> Result<Vec<usize>, AllocError>
+    requires few { length classes.now ≤ 1048576 }
+    requires fit { All (λ class. length (sends class) ≤ 1024) classes.now }
+    ensures many { IfOk result (λ firsts. length firsts.items ≡ length classes.now) }
+    ensures each { IfOk result (λ firsts. (k : ℕ) → k < length classes.now
+        → slice_index firsts.items k ≡ first_cell classes.now k) }
+{
+    let mut firsts = Vec::with_capacity(alloc, classes.len())?;
+    let mut next: usize = 0;
+    for class in classes {
+        firsts.push(next)?;
+        next += class.servers.len().min(class.amounts.len());
+    }
+    Ok(firsts)
 }

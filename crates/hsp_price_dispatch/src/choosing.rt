@@ -40,7 +40,7 @@ pub(crate) struct Index {
 #[derive(Drop)]
 pub(crate) struct Scratch {
     pub(crate) least: Vec<Arc>,
-    pub(crate) open: Vec<Arc>,
+    pub(crate) passing: Vec<Arc>,
     pub(crate) servers: Vec<u32>,
 }
 
@@ -150,17 +150,17 @@ fn by_room(holding: &Holding<'_>, least: &[Arc]) -> Option<Choice>
 
 // Writes the arcs to servers with free room over what the list had.
 fn fill_free(
-    open: &mut Vec<Arc>,
+    passing: &mut Vec<Arc>,
     holding: &Holding<'_>,
     arcs: &[Arc],
 ) -> Result<(), AllocError>
     requires { AllByRecursion (IsWithin (length holding.now.service.servers)) arcs.now }
-    ensures { OnOk result (open.new.items ≡ filter (is_free holding.now) arcs.now) }
+    ensures { OnOk result (passing.new.items ≡ filter (is_free holding.now) arcs.now) }
 {
-    open.clear();
+    passing.clear();
     for arc in arcs {
         if holding.is_free(arc.server) {
-            open.push(*arc)?;
+            passing.push(*arc)?;
         }
     }
     Ok(())
@@ -168,17 +168,17 @@ fn fill_free(
 
 // Writes the arcs to servers with room over what the list had.
 fn fill_roomy(
-    open: &mut Vec<Arc>,
+    passing: &mut Vec<Arc>,
     holding: &Holding<'_>,
     arcs: &[Arc],
 ) -> Result<(), AllocError>
     requires { AllByRecursion (IsWithin (length holding.now.service.servers)) arcs.now }
-    ensures { OnOk result (open.new.items ≡ filter (has_room holding.now) arcs.now) }
+    ensures { OnOk result (passing.new.items ≡ filter (has_room holding.now) arcs.now) }
 {
-    open.clear();
+    passing.clear();
     for arc in arcs {
         if holding.has_room(arc.server) {
-            open.push(*arc)?;
+            passing.push(*arc)?;
         }
     }
     Ok(())
@@ -212,13 +212,13 @@ fn elsewhere(
     requires within { AllByRecursion (IsWithin (length holding.now.service.servers)) arcs.now }
     ensures { IfOk result (λ by. by ≡ elsewhere holding.now arcs.now) }
 {
-    fill_free(&mut scratch.open, holding, arcs)?;
-    let free = divert(&mut scratch.least, &scratch.open, &index.extras)?;
+    fill_free(&mut scratch.passing, holding, arcs)?;
+    let free = divert(&mut scratch.least, &scratch.passing, &index.extras)?;
     if free.is_some() {
         return Ok(free);
     }
-    fill_roomy(&mut scratch.open, holding, arcs)?;
-    divert(&mut scratch.least, &scratch.open, &index.extras)
+    fill_roomy(&mut scratch.passing, holding, arcs)?;
+    divert(&mut scratch.least, &scratch.passing, &index.extras)
 }
 
 // By a class or by free room over the least arcs.

@@ -1,0 +1,4 @@
+pub mod Sums
+pub mod Chosen
+pub mod Places
+pub mod RoomTaken
