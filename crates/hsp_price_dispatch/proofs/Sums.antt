@@ -1,8 +1,8 @@
 -- What classes bring to servers and hosts, and what is held there, as sums over the servers of all classes.
 use Rattle.std.proofs.Common.{◌≡◌, ◌<◌, ◌≤◌, ◌+◌, ◌*◌, ◌∙◌, ◌++◌, ◌==◌, ℕ, Bool, true, false, List, [], ◌∷◌, length}
 use Rattle.std.proofs.Common.{All, map, sum_by, refl, ap, ap₂, sym, arith, if◌then◌else◌, zero-add, eq-eqb, ne_eqb}
-use Rattle.std.proofs.Common.{slice_index_or}
-use Rattle.std.specs.List.{flat_map}
+use Rattle.std.proofs.Common.{◌⊎◌, inl, inr}
+use Rattle.std.specs.List.{flat_map, zip}
 use Rattle.std.proofs.lemmas.List.{map-append, length-map}
 use Rattle.std.proofs.lemmas.List.Elements.{All-head, All-tail}
 use Rattle.std.proofs.lemmas.List.Sums.{sum_by-append, sum_by-cons}
@@ -22,6 +22,13 @@ use Rattle.hsp_price_dispatch.specs.Starting.{cell_of, cells_of}
 use Rattle.hsp_price_dispatch.specs.declared.cells.Cell.{Cell}
 
 -- ---- lists
+
+-- one list with nothing left has no pair left
+pub none_left : {A B : Type 0} (xs : List A) (ys : List B) → (length xs ≡ 0) ⊎ (length ys ≡ 0) → zip xs ys ≡ []
+none_left [] ys none = refl
+none_left (x ∷ xs) [] none = refl
+none_left (x ∷ xs) (y ∷ ys) (inl none) = absurd (omega arith)
+none_left (x ∷ xs) (y ∷ ys) (inr none) = absurd (omega arith)
 
 -- a sum over lists joined end to end
 pub sum_joined : {A B : Type 0} (g : B → ℕ) (f : A → List B) (xs : List A)

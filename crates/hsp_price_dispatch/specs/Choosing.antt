@@ -1,6 +1,6 @@
 -- How a query is answered by what a front holds, and what the answer leaves.
 use Rattle.std.specs.Prelude.{ℕ, ◌+◌, ◌*◌, ◌&&◌, Bool, List, [], ◌∷◌, Option, None, Some, drop, filter, length, nat_lt}
-use Rattle.std.specs.Prelude.{position, take, if◌then◌else◌}
+use Rattle.std.specs.Prelude.{position, slice_index_or, take, if◌then◌else◌}
 use Rattle.std.specs.List.{flat_map}
 use Rattle.hsp_instance.specs.Building.{or_else}
 use Rattle.hsp_instance.specs.Instance.{Row}
@@ -11,7 +11,7 @@ use Rattle.hsp_classes.specs.Least.{arcs_of, least_arcs, least_of, pay_over, ser
 use Rattle.hsp_classes.specs.Sums.{sends}
 use Rattle.hsp_dispatch.specs.Dispatch.{Entry}
 use Rattle.hsp_price_check.specs.ClassNumbers.{is_named}
-use Rattle.hsp_price_dispatch.specs.Holding.{Held, has_room, is_free, with_given, with_query_at}
+use Rattle.hsp_price_dispatch.specs.Holding.{Held, cell_at, has_room, is_free, with_given, with_query_at}
 use Rattle.hsp_price_dispatch.specs.declared.answer.Choice.{Choice}
 use Rattle.hsp_price_dispatch.specs.declared.answer.Choice.TheVariants as choice
 use Rattle.hsp_price_dispatch.specs.declared.answer.PriceAnswer.{PriceAnswer}
@@ -38,6 +38,15 @@ places_from n [] cells = []
 places_from n (arc ∷ arcs) [] = []
 places_from n (arc ∷ arcs) (cell ∷ cells) =
     record { arc = arc; number = n; cell = cell } ∷ places_from (n + 1) arcs cells
+
+-- what stands past the end of arcs
+abbrev pub no_arc : Arc
+no_arc = record { site = 0; server = 0; cost = 0 }
+
+-- the place of an arc, where the cell of the first one has the number n
+abbrev pub place_at : List Cell → ℕ → List Arc → ℕ → Place
+place_at cells n arcs at =
+    record { arc = slice_index_or arcs at no_arc; number = n + at; cell = cell_at cells (n + at) }
 
 -- the places of a class, over the least arcs of its rows
 abbrev pub places_of : Held → ℕ → List Arc → List Place

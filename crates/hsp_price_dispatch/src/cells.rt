@@ -1,6 +1,6 @@
 // The amounts of classes, in cells: one for each server of each class, class by class.
 
-ghost use Rattle.std.specs.Prelude.{◌≡◌, ◌++◌, ◌≤◌, ◌<◌, ℕ, All, IfOk, OnOk, length, slice_index, slice_set};
+ghost use Rattle.std.specs.Prelude.{◌≡◌, ◌++◌, ◌≤◌, ◌<◌, ℕ, All, IfOk, OnOk, length, min, slice_index, slice_set};
 ghost use Rattle.std.specs.List.{flat_map};
 ghost use Rattle.hsp_classes.specs.Sums.{sends};
 ghost use Rattle.hsp_price_dispatch.specs.Choosing.{first_cell};
@@ -70,6 +70,13 @@ pub(crate) fn give_one(cells: &mut [Cell], number: usize)
     };
 }
 
+// How many cells a class has.
+fn cells_many(class: &Class) -> usize
+    ensures { result ≡ min (length class.now.servers) (length class.now.amounts) }
+{
+    class.servers.len().min(class.amounts.len())
+}
+
 /// For each class the number of its first cell.
 pub(crate) fn first_cells(alloc: Global, classes: &[Class]) -> Result<Vec<usize>, AllocError>
     requires few { length classes.now ≤ 1048576 }
@@ -82,7 +89,7 @@ pub(crate) fn first_cells(alloc: Global, classes: &[Class]) -> Result<Vec<usize>
     let mut next: usize = 0;
     for class in classes {
         firsts.push(next)?;
-        next += class.servers.len().min(class.amounts.len());
+        next += cells_many(class);
     }
     Ok(firsts)
 }

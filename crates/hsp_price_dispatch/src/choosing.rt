@@ -7,7 +7,8 @@ ghost use Rattle.hsp_classes.specs.Least.{least_arcs, pay_over};
 ghost use Rattle.hsp_price_check.specs.Extras.{pay_by};
 ghost use Rattle.hsp_price_check.specs.LeastPay.{AreLow};
 ghost use Rattle.hsp_price_dispatch.specs.Choosing.{assigned, at_first, by_class, by_place, by_room, can_give, choice_among};
-ghost use Rattle.hsp_price_dispatch.specs.Choosing.{class_number, elsewhere, fuller, fullest, is_fuller, places_from};
+ghost use Rattle.hsp_price_dispatch.specs.Choosing.{class_number, elsewhere, fuller, fullest, is_fuller, place_at};
+ghost use Rattle.hsp_price_dispatch.specs.Choosing.{places_from};
 ghost use Rattle.hsp_price_dispatch.specs.Holding.{has_room, is_free};
 ghost use Rattle.hsp_price_dispatch.specs.Standing.{IsIndexOf};
 ghost use Rattle.hsp_price_dispatch.specs.declared.answer.Choice.TheVariants.{Diverted as over};
@@ -75,6 +76,20 @@ fn can_give(holding: &Holding<'_>, place: Place) -> bool
     place.cell.left > 0 && holding.has_room(place.arc.server)
 }
 
+// The place of an arc, where the cell of the first one has the number `first`.
+fn place_at(cells: &[Cell], first: usize, arcs: &[Arc], at: usize) -> Place
+    requires arc { at < length arcs.now }
+    requires cell { first + at < length cells.now }
+    ensures { result ≡ place_at cells.now first arcs.now at }
+{
+    let number = first + at;
+    Place {
+        arc: arcs[at],
+        number,
+        cell: cells[number],
+    }
+}
+
 // The place of which the greatest part is left, of those over arcs that can give. Their cells stand from number
 // `first` on.
 fn fullest(holding: &Holding<'_>, first: usize, arcs: &[Arc]) -> Option<Place>
@@ -88,12 +103,7 @@ fn fullest(holding: &Holding<'_>, first: usize, arcs: &[Arc]) -> Option<Place>
     let mut at = arcs.len();
     'places: while at > 0 {
         at -= 1;
-        let number = first + at;
-        let place = Place {
-            arc: arcs[at],
-            number,
-            cell: cells[number],
-        };
+        let place = place_at(cells, first, arcs, at);
         if can_give(holding, place) {
             best = Some(fuller(place, best));
         }

@@ -1,6 +1,8 @@
 // What a front holds of a plan by prices.
 
-ghost use Rattle.std.specs.Prelude.{◌≡◌, ◌<◌, true, length};
+ghost use Rattle.std.specs.Prelude.{◌≡◌, ◌<◌, IfSome, true, length};
+ghost use Rattle.hsp_check.specs.ArcFlows.{host_in};
+ghost use Rattle.hsp_classes.specs.Least.{host_at};
 ghost use Rattle.hsp_price_dispatch.specs.Choosing.{left_with};
 ghost use Rattle.hsp_price_dispatch.specs.Holding.{cell_at, has_room_at, is_free_at, with_given, with_query_at};
 ghost use Rattle.hsp_price_dispatch.specs.Taking.{CanTake};
@@ -49,7 +51,24 @@ impl<'a> Model for Holding<'a> {
     }) t.server_hosts.items t.servers.held.items t.hosts.held.items };
 }
 
+// The host that a server stands on, in a list of the servers' hosts.
+fn host_in(hosts: &[Option<u32>], server: u32) -> Option<u32>
+    requires { server < length hosts.now }
+    ensures { result ≡ host_in hosts.now server }
+{
+    hosts[server as usize]
+}
+
 impl Holding<'_> {
+    // The host that a server stands on, or None.
+    fn host(&self, server: u32) -> Option<u32>
+        requires { server < length self.now.service.servers }
+        ensures host { result ≡ host_at self.now.service server }
+        ensures below { IfSome result (λ h. h < length self.now.host_rooms) }
+    {
+        host_in(&self.server_hosts, server)
+    }
+
     /// The cells of all classes.
     pub(crate) fn cells(&self) -> &[Cell]
         ensures { result.now ≡ self.now.cells }
@@ -57,16 +76,24 @@ impl Holding<'_> {
         &self.cells
     }
 
+    // The server of a cell.
+    fn server_of(&self, number: usize) -> u32
+        requires { number < length self.now.cells }
+        ensures server { result ≡ (cell_at self.now.cells number).server }
+        ensures below { result < length self.now.service.servers }
+    {
+        self.cells[number].server
+    }
+
     /// Whether more room is left at a server, and at its host, than is held there.
     pub(crate) fn is_free(&self, server: u32) -> bool
         requires { server < length self.now.service.servers }
         ensures { result ≡ is_free_at self.now server }
     {
-        let place = server as usize;
-        if !self.servers.is_free(place) {
+        if !self.servers.is_free(server as usize) {
             return false;
         }
-        match self.server_hosts[place] {
+        match self.host(server) {
             Some(host) => self.hosts.is_free(host as usize),
             None => true,
         }
@@ -77,11 +104,10 @@ impl Holding<'_> {
         requires { server < length self.now.service.servers }
         ensures { result ≡ has_room_at self.now server }
     {
-        let place = server as usize;
-        if !self.servers.has_room(place) {
+        if !self.servers.has_room(server as usize) {
             return false;
         }
-        match self.server_hosts[place] {
+        match self.host(server) {
             Some(host) => self.hosts.has_room(host as usize),
             None => true,
         }
@@ -93,11 +119,9 @@ impl Holding<'_> {
         requires room { has_room_at self.old server ≡ true }
         ensures { self.new ≡ with_query_at self.old server }
     {
-        let place = server as usize;
-        self.servers.take(place);
-        if let Some(host) = self.server_hosts[place] {
-            self.hosts.take(host as usize);
-        }
+        let host = self.host(server);
+        self.servers.take(server as usize);
+        self.hosts.take_on(host);
     }
 
     // Takes one query of what is left in a cell, and holds one query less for it.
@@ -106,11 +130,10 @@ impl Holding<'_> {
         requires left { 0 < (cell_at self.old.cells number).left }
         ensures { self.new ≡ with_given self.old number }
     {
-        let place = self.cells[number].server as usize;
-        self.servers.release(place);
-        if let Some(host) = self.server_hosts[place] {
-            self.hosts.release(host as usize);
-        }
+        let server = self.server_of(number);
+        let host = self.host(server);
+        self.servers.release(server as usize);
+        self.hosts.release_on(host);
         give_one(&mut self.cells, number);
     }
 

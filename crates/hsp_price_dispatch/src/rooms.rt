@@ -1,7 +1,7 @@
 // The room that is left at servers or at hosts.
 
-ghost use Rattle.std.specs.Prelude.{◌≡◌, ◌<◌, length, nat_lt, slice_index};
-ghost use Rattle.hsp_price_dispatch.specs.Holding.{one_less};
+ghost use Rattle.std.specs.Prelude.{◌≡◌, ◌<◌, IfSome, length, nat_lt, slice_index};
+ghost use Rattle.hsp_price_dispatch.specs.Holding.{one_less, one_less_on};
 
 /// For each of several servers or hosts, how many queries more it takes, and how much of that is held for classes.
 #[derive(Drop)]
@@ -47,5 +47,29 @@ impl Rooms {
         ensures held { self.new.held.items ≡ one_less self.old.held.items place }
     {
         self.held[place] -= 1;
+    }
+
+    /// Takes one query of the room at a host, if there is one, where room is left.
+    pub(crate) fn take_on(&mut self, host: Option<u32>)
+        requires inside { IfSome host (λ h. h < length self.old.left.items) }
+        requires room { IfSome host (λ h. 0 < slice_index self.old.left.items h) }
+        ensures left { self.new.left.items ≡ one_less_on self.old.left.items host }
+        ensures held { self.new.held.items ≡ self.old.held.items }
+    {
+        if let Some(host) = host {
+            self.take(host as usize);
+        }
+    }
+
+    /// Holds one query less at a host, if there is one, where some are held.
+    pub(crate) fn release_on(&mut self, host: Option<u32>)
+        requires inside { IfSome host (λ h. h < length self.old.left.items) }
+        requires held { IfSome host (λ h. 0 < slice_index self.old.held.items h) }
+        ensures left { self.new.left.items ≡ self.old.left.items }
+        ensures held { self.new.held.items ≡ one_less_on self.old.held.items host }
+    {
+        if let Some(host) = host {
+            self.release(host as usize);
+        }
     }
 }
