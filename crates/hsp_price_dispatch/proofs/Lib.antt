@@ -6,3 +6,6 @@ pub mod Held
 pub mod FirstCells
 pub mod Arcs
 pub mod Fronts
+pub mod Indexing
+pub mod Starts
+pub mod Begun

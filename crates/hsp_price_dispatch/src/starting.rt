@@ -1,7 +1,8 @@
 // What a front begins with.
 
-ghost use Rattle.std.specs.Prelude.{◌≡◌, ◌≤◌, ◌<◌, ◌+◌, ◌-◌, [], ℕ, All, IfErr, IfOk, Some, length, slice_index};
+ghost use Rattle.std.specs.Prelude.{◌≡◌, ◌≤◌, ◌<◌, ◌+◌, ◌-◌, [], ℕ, All, IfErr, IfOk, List, length, slice_index};
 ghost use Rattle.std.specs.Prelude.{◌==◌};
+ghost use Rattle.hsp_tables.specs.Costs.{CostEntry};
 ghost use Rattle.hsp_check.specs.Lists.{AreWithin};
 ghost use Rattle.hsp_classes.specs.Verdict.{PlanMeets};
 ghost use Rattle.hsp_classes.specs.declared.verdict.PriceReason.TheVariants.{NoSuchServer as MissingServer};
@@ -45,13 +46,13 @@ fn within_limits(
     plan: &PricedPlan,
     numbers: ServiceNumbers,
 ) -> Result<Accepted, StartFault>
-    requires numbers { (costs : _) → AreNumbersOf (service_of costs instance.now) numbers }
-    requires shape { (costs : _) → PlanMeets (service_of costs instance.now) [] plan.now Shaped }
-    requires there { (costs : _)
+    requires numbers { (costs : List CostEntry) → AreNumbersOf (service_of costs instance.now) numbers }
+    requires shape { (costs : List CostEntry) → PlanMeets (service_of costs instance.now) [] plan.now Shaped }
+    requires there { (costs : List CostEntry)
         → PlanMeets (service_of costs instance.now) [] plan.now MissingServer }
-    ensures accepted { IfOk result (λ accepted. (costs : _)
+    ensures accepted { IfOk result (λ accepted. (costs : List CostEntry)
         → IsAccepted (service_of costs instance.now) plan.now accepted) }
-    ensures fault { IfErr result (λ fault. (costs : _)
+    ensures fault { IfErr result (λ fault. (costs : List CostEntry)
         → Stands (service_of costs instance.now) plan.now fault) }
 {
     // The plan and the instance are within their limits.
@@ -78,9 +79,9 @@ pub(crate) fn accept(
     instance: &Instance,
     plan: &PricedPlan,
 ) -> Result<Accepted, StartFault>
-    ensures accepted { IfOk result (λ accepted. (costs : _)
+    ensures accepted { IfOk result (λ accepted. (costs : List CostEntry)
         → IsAccepted (service_of costs instance.now) plan.now accepted) }
-    ensures fault { IfErr result (λ fault. (costs : _)
+    ensures fault { IfErr result (λ fault. (costs : List CostEntry)
         → Stands (service_of costs instance.now) plan.now fault) }
 {
     let numbers = numbers_of(alloc, instance)?;
