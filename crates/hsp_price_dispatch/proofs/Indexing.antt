@@ -21,7 +21,7 @@ use Rattle.hsp_price_check.specs.ClassNumbers.{is_named}
 use Rattle.hsp_price_check.specs.Extras.{pay_by}
 use Rattle.hsp_price_check.specs.Passed.{class_at, no_class}
 use Rattle.hsp_price_dispatch.specs.Choosing.{assigned, choice_among, class_number, elsewhere, first_cell, or_full}
-use Rattle.hsp_price_dispatch.specs.Holding.{Held, has_room}
+use Rattle.hsp_price_dispatch.specs.Holding.{Held, cell_at, has_room, one_given}
 use Rattle.hsp_price_dispatch.specs.Choosing.{left_with}
 use Rattle.hsp_price_dispatch.specs.Standing.{IsIndexOf}
 use Rattle.hsp_price_dispatch.specs.Taking.{CanTake}
@@ -116,7 +116,7 @@ module _ (own : Held) (index : Index) (is : IsIndexOf own index) where
     classes = is.classes;
     firsts_many = is.firsts_many;
     firsts = is.firsts;
-    cells = λ k l. omega (arith, is.cells k l, length-set own.cells n _);
+    cells = λ k l. omega (arith, is.cells k l, length-set own.cells n (one_given (cell_at own.cells n)));
   }
   index_stays (Free arc) = record {
     prices = is.prices;
@@ -175,3 +175,40 @@ can_take_choice own region arcs within =
     can_take own (choice_among own region arcs (least_arcs pay arcs))
     (is_good own (IsThere own) (IsThere own) region arcs (least_arcs pay arcs) (there arcs within)
     (there (least_arcs pay arcs) (all_kept (IsWithin (length own.service.servers)) (is_least pay arcs) arcs within)))
+
+-- ---- one choice or the other
+
+-- the first, where there is one
+pub or_first : (by : Choice) (a b : Option Choice) → Some by ≡ a → Some by ≡ or_else a b
+or_first by a b e = rw (← e) refl
+
+-- and otherwise the second
+pub or_second : (a b y : Option Choice) → None ≡ a → y ≡ b → y ≡ or_else a b
+or_second a b y e f = rw (← e) f
+
+-- the choice that is found, or Full
+pub full_first : (by : Choice) (a b : Option Choice) → Some by ≡ a → by ≡ or_full (or_else a b)
+full_first by a b e = rw (← e) refl
+
+pub full_second : (by : Choice) (a b : Option Choice) → None ≡ a → Some by ≡ b → by ≡ or_full (or_else a b)
+full_second by a b e f = rw (← e, ← f) refl
+
+pub full_none : (a b : Option Choice) → None ≡ a → None ≡ b → Full ≡ or_full (or_else a b)
+full_none a b e f = rw (← e, ← f) refl
+
+-- ---- lists of least arcs
+
+module _ (own : Held) (index : Index) (is : IsIndexOf own index) (arcs list items : List Arc) (extras : List ℕ)
+    (shown : list ≡ items) (filled : items ≡ least_arcs (pay_by extras) arcs) (same : extras ≡ index.extras.items)
+    where
+  -- a list that was filled with least arcs by the numbers has the least arcs
+  pub least_list : list ≡ least_arcs (pay_over own.service own.plan) arcs
+  least_list =
+      shown ∙ filled ∙ ap (λ own_extras. least_arcs (pay_by own_extras) arcs) same ∙ least_is own index is arcs
+
+  -- which lead to servers that are there
+  pub least_within : AllByRecursion (IsWithin (length own.service.servers)) arcs
+      → AllByRecursion (IsWithin (length own.service.servers)) list
+  least_within within =
+      subst (λ (own_list : List Arc). AllByRecursion (IsWithin (length own.service.servers)) own_list) (sym least_list)
+      (kept_within (length own.service.servers) (is_least (pay_over own.service own.plan) arcs) arcs within)

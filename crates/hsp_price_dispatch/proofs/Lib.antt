@@ -9,3 +9,4 @@ pub mod Fronts
 pub mod Indexing
 pub mod Starts
 pub mod Begun
+pub mod FirstHeld

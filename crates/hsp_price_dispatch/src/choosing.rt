@@ -224,8 +224,8 @@ fn elsewhere(
 {
     fill_free(&mut scratch.passing, holding, arcs)?;
     let free = divert(&mut scratch.least, &scratch.passing, &index.extras)?;
-    if free.is_some() {
-        return Ok(free);
+    if let Some(choice) = free {
+        return Ok(Some(choice));
     }
     fill_roomy(&mut scratch.passing, holding, arcs)?;
     divert(&mut scratch.least, &scratch.passing, &index.extras)
@@ -247,10 +247,10 @@ fn assigned(
     fill_least(&mut scratch.least, arcs, &index.extras)?;
     let least = scratch.least.as_slice();
     let by = by_class(holding, index, &mut scratch.servers, region, least)?;
-    if by.is_some() {
-        return Ok(by);
+    match by {
+        Some(choice) => Ok(Some(choice)),
+        None => Ok(by_room(holding, least)),
     }
-    Ok(by_room(holding, least))
 }
 
 /// What a query from the region with these arcs is answered by.
@@ -269,10 +269,12 @@ pub(crate) fn choose(
     if arcs.is_empty() {
         return Ok(Choice::Unknown);
     }
-    if let Some(choice) = assigned(holding, index, scratch, region, arcs)? {
+    let least = assigned(holding, index, scratch, region, arcs)?;
+    if let Some(choice) = least {
         return Ok(choice);
     }
-    match elsewhere(holding, index, scratch, arcs)? {
+    let other = elsewhere(holding, index, scratch, arcs)?;
+    match other {
         Some(choice) => Ok(choice),
         None => Ok(Choice::Full),
     }
