@@ -1,6 +1,6 @@
 -- What a front holds at first, by the lists that were added up.
 use Rattle.std.proofs.Common.{◌≡◌, ◌<◌, ◌≤◌, ◌+◌, ◌-◌, ◌^◌, ◌==◌, ◌∙◌, ℕ, Bool, false, List, [], ◌∷◌, length, map, All}
-use Rattle.std.proofs.Common.{None, Option, Some, ap, arith, if◌then◌else◌, inl, inr, ne_eqb, refl, slice_index, subst, sym}
+use Rattle.std.proofs.Common.{None, Option, Some, ap, arith, get_or, if◌then◌else◌, inl, inr, ne_eqb, refl, slice_index, subst, sym}
 use Rattle.std.specs.List.{flat_map}
 use Rattle.std.proofs.lemmas.Bool.{cases_lt}
 use Rattle.std.proofs.lemmas.List.{get_or_past, length-map}
@@ -40,7 +40,7 @@ none_where test (cell ∷ cells) all =
 
 module _ (at : Service) (plan : Best) (fronts front : ℕ) (own : Accepted) (is : IsAccepted at plan own)
     (some : 0 < fronts) (cells : List Cell) (cells_are : cells ≡ flat_map (cells_of fronts front) plan.classes) where
-  hosts : List (Option ℕ)
+  abbrev pub hosts : List (Option ℕ)
   hosts = own.numbers.server_hosts.items
 
   -- the servers of cells are there
@@ -88,8 +88,10 @@ module _ (at : Service) (plan : Best) (fronts front : ℕ) (own : Accepted) (is 
   past_hosts : (h : ℕ) → length own.numbers.limits.items ≤ h → left_where (λ k. is_on (host_at at k) h) cells ≡ 0
   past_hosts h past =
       none_where (λ k. is_on (host_at at k) h) cells
-      (λ k d l. not_on (host_at at _) h
-      (λ g on. own.numbers.hosts_in _ g (ap (λ list. host_in list _) is.numbers.server_hosts ∙ on)) past)
+      (λ k d l.
+      let j = (get_or cells k d).server in
+      not_on (host_at at j) h
+      (λ g on. own.numbers.hosts_in j g (ap (λ list. host_in list j) is.numbers.server_hosts ∙ on)) past)
 
   -- as many servers and hosts as the service has
   pub servers_many : length own.numbers.capacities.items ≡ length at.servers
