@@ -79,16 +79,16 @@ some_least pay x (y ∷ ys) =
     let more = some_least pay y ys in
     elim (cases_lt (pay more.0) (pay x)) [
       | inl low ↦ (
-            more.0,
-            (suc more.1.0, omega (arith, more.1.1), more.1.2),
-            least_more pay more.0 x (y ∷ ys) (omega (arith, low)) more.2,
-          )
+        more.0,
+        (suc more.1.0, omega (arith, more.1.1), more.1.2),
+        least_more pay more.0 x (y ∷ ys) (omega (arith, low)) more.2,
+      )
       | inr high ↦ (
-            x,
-            (0, omega arith, refl),
-            least_more pay x x (y ∷ ys) (omega arith)
-                (λ k d l. let own = more.2 k d l in omega (arith, own, high)),
-          )
+        x,
+        (0, omega arith, refl),
+        least_more pay x x (y ∷ ys) (omega arith)
+            (λ k d l. let own = more.2 k d l in omega (arith, own, high)),
+      )
     ]
 
 -- a filter that keeps nothing passes over the first and keeps nothing of the rest

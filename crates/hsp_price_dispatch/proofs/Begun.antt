@@ -15,10 +15,15 @@ use Rattle.hsp_cert.specs.Certificate.{ascends}
 use Rattle.hsp_classes.specs.Sums.{sends}
 use Rattle.hsp_classes.proofs.GivenClasses.{IsGiven, given_classes}
 use Rattle.hsp_classes.proofs.Once.{Ordered}
+use Rattle.hsp_price_check.specs.ClassNumbers.{HasClasses}
+use Rattle.hsp_price_check.specs.Extras.{AreExtras}
 use Rattle.hsp_price_check.specs.Passed.{class_at, no_class}
 use Rattle.hsp_price_dispatch.specs.Choosing.{first_cell}
-use Rattle.hsp_price_dispatch.specs.Starting.{cell_of, cells_of}
+use Rattle.hsp_price_dispatch.specs.Holding.{Held}
+use Rattle.hsp_price_dispatch.specs.Standing.{IsIndexOf}
+use Rattle.hsp_price_dispatch.specs.Starting.{IsBegun, cell_of, cells_of}
 use Rattle.hsp_price_dispatch.specs.declared.cells.Cell.{Cell}
+use Rattle.hsp_price_dispatch.specs.declared.choosing.Index.{Index}
 use Rattle.hsp_price_dispatch.proofs.FirstCells.{sends_many}
 use Rattle.hsp_price_dispatch.proofs.Fronts.{sends_there}
 use Rattle.hsp_price_dispatch.proofs.Sums.{all_sends, cells_are}
@@ -105,3 +110,21 @@ cells_in fronts front n classes there =
     let own = sends_there n classes there k (0, 0) inside in
     subst (λ (cell : Cell). cell.server < n)
     (sym (get_or-map (cell_of fronts front) (all_sends classes) k (0, 0) d inside)) own)
+
+-- ---- the index
+
+-- the lists of a plan's prices and classes are those of a front that begins by it
+pub index_is : (at : Service) (plan : Best) (fronts front : ℕ) (own : Held) (index : Index)
+    → IsBegun at plan fronts front own → is_best plan ≡ true → length plan.server_prices ≡ length at.servers
+    → AreExtras (map (λ server. server.host) at.servers) plan.server_prices plan.host_prices index.extras.items
+    → HasClasses plan.classes index.classes.entries → length index.firsts.items ≡ length plan.classes
+    → ((k : ℕ) → k < length plan.classes → slice_index index.firsts.items k ≡ first_cell plan.classes k)
+    → IsIndexOf own index
+index_is at plan fronts front own index begun fits prices extras classes many firsts = record {
+  prices = rw (begun.plan_is, begun.service) prices;
+  extras = rw (begun.plan_is, begun.service) extras;
+  classes = rw begun.plan_is classes;
+  firsts_many = rw begun.plan_is many;
+  firsts = rw begun.plan_is firsts;
+  cells = rw (begun.plan_is, begun.cells) (cells_enough fronts front plan fits);
+}

@@ -152,9 +152,10 @@ module _ (own : Held) (P Q : Arc → Type 0) where
   on_room : (least : List Arc) → All P least → OnChoice (by_room own least)
   on_room least all =
       on_first Free (filter (is_free own) least)
-      (λ k d l.
-      (All-filter (is_free own) P least all k d l,
-      free_room own _ (filter_passes (is_free own) least k d l)))
+      (λ k d l. (
+        All-filter (is_free own) P least all k d l,
+        free_room own _ (filter_passes (is_free own) least k d l),
+      ))
 
   on_diverted : (test : Arc → Bool) (arcs : List Arc) → ((arc : Arc) → test arc ≡ true → has_room own arc ≡ true)
       → All Q arcs → OnChoice (diverted own test arcs)
@@ -162,10 +163,11 @@ module _ (own : Held) (P Q : Arc → Type 0) where
       let pay = pay_over own.service own.plan in
       let kept = filter test arcs in
       on_first Diverted (least_arcs pay kept)
-      (λ k d l.
-      (All-filter (is_least pay kept) Q kept (All-filter test Q arcs all) k d l,
-      roomy _
-      (All-filter (is_least pay kept) (λ arc. test arc ≡ true) kept (filter_passes test arcs) k d l)))
+      (λ k d l. (
+        All-filter (is_least pay kept) Q kept (All-filter test Q arcs all) k d l,
+        roomy _
+            (All-filter (is_least pay kept) (λ arc. test arc ≡ true) kept (filter_passes test arcs) k d l),
+      ))
 
   on_elsewhere : (arcs : List Arc) → All Q arcs → OnChoice (elsewhere own arcs)
   on_elsewhere arcs all =

@@ -19,30 +19,30 @@ abbrev pub has_where : (ℕ → Bool) → Cell → ℕ
 has_where test cell = if test cell.server then cell.left else 0
 
 module _ (test : ℕ → Bool) (cells : List Cell) (n : ℕ) (inside : n < length cells) (some : 0 < (cell_at cells n).left)
-    where
-  abbrev cell : Cell
-  cell = cell_at cells n
+  where
+    abbrev cell : Cell
+    cell = cell_at cells n
 
-  -- a cell with one given has one less, where its server passes
-  given_has : (t : Bool) → test cell.server ≡ t
-      → one_if t + has_where test (one_given cell) ≡ has_where test cell
-  given_has true e = rw e (omega (arith, some))
-  given_has false e = rw e (omega arith)
+    -- a cell with one given has one less, where its server passes
+    given_has : (t : Bool) → test cell.server ≡ t
+        → one_if t + has_where test (one_given cell) ≡ has_where test cell
+    given_has true e = rw e (omega (arith, some))
+    given_has false e = rw e (omega arith)
 
-  -- so one less is left where its server passes
-  pub given_left : one_if (test cell.server) + left_where test (slice_set cells n (one_given cell))
-      ≡ left_where test cells
-  given_left =
-      let all = sum_by-set (has_where test) cells n (one_given cell) no_cell inside in
-      let one = given_has (test cell.server) refl in
-      omega (arith, all, one)
+    -- so one less is left where its server passes
+    pub given_left : one_if (test cell.server) + left_where test (slice_set cells n (one_given cell))
+        ≡ left_where test cells
+    given_left =
+        let all = sum_by-set (has_where test) cells n (one_given cell) no_cell inside in
+        let one = given_has (test cell.server) refl in
+        omega (arith, all, one)
 
-  -- and where it passes some is left
-  pub some_left : test cell.server ≡ true → 0 < left_where test cells
-  some_left e =
-      let low = get_or-le-sum_by (has_where test) cells n no_cell inside in
-      let own : has_where test cell ≡ cell.left = rw e refl in
-      omega (arith, low, own, some)
+    -- and where it passes some is left
+    pub some_left : test cell.server ≡ true → 0 < left_where test cells
+    some_left e =
+        let low = get_or-le-sum_by (has_where test) cells n no_cell inside in
+        let own : has_where test cell ≡ cell.left = rw e refl in
+        omega (arith, low, own, some)
 
 -- one less of two equal numbers above 0
 same_less : (a b c n : ℕ) → n + a ≡ c → n + b ≡ c → a ≡ b

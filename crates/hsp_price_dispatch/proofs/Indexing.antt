@@ -200,15 +200,15 @@ full_none a b e f = rw (← e, ← f) refl
 
 module _ (own : Held) (index : Index) (is : IsIndexOf own index) (arcs list items : List Arc) (extras : List ℕ)
     (shown : list ≡ items) (filled : items ≡ least_arcs (pay_by extras) arcs) (same : extras ≡ index.extras.items)
-    where
-  -- a list that was filled with least arcs by the numbers has the least arcs
-  pub least_list : list ≡ least_arcs (pay_over own.service own.plan) arcs
-  least_list =
-      shown ∙ filled ∙ ap (λ own_extras. least_arcs (pay_by own_extras) arcs) same ∙ least_is own index is arcs
+  where
+    -- a list that was filled with least arcs by the numbers has the least arcs
+    pub least_list : list ≡ least_arcs (pay_over own.service own.plan) arcs
+    least_list =
+        shown ∙ filled ∙ ap (λ own_extras. least_arcs (pay_by own_extras) arcs) same ∙ least_is own index is arcs
 
-  -- which lead to servers that are there
-  pub least_within : AllByRecursion (IsWithin (length own.service.servers)) arcs
-      → AllByRecursion (IsWithin (length own.service.servers)) list
-  least_within within =
-      subst (λ (own_list : List Arc). AllByRecursion (IsWithin (length own.service.servers)) own_list) (sym least_list)
-      (kept_within (length own.service.servers) (is_least (pay_over own.service own.plan) arcs) arcs within)
+    -- which lead to servers that are there
+    pub least_within : AllByRecursion (IsWithin (length own.service.servers)) arcs
+        → AllByRecursion (IsWithin (length own.service.servers)) list
+    least_within within =
+        subst (λ (own_list : List Arc). AllByRecursion (IsWithin (length own.service.servers)) own_list) (sym least_list)
+        (kept_within (length own.service.servers) (is_least (pay_over own.service own.plan) arcs) arcs within)

@@ -159,11 +159,7 @@ fn by_room(holding: &Holding<'_>, least: &[Arc]) -> Option<Choice>
 }
 
 // Writes the arcs to servers with free room over what the list had.
-fn fill_free(
-    passing: &mut Vec<Arc>,
-    holding: &Holding<'_>,
-    arcs: &[Arc],
-) -> Result<(), AllocError>
+fn fill_free(passing: &mut Vec<Arc>, holding: &Holding<'_>, arcs: &[Arc]) -> Result<(), AllocError>
     requires { AllByRecursion (IsWithin (length holding.now.service.servers)) arcs.now }
     ensures { OnOk result (passing.new.items ≡ filter (is_free holding.now) arcs.now) }
 {
@@ -177,11 +173,7 @@ fn fill_free(
 }
 
 // Writes the arcs to servers with room over what the list had.
-fn fill_roomy(
-    passing: &mut Vec<Arc>,
-    holding: &Holding<'_>,
-    arcs: &[Arc],
-) -> Result<(), AllocError>
+fn fill_roomy(passing: &mut Vec<Arc>, holding: &Holding<'_>, arcs: &[Arc]) -> Result<(), AllocError>
     requires { AllByRecursion (IsWithin (length holding.now.service.servers)) arcs.now }
     ensures { OnOk result (passing.new.items ≡ filter (has_room holding.now) arcs.now) }
 {
@@ -195,11 +187,7 @@ fn fill_roomy(
 }
 
 // Over the first arc of least pay.
-fn divert(
-    least: &mut Vec<Arc>,
-    arcs: &[Arc],
-    extras: &[u64],
-) -> Result<Option<Choice>, AllocError>
+fn divert(least: &mut Vec<Arc>, arcs: &[Arc], extras: &[u64]) -> Result<Option<Choice>, AllocError>
     requires within { AllByRecursion (IsWithin (length extras.now)) arcs.now }
     requires low { AreLow extras.now }
     ensures { IfOk result (λ by. by ≡ at_first over (least_arcs (pay_by extras.now) arcs.now)) }

@@ -26,7 +26,9 @@ use crate::rooms::Rooms;
 use hsp_check::{add_hosts, are_within};
 use hsp_dispatch::front_share::{Front, share};
 use hsp_instance::Instance;
-use hsp_price_check::{ServiceNumbers, are_there, class_loads, class_numbers, extras_of, numbers_of};
+use hsp_price_check::{
+    ServiceNumbers, are_there, class_loads, class_numbers, extras_of, numbers_of,
+};
 use hsp_price_text::PricedPlan;
 use hsp_tables::Costs;
 use std::alloc::{AllocError, Global};
@@ -160,7 +162,13 @@ pub(crate) fn begin<'a>(
     let held = held_at_servers(alloc, &cells, numbers.capacities.len())?;
     let host_held = add_hosts(alloc, &numbers.server_hosts, &held, numbers.limits.len())?;
     let servers = rooms_of(alloc, &numbers.capacities, &accepted.loads, held, front)?;
-    let hosts = rooms_of(alloc, &numbers.limits, &accepted.host_loads, host_held, front)?;
+    let hosts = rooms_of(
+        alloc,
+        &numbers.limits,
+        &accepted.host_loads,
+        host_held,
+        front,
+    )?;
     Ok(Holding {
         instance,
         costs,

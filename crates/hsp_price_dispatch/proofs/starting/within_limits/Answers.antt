@@ -33,8 +33,7 @@ returns-then-not-are_within-clause-fault c costs =
     let loads = c.in_ok-loads.loads.items in
     let long : c.len.result ≡ length numbers.capacities.items = omega (arith, c.len.ensures) in
     let sums : AreClassLoads (length numbers.capacities.items) plan.classes loads =
-    rw (← long, ← c.classes.ensures) c.in_ok-loads.ensures in
-    (
+    rw (← long, ← c.classes.ensures) c.in_ok-loads.ensures in (
       c.requires.shape costs,
       c.requires.there costs,
       λ load.
@@ -79,8 +78,7 @@ returns-then-not-are_within-2-clause-fault c costs =
     let hosted : AreHosted numbers.server_hosts.items loads host_loads =
     rw (← c.deref-3.ensures.value, ← c.deref-4.ensures.value) c.in_ok-host_loads.ensures.sums in
     let many : length host_loads ≡ length numbers.limits.items =
-    omega (arith, c.in_ok-host_loads.ensures.len, c.len-2.ensures) in
-    (
+    omega (arith, c.in_ok-host_loads.ensures.len, c.len-2.ensures) in (
       c.requires.shape costs,
       c.requires.there costs,
       λ load.
