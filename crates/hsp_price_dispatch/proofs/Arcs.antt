@@ -1,23 +1,20 @@
 -- Over which arcs queries go, and where none has room.
-use Rattle.std.proofs.Common.{◌≡◌, ◌<◌, ◌≤◌, ◌+◌, ◌&&◌, ◌∙◌, ◌⊎◌, ℕ, zero, suc, Bool, true, false, List, [], ◌∷◌, length}
-use Rattle.std.proofs.Common.{All, Option, None, Some, ap, arith, filter, get_or, inl, inr, refl, subst, sym, nat_le, nat_lt}
-use Rattle.std.specs.Prelude.{⊤}
-use Rattle.std.specs.List.{Contains, list_all}
+use Rattle.std.proofs.Common.{◌≡◌, ◌<◌, ◌≤◌, ◌∙◌, ℕ, zero, suc, Bool, true, false, List, [], ◌∷◌, length}
+use Rattle.std.proofs.Common.{All, Option, None, Some, arith, filter, get_or, inl, inr, refl, subst, sym, nat_le, nat_lt}
+use Rattle.std.specs.List.{Contains}
 use Rattle.std.proofs.lemmas.Bool.{and_cases, cases_lt, false_from_ne_true, le-leb, lt-ltb, true≢false}
-use Rattle.std.proofs.lemmas.List.Elements.{All-contains_itself, All-filter, All-head, All-tail}
+use Rattle.std.proofs.lemmas.List.Elements.{All-contains_itself, All-filter}
 use Rattle.std.proofs.lemmas.List.Sums.{list_all-from_AllPass}
 use Rattle.hsp_instance.specs.Building.{or_else}
 use Rattle.hsp_instance.specs.declared.arc.Arc.{Arc}
 use Rattle.hsp_classes.specs.Least.{arcs_of, host_at, is_least, least_arcs, least_of, pay_over}
-use Rattle.hsp_dispatch.specs.Dispatch.{Entry}
-use Rattle.hsp_price_dispatch.specs.Choosing.{answer_by, answer_of, assigned, at_first, choice_among, choice_for}
+use Rattle.hsp_price_dispatch.specs.Choosing.{answer_of, assigned, at_first, choice_among, choice_for}
 use Rattle.hsp_price_dispatch.specs.Choosing.{diverted, elsewhere, or_full, row_of}
-use Rattle.hsp_price_dispatch.specs.Holding.{Held, has_room, has_room_at, host_passes, host_room_at, is_free, room_at}
+use Rattle.hsp_price_dispatch.specs.Holding.{Held, has_room, host_passes, host_room_at, is_free, room_at}
 use Rattle.hsp_price_dispatch.specs.Laws.{GoesOverItsArcs, HasNoRoom, IsFullWithoutRoom, LeastAreArcs}
 use Rattle.hsp_price_dispatch.specs.declared.answer.Choice.{Choice}
 use Rattle.hsp_price_dispatch.specs.declared.answer.Choice.TheVariants as choice
-use Rattle.hsp_price_dispatch.specs.declared.answer.PriceAnswer.{PriceAnswer}
-use Rattle.hsp_price_dispatch.specs.declared.answer.PriceAnswer.TheVariants.{Assigned, Diverted, Full, Unknown}
+use Rattle.hsp_price_dispatch.specs.declared.answer.PriceAnswer.TheVariants.{Assigned, Diverted, Full}
 use Rattle.hsp_price_dispatch.proofs.Chosen.{IsGood, OnChoice, is_good, on_any}
 use Rattle.hsp_price_dispatch.proofs.RoomTaken.{AnyArc}
 

@@ -1,15 +1,15 @@
 -- The cells of a plan's classes, and what a front holds at first.
-use Rattle.std.proofs.Common.{◌≡◌, ◌<◌, ◌≤◌, ◌+◌, ◌-◌, ◌==◌, ◌∙◌, ℕ, zero, suc, true, List, [], ◌∷◌, length, map, All, min}
-use Rattle.std.proofs.Common.{ap, arith, get_or, leb-true, ltb-true, nat_le, nat_lt, refl, slice_index, subst, sym}
+use Rattle.std.proofs.Common.{◌≡◌, ◌<◌, ◌≤◌, ◌+◌, ◌∙◌, ℕ, true, List, [], ◌∷◌, length, map, All}
+use Rattle.std.proofs.Common.{ap, arith, get_or, leb-true, ltb-true, nat_le, nat_lt, slice_index, subst, sym}
 use Rattle.std.specs.List.{AllByRecursion, flat_map, list_all}
 use Rattle.std.proofs.lemmas.Bool.{and_parts}
 use Rattle.std.proofs.lemmas.List.{get_or-map, length-map}
-use Rattle.std.proofs.lemmas.List.Elements.{All-from_recursion, All-head, All-tail}
+use Rattle.std.proofs.lemmas.List.Elements.{All-from_recursion}
 use Rattle.std.proofs.lemmas.List.Folds.{length-flat_map-take}
 use Rattle.std.proofs.lemmas.List.Sums.{AllPass-from_list_all}
 use Rattle.hsp_text.specs.Name.{is_name}
 use Rattle.hsp_kinds.specs.Rows.{Service}
-use Rattle.hsp_price_text.specs.Claim.{Best, Class, are_servers, is_amount, is_best, is_class, is_server}
+use Rattle.hsp_price_text.specs.Claim.{Best, Class, are_servers, is_best, is_class, is_server}
 use Rattle.hsp_price_text.proofs.DraftSteps.{best_parts}
 use Rattle.hsp_cert.specs.Certificate.{ascends}
 use Rattle.hsp_classes.specs.Sums.{sends}

@@ -1,6 +1,6 @@
 -- What is true of the arc that a query is answered by, and of its cell.
-use Rattle.std.proofs.Common.{◌≡◌, ◌<◌, ◌≤◌, ◌+◌, ◌&&◌, ◌∙◌, ℕ, Bool, true, false, List, [], ◌∷◌, length, drop, filter}
-use Rattle.std.proofs.Common.{All, Option, Some, None, inl, inr, refl, ap, sym, subst, arith, nat_lt, if◌then◌else◌}
+use Rattle.std.proofs.Common.{◌≡◌, ◌<◌, ◌+◌, ℕ, Bool, true, false, List, [], ◌∷◌, length, drop, filter}
+use Rattle.std.proofs.Common.{All, Option, Some, None, inl, inr, refl, subst, arith, nat_lt, if◌then◌else◌}
 use Rattle.std.specs.Prelude.{⊤}
 use Rattle.std.specs.List.{AllByRecursion}
 use Rattle.std.proofs.lemmas.Bool.{and_from, and_parts, cases_lt, lt-ltb, ltb-true}

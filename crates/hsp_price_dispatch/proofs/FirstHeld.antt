@@ -1,5 +1,5 @@
 -- What a front holds at first, by the lists that were added up.
-use Rattle.std.proofs.Common.{◌≡◌, ◌<◌, ◌≤◌, ◌+◌, ◌-◌, ◌^◌, ◌==◌, ◌∙◌, ℕ, Bool, false, List, [], ◌∷◌, length, map, All}
+use Rattle.std.proofs.Common.{◌≡◌, ◌<◌, ◌≤◌, ◌+◌, ◌-◌, ◌^◌, ◌==◌, ◌∙◌, ℕ, Bool, false, List, [], ◌∷◌, length, All}
 use Rattle.std.proofs.Common.{None, Option, Some, ap, arith, get_or, if◌then◌else◌, inl, inr, ne_eqb, refl, slice_index, subst, sym}
 use Rattle.std.specs.List.{flat_map}
 use Rattle.std.proofs.lemmas.Bool.{cases_lt}
@@ -10,7 +10,7 @@ use Rattle.hsp_transport.specs.Sums.{sum_below}
 use Rattle.hsp_transport.proofs.Summing.{sum_below_same}
 use Rattle.hsp_instance.specs.Instance.{Host, Server}
 use Rattle.hsp_check.specs.ArcFlows.{host_in}
-use Rattle.hsp_check.specs.Lists.{AreHosted, AreWithin, HostsAreBelow}
+use Rattle.hsp_check.specs.Lists.{AreHosted, AreWithin}
 use Rattle.hsp_check.specs.Plan.{is_on}
 use Rattle.hsp_kinds.specs.Rows.{Service}
 use Rattle.hsp_price_text.specs.Claim.{Best}
@@ -20,7 +20,7 @@ use Rattle.hsp_dispatch.specs.Fronts.{share}
 use Rattle.hsp_price_check.specs.Passed.{capped}
 use Rattle.hsp_price_dispatch.specs.Holding.{Held, left_where}
 use Rattle.hsp_price_dispatch.specs.Standing.{IsAccepted, IsStanding}
-use Rattle.hsp_price_dispatch.specs.Starting.{IsBegun, capacity_at, cells_of, limit_at}
+use Rattle.hsp_price_dispatch.specs.Starting.{IsBegun, capacity_at, cells_of}
 use Rattle.hsp_price_dispatch.specs.declared.cells.Cell.{Cell}
 use Rattle.hsp_price_dispatch.specs.declared.starting.Accepted.{Accepted}
 use Rattle.hsp_price_dispatch.proofs.Begun.{cells_in}

@@ -1,5 +1,5 @@
 -- Fronts side by side: each answers by its own entries, and together they keep within what servers and hosts take.
-use Rattle.std.proofs.Common.{◌≡◌, ◌≢◌, ◌<◌, ◌≤◌, ◌+◌, ◌-◌, ◌∙◌, ◌++◌, ◌==◌, ℕ, zero, suc, List, [], ◌∷◌, length, All}
+use Rattle.std.proofs.Common.{◌≡◌, ◌<◌, ◌≤◌, ◌+◌, ◌-◌, ◌∙◌, ◌++◌, ◌==◌, ℕ, zero, suc, List, [], ◌∷◌, length, All}
 use Rattle.std.proofs.Common.{Bool, ap, ap₂, arith, eq-eqb, inl, inr, ne_eqb, refl, subst, sym}
 use Rattle.std.specs.List.{zip}
 use Rattle.std.proofs.lemmas.Bool.{cases_eq}
@@ -16,13 +16,12 @@ use Rattle.hsp_dispatch.specs.Fronts.{Event, entries_at, share}
 use Rattle.hsp_dispatch.proofs.FrontCounts.{more_elsewhere, more_here}
 use Rattle.hsp_dispatch.proofs.FrontShares.{shares_add_up}
 use Rattle.hsp_price_dispatch.specs.Choosing.{answer_by, left_by}
-use Rattle.hsp_price_dispatch.specs.Holding.{Held, held_at, host_held_at, host_room_at, left_where, room_at}
+use Rattle.hsp_price_dispatch.specs.Holding.{Held, host_room_at, left_where, room_at}
 use Rattle.hsp_price_dispatch.specs.Laws.{AnswersAlone, AreBegun, EndsInTheSame, GoesByItsEntries, NeverExceedsTogether}
 use Rattle.hsp_price_dispatch.specs.Laws.{RoomsAddUp, answers_at, answers_to, count_at, count_on, event_answer}
-use Rattle.hsp_price_dispatch.specs.Laws.{event_answers, left_after}
-use Rattle.hsp_price_dispatch.specs.Starting.{Fits, capacity_at, cells_of, limit_at}
+use Rattle.hsp_price_dispatch.specs.Laws.{left_after}
+use Rattle.hsp_price_dispatch.specs.Starting.{Fits, capacity_at, limit_at}
 use Rattle.hsp_price_dispatch.specs.declared.answer.PriceAnswer.{PriceAnswer}
-use Rattle.hsp_price_dispatch.specs.declared.cells.Cell.{Cell}
 use Rattle.hsp_price_dispatch.proofs.RoomTaken.{never_exceeds}
 use Rattle.hsp_price_dispatch.proofs.Sums.{all_sends, host_load_is, left_is, load_is, sent_where, shares_together, whole}
 

@@ -1,15 +1,15 @@
 -- What is held for classes, as one query is taken from a cell.
-use Rattle.std.proofs.Common.{◌≡◌, ◌≢◌, ◌<◌, ◌≤◌, ◌+◌, ◌-◌, ◌==◌, ◌∙◌, ℕ, Bool, true, false, List, length, All, Option, Some}
-use Rattle.std.proofs.Common.{None, inl, inr, refl, ap, sym, subst, arith, if◌then◌else◌, slice_index, slice_set, get_or}
+use Rattle.std.proofs.Common.{◌≡◌, ◌<◌, ◌+◌, ◌==◌, ◌∙◌, ℕ, Bool, true, false, List, length, Option, Some}
+use Rattle.std.proofs.Common.{None, refl, ap, sym, arith, if◌then◌else◌, slice_index, slice_set}
 use Rattle.std.proofs.Common.{eq-eqb, length-set}
-use Rattle.std.specs.Prelude.{◌&&◌, nat_lt}
+use Rattle.std.specs.Prelude.{nat_lt}
 use Rattle.std.specs.Prelude.{IfSome}
 use Rattle.std.proofs.lemmas.List.Elements.{All-set}
 use Rattle.std.proofs.lemmas.List.Sums.{get_or-le-sum_by, sum_by-set}
 use Rattle.hsp_check.specs.Plan.{is_on}
 use Rattle.hsp_classes.specs.Least.{host_at}
 use Rattle.hsp_price_dispatch.specs.Holding.{Held, cell_at, left_where, no_cell, one_given, one_less, one_less_on}
-use Rattle.hsp_price_dispatch.specs.Holding.{host_passes, host_held_at, host_room_at, held_at, is_free_at, room_at, with_given, with_query_at}
+use Rattle.hsp_price_dispatch.specs.Holding.{host_held_at, host_room_at, held_at, is_free_at, room_at, with_given, with_query_at}
 use Rattle.hsp_price_dispatch.specs.Standing.{IsStanding}
 use Rattle.hsp_price_dispatch.specs.declared.cells.Cell.{Cell}
 use Rattle.hsp_price_dispatch.proofs.RoomTaken.{less_at, one_if}

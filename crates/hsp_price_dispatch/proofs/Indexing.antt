@@ -1,6 +1,6 @@
 -- What servers cost beside arcs, and where the cells of a class stand, by the lists that a front keeps for it.
-use Rattle.std.proofs.Common.{◌≡◌, ◌≤◌, ◌<◌, ◌+◌, ◌∙◌, ℕ, true, List, [], ◌∷◌, length, map, position, slice_index, All}
-use Rattle.std.proofs.Common.{None, Option, Some, ap, ap₂, arith, filter, inl, inr, length-set, refl, subst, sym, Bool}
+use Rattle.std.proofs.Common.{◌≡◌, ◌≤◌, ◌<◌, ◌+◌, ◌∙◌, ℕ, List, [], ◌∷◌, length, map, position, slice_index, All}
+use Rattle.std.proofs.Common.{None, Option, Some, ap, arith, filter, inl, inr, length-set, refl, subst, sym, Bool}
 use Rattle.std.specs.Str.{bytes_eq}
 use Rattle.std.specs.List.{AllByRecursion}
 use Rattle.std.proofs.Math.Path.{fun_ext}
@@ -14,14 +14,14 @@ use Rattle.hsp_instance.specs.Building.{or_else}
 use Rattle.hsp_instance.specs.Instance.{Server}
 use Rattle.hsp_instance.specs.RowArcs.{IsWithin}
 use Rattle.hsp_instance.specs.declared.arc.Arc.{Arc}
-use Rattle.hsp_price_text.specs.Claim.{Best, Class}
+use Rattle.hsp_price_text.specs.Claim.{Best}
 use Rattle.hsp_classes.specs.Least.{host_at, is_least, least_arcs, pay_over, price_at, servers_of}
 use Rattle.hsp_classes.proofs.Lists.{all_kept}
 use Rattle.hsp_price_check.specs.ClassNumbers.{is_named}
 use Rattle.hsp_price_check.specs.Extras.{pay_by}
 use Rattle.hsp_price_check.specs.Passed.{class_at, no_class}
 use Rattle.hsp_price_dispatch.specs.Choosing.{assigned, choice_among, class_number, elsewhere, first_cell, or_full}
-use Rattle.hsp_price_dispatch.specs.Holding.{Held, cell_at, has_room, one_given}
+use Rattle.hsp_price_dispatch.specs.Holding.{Held, cell_at, one_given}
 use Rattle.hsp_price_dispatch.specs.Choosing.{left_with}
 use Rattle.hsp_price_dispatch.specs.Standing.{IsIndexOf}
 use Rattle.hsp_price_dispatch.specs.Taking.{CanTake}

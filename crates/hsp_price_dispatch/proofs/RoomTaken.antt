@@ -1,10 +1,9 @@
 -- The room that is left by queries, one after another.
-use Rattle.std.proofs.Common.{◌≡◌, ◌≢◌, ◌<◌, ◌≤◌, ◌+◌, ◌-◌, ◌==◌, ◌&&◌, ◌∙◌, ℕ, Bool, true, false, List, [], ◌∷◌, length}
-use Rattle.std.proofs.Common.{All, Option, Some, None, inl, inr, refl, ap, sym, subst, arith, if◌then◌else◌, nat_lt}
-use Rattle.std.proofs.Common.{slice_index, slice_set, sum_by, count_by, get_or, eq-eqb, ne_eqb, get_or-set_other}
+use Rattle.std.proofs.Common.{◌≡◌, ◌≢◌, ◌<◌, ◌+◌, ◌-◌, ◌==◌, ℕ, Bool, true, List, [], ◌∷◌, length}
+use Rattle.std.proofs.Common.{Option, Some, None, inl, inr, refl, ap, sym, arith, if◌then◌else◌, nat_lt}
+use Rattle.std.proofs.Common.{slice_index, eq-eqb, ne_eqb, get_or-set_other}
 use Rattle.std.proofs.Common.{get_or-set_same}
 use Rattle.std.specs.Prelude.{⊤}
-use Rattle.std.specs.List.{Contains}
 use Rattle.std.proofs.lemmas.Bool.{and_parts, cases_eq, cases_lt, ltb-true}
 use Rattle.std.proofs.lemmas.List.{get_or_past}
 use Rattle.std.proofs.lemmas.List.Sums.{sum_by-cons}
@@ -19,7 +18,6 @@ use Rattle.hsp_price_dispatch.specs.Laws.{NeverExceeds, TakesHostRoom, TakesRoom
 use Rattle.hsp_price_dispatch.specs.Laws.{goes_to, left_after}
 use Rattle.hsp_price_dispatch.specs.declared.answer.Choice.{Choice}
 use Rattle.hsp_price_dispatch.specs.declared.answer.Choice.TheVariants.{OfClass, Free, Diverted, Full, Unknown}
-use Rattle.hsp_price_dispatch.specs.declared.answer.PriceAnswer.{PriceAnswer}
 use Rattle.hsp_price_dispatch.proofs.Chosen.{IsGood, is_good}
 
 abbrev pub one_if : Bool → ℕ

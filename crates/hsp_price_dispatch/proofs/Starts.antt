@@ -1,23 +1,23 @@
 -- What a front begins with: sums that are kept exactly, and rooms.
-use Rattle.std.proofs.Common.{◌≡◌, ◌≢◌, ◌<◌, ◌≤◌, ◌+◌, ◌-◌, ◌^◌, ◌==◌, ◌∙◌, ℕ, zero, suc, List, [], ◌∷◌, length, map, All}
-use Rattle.std.proofs.Common.{ap, arith, get_or, if◌then◌else◌, inl, inr, min, refl, slice_index, slice_set, subst, sym}
+use Rattle.std.proofs.Common.{◌≡◌, ◌≢◌, ◌<◌, ◌≤◌, ◌+◌, ◌^◌, ◌==◌, ◌∙◌, ℕ, zero, suc, List, [], ◌∷◌, length, map}
+use Rattle.std.proofs.Common.{ap, arith, get_or, if◌then◌else◌, inl, inr, refl, slice_index, slice_set, sym}
 use Rattle.std.proofs.Common.{sum_by, take, eq-eqb, ne_eqb, get_or-set_other, get_or-set_same, zero-add}
-use Rattle.std.specs.List.{AllByRecursion, flat_map}
-use Rattle.std.proofs.lemmas.Bool.{cases_eq, cases_lt}
-use Rattle.std.proofs.lemmas.List.{get_or_past, length-map}
+use Rattle.std.specs.List.{AllByRecursion}
+use Rattle.std.proofs.lemmas.Bool.{cases_eq}
+use Rattle.std.proofs.lemmas.List.{length-map}
 use Rattle.std.proofs.lemmas.List.Sums.{sum_by_more}
-use Rattle.hsp_text.specs.declared.limits.TheConstants.{GREATEST_CAPACITY, GREATEST_LIMIT}
+use Rattle.hsp_text.specs.declared.limits.TheConstants.{GREATEST_CAPACITY}
 use Rattle.hsp_transport.specs.Sums.{sum_below}
-use Rattle.hsp_transport.proofs.Summing.{sum_below_same, sum_below_zero}
-use Rattle.hsp_instance.specs.Instance.{AreHosts, Host, IsLimited, IsServer, Row, Server}
+use Rattle.hsp_transport.proofs.Summing.{sum_below_same}
+use Rattle.hsp_instance.specs.Instance.{Host, IsServer, Server}
 use Rattle.hsp_check.specs.ArcFlows.{host_in}
 use Rattle.hsp_check.specs.Lists.{AreHosted, AreWithin}
 use Rattle.hsp_check.specs.Plan.{is_on}
 use Rattle.hsp_kinds.specs.Rows.{Service}
-use Rattle.hsp_price_text.specs.Claim.{Best, Class}
+use Rattle.hsp_price_text.specs.Claim.{Best}
 use Rattle.hsp_classes.specs.Least.{host_at}
 use Rattle.hsp_classes.specs.Shown.{IsService}
-use Rattle.hsp_classes.specs.Sums.{class_load, host_load_at, load_at, sends}
+use Rattle.hsp_classes.specs.Sums.{class_load, host_load_at, load_at}
 use Rattle.hsp_classes.specs.Verdict.{PlanMeets}
 use Rattle.hsp_classes.specs.declared.verdict.PriceReason.TheVariants.{Load}
 use Rattle.hsp_price_check.specs.Classes.{AreClassLoads}
@@ -25,7 +25,7 @@ use Rattle.hsp_price_check.specs.Passed.{capped}
 use Rattle.hsp_price_check.specs.PlanPass.{AreNumbersOf}
 use Rattle.hsp_price_check.specs.declared.numbers.ServiceNumbers.{ServiceNumbers}
 use Rattle.hsp_price_dispatch.specs.Holding.{left_where}
-use Rattle.hsp_price_dispatch.specs.Starting.{capacity_at, limit_at}
+use Rattle.hsp_price_dispatch.specs.Starting.{capacity_at}
 use Rattle.hsp_price_dispatch.specs.declared.cells.Cell.{Cell}
 
 -- ---- sums that are kept

@@ -1,10 +1,9 @@
 -- What classes bring to servers and hosts, and what is held there, as sums over the servers of all classes.
 use Rattle.std.proofs.Common.{◌≡◌, ◌<◌, ◌≤◌, ◌+◌, ◌*◌, ◌∙◌, ◌++◌, ◌==◌, ℕ, Bool, true, false, List, [], ◌∷◌, length}
-use Rattle.std.proofs.Common.{All, map, sum_by, refl, ap, ap₂, sym, arith, if◌then◌else◌, zero-add, eq-eqb, ne_eqb}
+use Rattle.std.proofs.Common.{All, map, sum_by, refl, ap, sym, arith, if◌then◌else◌, zero-add}
 use Rattle.std.proofs.Common.{◌⊎◌, inl, inr}
 use Rattle.std.specs.List.{flat_map, zip}
-use Rattle.std.proofs.lemmas.List.{map-append, length-map}
-use Rattle.std.proofs.lemmas.List.Elements.{All-head, All-tail}
+use Rattle.std.proofs.lemmas.List.{map-append}
 use Rattle.std.proofs.lemmas.List.Sums.{sum_by-append, sum_by-cons}
 use Rattle.hsp_transport.specs.Sums.{sum_below}
 use Rattle.hsp_transport.proofs.Summing.{by_key, sum_below_same, sum_below_zero, sum_by_le_all}
@@ -16,7 +15,7 @@ use Rattle.hsp_classes.specs.Least.{host_at}
 use Rattle.hsp_classes.specs.Sums.{class_load, host_load_at, load_at, sends}
 use Rattle.hsp_classes.proofs.Lists.{sum_map}
 use Rattle.hsp_dispatch.specs.Fronts.{share}
-use Rattle.hsp_dispatch.proofs.FrontShares.{share_le, share_none, shares_add_up}
+use Rattle.hsp_dispatch.proofs.FrontShares.{share_le, shares_add_up}
 use Rattle.hsp_price_dispatch.specs.Holding.{left_where}
 use Rattle.hsp_price_dispatch.specs.Starting.{cell_of, cells_of}
 use Rattle.hsp_price_dispatch.specs.declared.cells.Cell.{Cell}

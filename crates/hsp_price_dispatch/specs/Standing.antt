@@ -8,7 +8,7 @@ use Rattle.hsp_price_text.specs.Certificate.{IsCertificate}
 use Rattle.hsp_price_text.specs.declared.certificate.PriceCertificate.TheVariants as certificate
 use Rattle.hsp_check.specs.Lists.{HostsAreBelow}
 use Rattle.hsp_classes.specs.Shown.{IsService}
-use Rattle.hsp_classes.specs.Sums.{host_load_at, load_at, sends}
+use Rattle.hsp_classes.specs.Sums.{host_load_at, load_at}
 use Rattle.hsp_price_check.specs.ClassNumbers.{HasClasses}
 use Rattle.hsp_price_check.specs.Extras.{AreExtras}
 use Rattle.hsp_price_check.specs.Passed.{class_at}

@@ -1,4 +1,4 @@
-use Rattle.std.proofs.Common.{◌≡◌, ◌∙◌, ◌≤◌, ◌+◌, ◌<◌, ◌++◌, ◌∷◌, [], List, ℕ, ap, arith, get_or, length, min}
+use Rattle.std.proofs.Common.{◌≡◌, ◌∙◌, ◌≤◌, ◌+◌, ◌++◌, ◌∷◌, [], List, ℕ, ap, arith, get_or, length, min}
 use Rattle.std.proofs.lemmas.List.{length_push}
 use Rattle.hsp_price_text.specs.Claim.{Class}
 use Rattle.hsp_classes.specs.Sums.{sends}

@@ -1,4 +1,4 @@
-use Rattle.std.proofs.Common.{◌≡◌, ◌≤◌, ◌<◌, ◌*◌, ℕ, length, slice_index, take}
+use Rattle.std.proofs.Common.{◌≡◌, ◌≤◌, ◌<◌, ◌*◌, ℕ, length, slice_index}
 use Rattle.hsp_price_dispatch.specs.Choosing.{first_cell}
 use Rattle.hsp_price_dispatch.proofs.cells.first_cells.Given as goal
 

@@ -1,8 +1,7 @@
-use Rattle.std.proofs.Common.{◌≡◌, ◌∙◌, ◌++◌, List, [], ap, map, sym, inl, inr}
+use Rattle.std.proofs.Common.{◌≡◌, ◌∙◌, ◌++◌, [], ap, map, sym, inl, inr}
 use Rattle.std.specs.List.{zip}
 use Rattle.std.proofs.lemmas.List.{append-nil}
 use Rattle.hsp_price_dispatch.specs.Starting.{cell_of}
-use Rattle.hsp_price_dispatch.specs.declared.cells.Cell.{Cell}
 use Rattle.hsp_price_dispatch.proofs.Sums.{none_left}
 use Rattle.hsp_price_dispatch.proofs.cells.push_cells.Goals as goal
 

@@ -1,4 +1,4 @@
-use Rattle.std.proofs.Common.{◌≡◌, ◌∙◌, ap, sym}
+use Rattle.std.proofs.Common.{◌∙◌, ap, sym}
 use Rattle.hsp_classes.specs.Least.{least_arcs, pay_over}
 use Rattle.hsp_price_dispatch.specs.Choosing.{by_class, by_room, class_number}
 use Rattle.hsp_price_dispatch.proofs.Indexing.{least_list, least_within, or_first, or_second}

@@ -1,4 +1,4 @@
-use Rattle.std.proofs.Common.{◌≡◌, ◌∙◌, ◌<◌, ◌≤◌, ◌==◌, ℕ, ap, arith, length, slice_index, sym}
+use Rattle.std.proofs.Common.{◌≡◌, ◌∙◌, ◌<◌, ◌==◌, ℕ, ap, arith, length, slice_index}
 use Rattle.std.specs.List.{flat_map}
 use Rattle.hsp_check.specs.Lists.{AreHosted}
 use Rattle.hsp_price_check.specs.Classes.{service_of}

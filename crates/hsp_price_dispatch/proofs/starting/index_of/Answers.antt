@@ -1,4 +1,3 @@
-use Rattle.std.proofs.Common.{arith}
 use Rattle.hsp_price_check.proofs.Starting.{classes_few, host_prices_low, server_prices_low}
 use Rattle.hsp_price_dispatch.proofs.Begun.{classes_few_cells, classes_most}
 use Rattle.hsp_price_dispatch.proofs.starting.index_of.Goals as goal

@@ -1,4 +1,4 @@
-use Rattle.std.proofs.Common.{◌≡◌, ◌∙◌, ◌<◌, List, [], ap, arith, length, sym}
+use Rattle.std.proofs.Common.{◌≡◌, ◌∙◌, List, [], ap, arith, length, sym}
 use Rattle.std.proofs.lemmas.Bool.{true≢false}
 use Rattle.std.proofs.lemmas.List.{length-map}
 use Rattle.hsp_tables.specs.Costs.{CostEntry}

@@ -8,7 +8,7 @@ use Rattle.hsp_instance.specs.RowArcs.{IsWithin, row_named}
 use Rattle.hsp_instance.specs.declared.arc.Arc.{Arc}
 use Rattle.hsp_instance.proofs.ArcsWithin.{arcs_within}
 use Rattle.hsp_classes.specs.Least.{arcs_of}
-use Rattle.hsp_price_dispatch.proofs.Indexing.{can_take_choice, index_stays}
+use Rattle.hsp_price_dispatch.proofs.Indexing.{can_take_choice}
 use Rattle.hsp_price_dispatch.proofs.dispatcher.PriceDispatcher.assign.Goals as goal
 use Rattle.hsp_price_dispatch.proofs.dispatcher.PriceDispatcher.assign.Goals.{After-arcs}
 

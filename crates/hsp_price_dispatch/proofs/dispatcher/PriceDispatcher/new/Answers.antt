@@ -1,9 +1,9 @@
-use Rattle.std.proofs.Common.{◌≡◌, ◌∙◌, ap, arith, length, refl}
+use Rattle.std.proofs.Common.{◌∙◌, ap, arith, length}
 use Rattle.std.proofs.lemmas.List.{length-map}
 use Rattle.std.proofs.lemmas.Result.{err_from_is_err_and}
 use Rattle.hsp_instance.specs.Instance.{Host, Server}
 use Rattle.hsp_price_check.specs.Classes.{service_of}
-use Rattle.hsp_price_dispatch.specs.Standing.{IsIndexOf, IsOfService}
+use Rattle.hsp_price_dispatch.specs.Standing.{IsOfService}
 use Rattle.hsp_price_dispatch.proofs.Begun.{index_is}
 use Rattle.hsp_price_dispatch.proofs.dispatcher.PriceDispatcher.new.Goals as goal
 

@@ -1,4 +1,4 @@
-use Rattle.std.proofs.Common.{◌≡◌, ◌∙◌, ◌<◌, List, ap, length, length-set, slice_set, sym}
+use Rattle.std.proofs.Common.{◌≡◌, ◌∙◌, ◌<◌, List, ap, length, length-set, slice_set}
 use Rattle.std.proofs.lemmas.List.{with_items_is}
 use Rattle.hsp_price_dispatch.specs.Holding.{cell_at, one_given}
 use Rattle.hsp_price_dispatch.specs.declared.cells.Cell.{Cell}
