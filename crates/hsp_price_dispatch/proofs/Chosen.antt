@@ -64,7 +64,7 @@ all_placed P cells n (arc ∷ arcs) all = elim (cases_lt n (length cells)) [
 
 module _ (own : Held) (P : Place → Type 0) where
   -- what holds of each place holds of the one that is found, which can give
-  abbrev OnPlace : Option Place → Type 0
+  abbrev pub OnPlace : Option Place → Type 0
   OnPlace None = ⊤
   OnPlace (Some place) = P place × (can_give own place ≡ true)
 

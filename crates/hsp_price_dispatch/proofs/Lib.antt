@@ -10,3 +10,5 @@ pub mod Indexing
 pub mod Starts
 pub mod Begun
 pub mod FirstHeld
+pub mod ClassParts
+pub mod Planned

@@ -114,9 +114,9 @@ choice_among own region [] least = choice.Unknown
 choice_among own region (arc ∷ arcs) least =
     or_full (or_else (assigned own region least) (elsewhere own (arc ∷ arcs)))
 
--- the row of an entry, of no count
+-- the row of an entry, which asks for one query
 abbrev pub row_of : Entry → Row
-row_of entry = row_named entry.region entry.handle 0
+row_of entry = row_named entry.region entry.handle 1
 
 abbrev pub choice_for : Held → Entry → Choice
 choice_for own entry =

@@ -4,3 +4,4 @@ pub mod Taking
 pub mod Starting
 pub mod Standing
 pub mod Laws
+pub mod Planned

@@ -3,6 +3,7 @@
 ghost use Rattle.hsp_price_dispatch.specs.Laws.{AnswersAlone, EndsInTheSame, GoesByItsEntries, GoesOverItsArcs};
 ghost use Rattle.hsp_price_dispatch.specs.Laws.{IsFullWithoutRoom, LeastAreArcs, NeverExceeds, NeverExceedsTogether};
 ghost use Rattle.hsp_price_dispatch.specs.Laws.{RoomsAddUp, TakesHostRoom, TakesRoom};
+ghost use Rattle.hsp_price_dispatch.specs.Planned.{IsServedByPlan};
 
 /// Each query that goes to a server takes one of its room and of its host's. So no server and no host gets more than
 /// its room at the beginning, whatever is asked.
@@ -39,6 +40,12 @@ pub fn fronts_alone()
 /// Two lists of events that have the same entries at a front have the same answers there, and leave the same there.
 pub fn front_apart()
     ensures { GoesByItsEntries }
+{}
+
+/// Where queries ask one front for no more than the plan has, each is assigned, and no server gets more than the plan
+/// brings there.
+pub fn served_by_plan()
+    ensures { IsServedByPlan }
 {}
 
 /// Two interleavings of the same fronts' lists end in the same at each front.

@@ -15,11 +15,11 @@ use Rattle.hsp_price_dispatch.proofs.dispatcher.PriceDispatcher.assign.Goals.{Af
 -- the arcs that were found are those of a row of the query
 found : (c : After-arcs)
     → c.arcs.result.now
-    ≡ arcs_of c.self.inside.holding.service (row_named c.args.region.now (octets_of c.args.handle) 0)
+    ≡ arcs_of c.self.inside.holding.service (row_named c.args.region.now (octets_of c.args.handle) 1)
 found c =
     let at = c.self.inside.holding.service in
-    let row = row_named c.args.region.now (octets_of c.args.handle) 0 in
-    c.arcs.ensures ∙ c.in_ok-find.ensures.arcs 0
+    let row = row_named c.args.region.now (octets_of c.args.handle) 1 in
+    c.arcs.ensures ∙ c.in_ok-find.ensures.arcs 1
     ∙ ap (λ (costs : List CostEntry). arcs_from costs row 0 0 c.self.inside.arcs.sites) c.self.invariant.1.costs_are
     ∙ ap (λ (sites : List Site). arcs_from at.costs row 0 0 sites) c.self.invariant.1.sites_are
 
@@ -30,7 +30,7 @@ within c =
     let at = c.self.inside.holding.service in
     let is = c.self.invariant.1 in
     let n = length at.servers in
-    let row = row_named c.args.region.now (octets_of c.args.handle) 0 in
+    let row = row_named c.args.region.now (octets_of c.args.handle) 1 in
     let all : AllByRecursion (IsWithin n) (arcs_of at row) =
     arcs_within at.costs is.costs.keyed.each row n 0 0 at.sites is.service.sites.each
     (omega (arith, is.service.servers.count)) in
@@ -44,12 +44,12 @@ take-requires c =
     let at = c.self.inside.holding.service in
     let is = c.self.invariant.1 in
     let n = length at.servers in
-    let row = row_named c.args.region.now (octets_of c.args.handle) 0 in
+    let row = row_named c.args.region.now (octets_of c.args.handle) 1 in
     let all : AllByRecursion (IsWithin n) (arcs_of at row) =
     arcs_within at.costs is.costs.keyed.each row n 0 0 at.sites is.service.sites.each
     (omega (arith, is.service.servers.count)) in
     let same : c.arcs.result.now ≡ arcs_of at row =
-    c.arcs.ensures ∙ c.in_ok-find.ensures.arcs 0
+    c.arcs.ensures ∙ c.in_ok-find.ensures.arcs 1
     ∙ ap (λ (costs : List CostEntry). arcs_from costs row 0 0 c.self.inside.arcs.sites) is.costs_are
     ∙ ap (λ (sites : List Site). arcs_from at.costs row 0 0 sites) is.sites_are in
     let own : AllByRecursion (IsWithin n) c.arcs.result.now =
