@@ -10,9 +10,11 @@ use crate::share::Cell;
 
 /// How many fronts there are, and the number of one of them.
 #[derive(Clone, Copy)]
-pub(crate) struct Front {
-    pub(crate) fronts: u32,
-    pub(crate) number: u32,
+pub struct Front {
+    /// How many fronts there are.
+    pub fronts: u32,
+    /// The number of this one, from 0.
+    pub number: u32,
 }
 
 /// The number of the cell of a row at which a front stands, and what the front has left there. If that is nothing, it
@@ -23,8 +25,8 @@ pub(crate) struct Standing {
     pub(crate) left: u32,
 }
 
-/// The share of a front in a number.
-pub(crate) fn share(number: u64, front: Front) -> u64
+/// The share of a front in a number: all fronts have the quotient, and the first ones have one of the remainder each.
+pub fn share(number: u64, front: Front) -> u64
     requires { 0 < front.fronts }
     ensures { result ≡ share front.fronts front.number number }
 {

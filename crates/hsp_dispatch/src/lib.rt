@@ -12,7 +12,7 @@ mod entries;
 mod events;
 mod fault;
 mod form;
-mod front_share;
+pub mod front_share;
 mod fronts;
 pub mod laws;
 mod lines;

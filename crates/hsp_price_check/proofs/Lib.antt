@@ -2,7 +2,7 @@ pub mod Capping
 mod LeastPays
 mod ClassPlaces
 mod ClassSums
-mod ServiceHosts
+pub mod ServiceHosts
 mod SetCapacity
 mod Positions
 mod OneRow
@@ -14,7 +14,7 @@ mod Judging
 mod SmallAmounts
 mod JudgedClasses
 mod SetRows
-mod Starting
+pub mod Starting
 mod RegionPlaces
 mod RegionSteps
 mod Judged

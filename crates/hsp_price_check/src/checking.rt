@@ -62,8 +62,8 @@ pub struct PriceCheck<'a> {
     judge: Judge<'a>,
 }
 
-// Whether the servers of each class are below a number.
-fn are_there(classes: &[Class], count: usize) -> bool
+/// Whether the servers of each class are below a number.
+pub fn are_there(classes: &[Class], count: usize) -> bool
     ensures { IsTrue result ↔ All (λ class. All (λ j. j < count) class.servers) classes.now }
 {
     for class in classes {

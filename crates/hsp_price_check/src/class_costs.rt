@@ -25,8 +25,12 @@ fn add_class(loads: &mut [u128], class: &Class)
     }
 }
 
-/// What classes bring to each server below `count`.
-pub(crate) fn class_loads(
+/// What classes bring to each server below `count`, in queries. Sums above 2^128 - 1 are kept as that.
+///
+/// # Errors
+///
+/// An `AllocError` where memory runs out.
+pub fn class_loads(
     alloc: Global,
     classes: &[Class],
     count: usize,

@@ -20,8 +20,12 @@ fn host_price(host: Option<u32>, host_prices: &[u64]) -> u64
     }
 }
 
-/// For each server its price and its host's together.
-pub(crate) fn extras_of(
+/// For each server its price and its host's together, in units of cost, at most 2 * 10^12.
+///
+/// # Errors
+///
+/// An `AllocError` where memory runs out.
+pub fn extras_of(
     alloc: Global,
     server_hosts: &[Option<u32>],
     server_prices: &[u64],

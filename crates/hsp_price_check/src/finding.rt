@@ -8,8 +8,12 @@ use hsp_price_text::Class;
 use hsp_tally::{FirstNumbers, LentKind, add_first};
 use std::alloc::{AllocError, Global};
 
-/// The number of the first class of each region and servers.
-pub(crate) fn class_numbers(alloc: Global, classes: &[Class]) -> Result<FirstNumbers, AllocError>
+/// The number of the first class of each region and servers, from 0, in the order of the classes.
+///
+/// # Errors
+///
+/// An `AllocError` where memory runs out.
+pub fn class_numbers(alloc: Global, classes: &[Class]) -> Result<FirstNumbers, AllocError>
     requires { length classes.now < 2 ^ 32 }
     ensures { IfOk result (λ numbers. HasClasses classes.now numbers.entries) }
 {
@@ -25,8 +29,8 @@ pub(crate) fn class_numbers(alloc: Global, classes: &[Class]) -> Result<FirstNum
     Ok(numbers)
 }
 
-/// The number of the class of this region and these servers.
-pub(crate) fn find_class(numbers: &FirstNumbers, region: &[u8], servers: &[u32]) -> Option<u32>
+/// The number of the class of this region and these servers, or None where there is none.
+pub fn find_class(numbers: &FirstNumbers, region: &[u8], servers: &[u32]) -> Option<u32>
     ensures { (classes : List Class) → HasClasses classes numbers.now.entries
         → result ≡ position (is_named region.now servers.now) classes }
 {

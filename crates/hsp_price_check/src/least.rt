@@ -32,8 +32,13 @@ fn least_pay(arcs: &[Arc], extras: &[u64]) -> u64
     least
 }
 
-/// Writes the arcs over which a query pays least over what the list had, in their order.
-pub(crate) fn fill_least(
+/// Writes the arcs over which a query pays least over what the list had, in their order. Each server has a number in
+/// `extras`: what a query pays there beside the cost of its arc.
+///
+/// # Errors
+///
+/// An `AllocError` where memory runs out. Nothing is said of the list then.
+pub fn fill_least(
     least: &mut Vec<Arc>,
     arcs: &[Arc],
     extras: &[u64],
@@ -53,7 +58,11 @@ pub(crate) fn fill_least(
 }
 
 /// Writes the servers of arcs over what the list had, in their order.
-pub(crate) fn fill_servers(servers: &mut Vec<u32>, arcs: &[Arc]) -> Result<(), AllocError>
+///
+/// # Errors
+///
+/// An `AllocError` where memory runs out. Nothing is said of the list then.
+pub fn fill_servers(servers: &mut Vec<u32>, arcs: &[Arc]) -> Result<(), AllocError>
     ensures { OnOk result (servers.new.items ≡ servers_of arcs.now) }
 {
     servers.clear();

@@ -16,5 +16,10 @@ mod regions;
 mod set_pass;
 mod sums;
 
-pub use checking::PriceCheck;
+pub use checking::{PriceCheck, are_there};
+pub use class_costs::class_loads;
+pub use extras::extras_of;
 pub use fault::PassFault;
+pub use finding::{class_numbers, find_class};
+pub use least::{fill_least, fill_servers};
+pub use numbers::{ServiceNumbers, numbers_of};

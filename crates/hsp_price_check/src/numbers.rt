@@ -9,10 +9,13 @@ use std::alloc::{AllocError, Global};
 
 /// What each server and each host can take, and the host that each server stands on.
 #[derive(Drop)]
-pub(crate) struct ServiceNumbers {
-    pub(crate) capacities: Vec<u64>,
-    pub(crate) limits: Vec<u64>,
-    pub(crate) server_hosts: Vec<Option<u32>>,
+pub struct ServiceNumbers {
+    /// How many queries each server takes.
+    pub capacities: Vec<u64>,
+    /// How many queries the servers of each host take together.
+    pub limits: Vec<u64>,
+    /// The number of the host of each server, or None where it stands on no listed host.
+    pub server_hosts: Vec<Option<u32>>,
     ghost servers_many: { length capacities.items ≡ length server_hosts.items },
     ghost few_servers: { length server_hosts.items < 2 ^ 16 },
     ghost few_hosts: { length limits.items < 2 ^ 16 },
@@ -20,7 +23,11 @@ pub(crate) struct ServiceNumbers {
 }
 
 /// The numbers of an instance's servers and hosts.
-pub(crate) fn numbers_of(alloc: Global, instance: &Instance) -> Result<ServiceNumbers, AllocError>
+///
+/// # Errors
+///
+/// An `AllocError` where memory runs out.
+pub fn numbers_of(alloc: Global, instance: &Instance) -> Result<ServiceNumbers, AllocError>
     ensures capacities { IfOk result (λ numbers.
         numbers.capacities.items ≡ capacities_in instance.now) }
     ensures limits { IfOk result (λ numbers. numbers.limits.items ≡ limits_in instance.now) }

@@ -1,0 +1,14 @@
+pub mod Sums
+pub mod Chosen
+pub mod Places
+pub mod RoomTaken
+pub mod Held
+pub mod FirstCells
+pub mod Arcs
+pub mod Fronts
+pub mod Indexing
+pub mod Starts
+pub mod Begun
+pub mod FirstHeld
+pub mod ClassParts
+pub mod Planned

@@ -1,0 +1,7 @@
+pub mod Holding
+pub mod Choosing
+pub mod Taking
+pub mod Starting
+pub mod Standing
+pub mod Laws
+pub mod Planned

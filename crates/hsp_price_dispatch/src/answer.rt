@@ -1,0 +1,49 @@
+// What is answered to a query, and what it is answered by.
+
+ghost use Rattle.std.specs.Prelude.{◌≡◌};
+ghost use Rattle.hsp_price_dispatch.specs.Choosing.{answer_of};
+
+use hsp_instance::Arc;
+
+/// The answer to a query. An arc names the site and the server by their numbers.
+#[derive(Clone, Copy, Debug, PartialEq, Eq)]
+pub enum PriceAnswer {
+    /// The query goes over one of the arcs over which it pays least.
+    Assigned(Arc),
+    /// The query goes over another arc, as no room is left at those.
+    Diverted(Arc),
+    /// No room is left at any server that the query may go to.
+    Full,
+    /// The query's region has no cost at any site.
+    Unknown,
+}
+
+/// What a query is answered by.
+#[derive(Clone, Copy)]
+pub(crate) enum Choice {
+    /// The amount of the cell with this number. The query goes over the arc.
+    OfClass(usize, Arc),
+    /// Room beside the amounts of classes, over an arc of least pay.
+    Free(Arc),
+    /// Room at another server, over this arc.
+    Diverted(Arc),
+    /// There is no room.
+    Full,
+    /// There is no arc.
+    Unknown,
+}
+
+impl Choice {
+    /// What is answered.
+    pub(crate) fn answer(self) -> PriceAnswer
+        ensures { result ≡ answer_of self }
+    {
+        match self {
+            Choice::OfClass(_, arc) => PriceAnswer::Assigned(arc),
+            Choice::Free(arc) => PriceAnswer::Assigned(arc),
+            Choice::Diverted(arc) => PriceAnswer::Diverted(arc),
+            Choice::Full => PriceAnswer::Full,
+            Choice::Unknown => PriceAnswer::Unknown,
+        }
+    }
+}

@@ -1,0 +1,269 @@
+// What a query is answered by.
+
+ghost use Rattle.std.specs.Prelude.{◌≡◌, ◌≤◌, ◌<◌, ◌+◌, IfOk, OnOk, drop, filter, length, vec_len};
+ghost use Rattle.std.specs.List.{AllByRecursion};
+ghost use Rattle.hsp_instance.specs.RowArcs.{IsWithin};
+ghost use Rattle.hsp_classes.specs.Least.{least_arcs, pay_over};
+ghost use Rattle.hsp_price_check.specs.Extras.{pay_by};
+ghost use Rattle.hsp_price_check.specs.LeastPay.{AreLow};
+ghost use Rattle.hsp_price_dispatch.specs.Choosing.{assigned, at_first, by_class, by_place, by_room, can_give, choice_among};
+ghost use Rattle.hsp_price_dispatch.specs.Choosing.{class_number, elsewhere, fuller, fullest, is_fuller, place_at};
+ghost use Rattle.hsp_price_dispatch.specs.Choosing.{places_from};
+ghost use Rattle.hsp_price_dispatch.specs.Holding.{has_room, is_free};
+ghost use Rattle.hsp_price_dispatch.specs.Standing.{IsIndexOf};
+ghost use Rattle.hsp_price_dispatch.specs.declared.answer.Choice.TheVariants.{Diverted as over};
+
+use crate::answer::Choice;
+use crate::cells::Cell;
+use crate::holding::Holding;
+use hsp_instance::Arc;
+use hsp_price_check::{fill_least, fill_servers, find_class};
+use hsp_tally::FirstNumbers;
+use std::alloc::AllocError;
+
+/// An arc of a class's row, with the cell of its server and the number of this cell.
+#[derive(Clone, Copy)]
+pub(crate) struct Place {
+    pub(crate) arc: Arc,
+    pub(crate) number: usize,
+    pub(crate) cell: Cell,
+}
+
+/// What servers cost beside their arcs, and where the cells of a class stand. Nothing of it changes.
+#[derive(Drop)]
+pub(crate) struct Index {
+    pub(crate) extras: Vec<u64>,
+    pub(crate) classes: FirstNumbers,
+    pub(crate) firsts: Vec<usize>,
+}
+
+/// Lists that are written anew for each query.
+#[derive(Drop)]
+pub(crate) struct Scratch {
+    pub(crate) least: Vec<Arc>,
+    pub(crate) passing: Vec<Arc>,
+    pub(crate) servers: Vec<u32>,
+}
+
+// Whether a greater part is left of the first amount than of the second.
+fn is_fuller(a: Cell, b: Cell) -> bool
+    ensures { result ≡ is_fuller a b }
+{
+    u128::from(b.left) * u128::from(a.share) < u128::from(a.left) * u128::from(b.share)
+}
+
+// The place of which the greater part is left, the first where the parts are the same.
+fn fuller(place: Place, later: Option<Place>) -> Place
+    ensures { result ≡ fuller place later }
+{
+    match later {
+        Some(later) => {
+            if is_fuller(later.cell, place.cell) {
+                later
+            } else {
+                place
+            }
+        }
+        None => place,
+    }
+}
+
+// Whether something is left of the place's amount, and there is room.
+fn can_give(holding: &Holding<'_>, place: Place) -> bool
+    requires { place.arc.server < length holding.now.service.servers }
+    ensures { result ≡ can_give holding.now place }
+{
+    place.cell.left > 0 && holding.has_room(place.arc.server)
+}
+
+// The place of an arc, where the cell of the first one has the number `first`.
+fn place_at(cells: &[Cell], first: usize, arcs: &[Arc], at: usize) -> Place
+    requires arc { at < length arcs.now }
+    requires cell { first + at < length cells.now }
+    ensures { result ≡ place_at cells.now first arcs.now at }
+{
+    let number = first + at;
+    Place {
+        arc: arcs[at],
+        number,
+        cell: cells[number],
+    }
+}
+
+// The place of which the greatest part is left, of those over arcs that can give. Their cells stand from number
+// `first` on.
+fn fullest(holding: &Holding<'_>, first: usize, arcs: &[Arc]) -> Option<Place>
+    requires within { AllByRecursion (IsWithin (length holding.now.service.servers)) arcs.now }
+    requires cells { first + length arcs.now ≤ length holding.now.cells }
+    ensures { result ≡ fullest holding.now
+        (places_from first arcs.now (drop first holding.now.cells)) }
+{
+    let cells = holding.cells();
+    let mut best: Option<Place> = None;
+    let mut at = arcs.len();
+    'places: while at > 0 {
+        at -= 1;
+        let place = place_at(cells, first, arcs, at);
+        if can_give(holding, place) {
+            best = Some(fuller(place, best));
+        }
+    }
+    best
+}
+
+// By a place, where there is one.
+fn by_place(place: Option<Place>) -> Option<Choice>
+    ensures { result ≡ by_place place }
+{
+    match place {
+        Some(place) => Some(Choice::OfClass(place.number, place.arc)),
+        None => None,
+    }
+}
+
+// By the class of the region and these least arcs, where there is one that can give.
+fn by_class(
+    holding: &Holding<'_>,
+    index: &Index,
+    servers: &mut Vec<u32>,
+    region: &[u8],
+    least: &[Arc],
+) -> Result<Option<Choice>, AllocError>
+    requires index { IsIndexOf holding.now index.now }
+    requires within { AllByRecursion (IsWithin (length holding.now.service.servers)) least.now }
+    ensures { IfOk result (λ by. by ≡ by_class holding.now least.now
+        (class_number holding.now.plan region.now least.now)) }
+{
+    if least.len() < 2 {
+        return Ok(None);
+    }
+    fill_servers(servers, least)?;
+    let Some(class) = find_class(&index.classes, region, servers) else {
+        return Ok(None);
+    };
+    let first = index.firsts[class as usize];
+    Ok(by_place(fullest(holding, first, least)))
+}
+
+// By free room over the first of the arcs that leads to some.
+fn by_room(holding: &Holding<'_>, least: &[Arc]) -> Option<Choice>
+    requires { AllByRecursion (IsWithin (length holding.now.service.servers)) least.now }
+    ensures { result ≡ by_room holding.now least.now }
+{
+    for arc in least {
+        if holding.is_free(arc.server) {
+            return Some(Choice::Free(*arc));
+        }
+    }
+    None
+}
+
+// Writes the arcs to servers with free room over what the list had.
+fn fill_free(passing: &mut Vec<Arc>, holding: &Holding<'_>, arcs: &[Arc]) -> Result<(), AllocError>
+    requires { AllByRecursion (IsWithin (length holding.now.service.servers)) arcs.now }
+    ensures { OnOk result (passing.new.items ≡ filter (is_free holding.now) arcs.now) }
+{
+    passing.clear();
+    for arc in arcs {
+        if holding.is_free(arc.server) {
+            passing.push(*arc)?;
+        }
+    }
+    Ok(())
+}
+
+// Writes the arcs to servers with room over what the list had.
+fn fill_roomy(passing: &mut Vec<Arc>, holding: &Holding<'_>, arcs: &[Arc]) -> Result<(), AllocError>
+    requires { AllByRecursion (IsWithin (length holding.now.service.servers)) arcs.now }
+    ensures { OnOk result (passing.new.items ≡ filter (has_room holding.now) arcs.now) }
+{
+    passing.clear();
+    for arc in arcs {
+        if holding.has_room(arc.server) {
+            passing.push(*arc)?;
+        }
+    }
+    Ok(())
+}
+
+// Over the first arc of least pay.
+fn divert(least: &mut Vec<Arc>, arcs: &[Arc], extras: &[u64]) -> Result<Option<Choice>, AllocError>
+    requires within { AllByRecursion (IsWithin (length extras.now)) arcs.now }
+    requires low { AreLow extras.now }
+    ensures { IfOk result (λ by. by ≡ at_first over (least_arcs (pay_by extras.now) arcs.now)) }
+{
+    fill_least(least, arcs, extras)?;
+    match least.first() {
+        Some(arc) => Ok(Some(Choice::Diverted(*arc))),
+        None => Ok(None),
+    }
+}
+
+// Over an arc with free room, and otherwise over one with room that is held for others.
+fn elsewhere(
+    holding: &Holding<'_>,
+    index: &Index,
+    scratch: &mut Scratch,
+    arcs: &[Arc],
+) -> Result<Option<Choice>, AllocError>
+    requires index { IsIndexOf holding.now index.now }
+    requires within { AllByRecursion (IsWithin (length holding.now.service.servers)) arcs.now }
+    ensures { IfOk result (λ by. by ≡ elsewhere holding.now arcs.now) }
+{
+    fill_free(&mut scratch.passing, holding, arcs)?;
+    let free = divert(&mut scratch.least, &scratch.passing, &index.extras)?;
+    if let Some(choice) = free {
+        return Ok(Some(choice));
+    }
+    fill_roomy(&mut scratch.passing, holding, arcs)?;
+    divert(&mut scratch.least, &scratch.passing, &index.extras)
+}
+
+// By a class or by free room over the least arcs.
+fn assigned(
+    holding: &Holding<'_>,
+    index: &Index,
+    scratch: &mut Scratch,
+    region: &[u8],
+    arcs: &[Arc],
+) -> Result<Option<Choice>, AllocError>
+    requires index { IsIndexOf holding.now index.now }
+    requires within { AllByRecursion (IsWithin (length holding.now.service.servers)) arcs.now }
+    ensures { IfOk result (λ by. by ≡ assigned holding.now region.now
+        (least_arcs (pay_over holding.now.service holding.now.plan) arcs.now)) }
+{
+    fill_least(&mut scratch.least, arcs, &index.extras)?;
+    let least = scratch.least.as_slice();
+    let by = by_class(holding, index, &mut scratch.servers, region, least)?;
+    match by {
+        Some(choice) => Ok(Some(choice)),
+        None => Ok(by_room(holding, least)),
+    }
+}
+
+/// What a query from the region with these arcs is answered by.
+pub(crate) fn choose(
+    holding: &Holding<'_>,
+    index: &Index,
+    scratch: &mut Scratch,
+    region: &[u8],
+    arcs: &[Arc],
+) -> Result<Choice, AllocError>
+    requires index { IsIndexOf holding.now index.now }
+    requires within { AllByRecursion (IsWithin (length holding.now.service.servers)) arcs.now }
+    ensures { IfOk result (λ choice. choice ≡ choice_among holding.now region.now arcs.now
+        (least_arcs (pay_over holding.now.service holding.now.plan) arcs.now)) }
+{
+    if arcs.is_empty() {
+        return Ok(Choice::Unknown);
+    }
+    let least = assigned(holding, index, scratch, region, arcs)?;
+    if let Some(choice) = least {
+        return Ok(choice);
+    }
+    let other = elsewhere(holding, index, scratch, arcs)?;
+    match other {
+        Some(choice) => Ok(choice),
+        None => Ok(Choice::Full),
+    }
+}

@@ -1,0 +1,111 @@
+// A front of the dispatcher that answers by a certificate by prices.
+
+ghost use Rattle.std.specs.Prelude.{◌≡◌, ◌≤◌, ◌<◌, IfErr, IfOk, OnErr, OnOk};
+ghost use Rattle.hsp_dispatch.specs.Shares.{query};
+ghost use Rattle.hsp_price_check.specs.Classes.{service_of};
+ghost use Rattle.hsp_price_dispatch.specs.Choosing.{answer_by, left_by};
+ghost use Rattle.hsp_price_dispatch.specs.Starting.{Fits, IsBegun, Stands};
+
+use crate::answer::PriceAnswer;
+use crate::choosing::{Index, Scratch, choose};
+use crate::fault::StartFault;
+use crate::holding::Holding;
+use crate::starting::{accept, begin, index_of};
+use hsp_dispatch::front_share::Front;
+use hsp_instance::{Arc, Instance, RowArcs};
+use hsp_names::HandleRef;
+use hsp_price_text::PricedPlan;
+use hsp_tables::Costs;
+use std::alloc::{AllocError, Global};
+use std::marker::Model;
+
+/// A front that answers queries for any handle by a certificate by prices: by its share of the amounts of the
+/// certificate's classes, and by its share of the room that servers and hosts have beside these.
+#[derive(Drop)]
+pub struct PriceDispatcher<'a> {
+    arcs: RowArcs<'a>,
+    holding: Holding<'a>,
+    index: Index,
+    scratch: Scratch,
+}
+
+impl<'a> Model for PriceDispatcher<'a> {
+    ghost use Rattle.hsp_price_dispatch.specs.Holding.{Held};
+    ghost use Rattle.hsp_price_dispatch.specs.Standing.{IsIndexOf, IsOfService};
+
+    ghost Value = { Held };
+
+    ghost view = { λ d. d.holding };
+
+    ghost invariant = { λ d. IsIndexOf d.holding d.index
+        × IsOfService d.holding.service d.arcs };
+}
+
+impl<'a> PriceDispatcher<'a> {
+    /// A front before its first query, by a certificate by prices for the service of an instance and costs. Each of
+    /// `front.fronts` fronts has its share of the plan: one front alone is `Front { fronts: 1, number: 0 }`. The rows
+    /// of the instance are not read.
+    ///
+    /// # Errors
+    ///
+    /// The first reason why the plan doesn't fit the service: Shape, NoSuchServer or Load. OutOfMemory where memory
+    /// runs out.
+    pub fn new(
+        alloc: Global,
+        instance: &'a Instance,
+        costs: &'a Costs,
+        plan: &'a PricedPlan,
+        front: Front,
+    ) -> Result<PriceDispatcher<'a>, StartFault>
+        requires { front.number < front.fronts }
+        ensures begun { IfOk result
+            (IsBegun (service_of costs.now instance.now) plan.now front.fronts front.number) }
+        ensures fits { IfOk result (λ _. Fits (service_of costs.now instance.now) plan.now) }
+        ensures fault { IfErr result
+            (Stands (service_of costs.now instance.now) plan.now) }
+    {
+        // The table of costs is within its limits.
+        let _rows = costs.len();
+        let accepted = accept(alloc, instance, plan)?;
+        let index = index_of(alloc, plan, &accepted.numbers)?;
+        let holding = begin(alloc, instance, costs, plan, accepted, front)?;
+        Ok(PriceDispatcher {
+            arcs: RowArcs::new(alloc, instance.sites(), costs),
+            holding,
+            index,
+            scratch: Scratch {
+                least: Vec::new(alloc),
+                passing: Vec::new(alloc),
+                servers: Vec::new(alloc),
+            },
+        })
+    }
+
+    /// Answers a query for a handle from a region, and takes it from what the front has left. The region is a name.
+    ///
+    /// # Errors
+    ///
+    /// An `AllocError` where memory runs out. Then nothing is taken.
+    pub fn assign(
+        &mut self,
+        alloc: Global,
+        region: &[u8],
+        handle: HandleRef<'_>,
+    ) -> Result<PriceAnswer, AllocError>
+        ensures answer { IfOk result
+            (λ answer. answer ≡ answer_by self.old (query region.now handle.entry)) }
+        ensures left { OnOk result (self.new ≡ left_by self.old (query region.now handle.entry)) }
+        ensures stays { OnErr result (self.new ≡ self.old) }
+    {
+        self.arcs.find(alloc, region, handle)?;
+        let choice = choose(
+            &self.holding,
+            &self.index,
+            &mut self.scratch,
+            region,
+            self.arcs.arcs(),
+        )?;
+        self.holding.take(choice);
+        Ok(choice.answer())
+    }
+}

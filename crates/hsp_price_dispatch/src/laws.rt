@@ -1,0 +1,54 @@
+// What holds of every plan and of every list of queries.
+
+ghost use Rattle.hsp_price_dispatch.specs.Laws.{AnswersAlone, EndsInTheSame, GoesByItsEntries, GoesOverItsArcs};
+ghost use Rattle.hsp_price_dispatch.specs.Laws.{IsFullWithoutRoom, LeastAreArcs, NeverExceeds, NeverExceedsTogether};
+ghost use Rattle.hsp_price_dispatch.specs.Laws.{RoomsAddUp, TakesHostRoom, TakesRoom};
+ghost use Rattle.hsp_price_dispatch.specs.Planned.{IsServedByPlan};
+
+/// Each query that goes to a server takes one of its room and of its host's. So no server and no host gets more than
+/// its room at the beginning, whatever is asked.
+pub fn within_room()
+    ensures takes { TakesRoom }
+    ensures takes_at_hosts { TakesHostRoom }
+    ensures exceeds { NeverExceeds }
+{}
+
+/// The rooms of all fronts add up to what each server and each host takes. So all fronts together send no server and
+/// no host more, whatever each is asked.
+pub fn fronts_within()
+    ensures rooms { RoomsAddUp }
+    ensures exceeds { NeverExceedsTogether }
+{}
+
+/// An assigned query goes over one of its least arcs, and a diverted one over one of its arcs: to a site where its
+/// region has a cost, and to the server that its handle's hash fixes there.
+pub fn goes_over_its_arcs()
+    ensures goes { GoesOverItsArcs }
+    ensures least { LeastAreArcs }
+{}
+
+/// A query is answered by `Full` only where the server of each of its arcs, or its host, has no room left.
+pub fn full_without_room()
+    ensures { IsFullWithoutRoom }
+{}
+
+/// Each front answers by what it began with and by its own earlier entries, as if there were no other.
+pub fn fronts_alone()
+    ensures { AnswersAlone }
+{}
+
+/// Two lists of events that have the same entries at a front have the same answers there, and leave the same there.
+pub fn front_apart()
+    ensures { GoesByItsEntries }
+{}
+
+/// Where queries ask one front for no more than the plan has, each is assigned, and no server gets more than the plan
+/// brings there.
+pub fn served_by_plan()
+    ensures { IsServedByPlan }
+{}
+
+/// Two interleavings of the same fronts' lists end in the same at each front.
+pub fn order_of_fronts()
+    ensures { EndsInTheSame }
+{}
