@@ -3,9 +3,11 @@ use Rattle.std.proofs.Common.{◌≡◌, ◌<◌, ◌≤◌, ◌+◌, ◌-◌, �
 use Rattle.std.proofs.Common.{All, None, Option, Some, ap, arith, drop, eq-eqb, get_or, if◌then◌else◌, inl, inr}
 use Rattle.std.proofs.Common.{get_or-set_other, get_or-set_same, is_some, length, length-set, map, nat_lt, position}
 use Rattle.std.proofs.Common.{refl, slice_index, slice_set, subst, sum, sym, take}
+use Rattle.std.proofs.Common.{ne_eqb}
 use Rattle.std.specs.List.{AllByRecursion, flat_map, zip}
 use Rattle.std.proofs.lemmas.List.Concat.{get_or-flat_map}
 use Rattle.std.proofs.lemmas.Bool.{and_from, and_parts, cases_eq, cases_lt, lt-ltb, ltb-true, true≢false}
+use Rattle.std.proofs.lemmas.List.{get_or_default, take_all}
 use Rattle.std.proofs.lemmas.List.{drop_all, drop_more, get_or-map, get_or_past, length-map}
 use Rattle.std.proofs.lemmas.List.Elements.{All-from_recursion, All-head, All-tail}
 use Rattle.std.proofs.lemmas.List.Quantifiers.{position-Some}
@@ -40,6 +42,7 @@ use Rattle.hsp_price_dispatch.specs.Laws.{answers_to, count_at, left_after}
 use Rattle.hsp_price_dispatch.specs.Starting.{Fits, IsBegun, capacity_at, cell_of, cells_of, limit_at}
 use Rattle.hsp_price_dispatch.specs.declared.answer.Choice.{Choice}
 use Rattle.hsp_price_dispatch.specs.declared.answer.Choice.TheVariants.{OfClass, Free}
+use Rattle.hsp_price_dispatch.specs.declared.answer.Choice.TheVariants as choice
 use Rattle.hsp_price_dispatch.specs.declared.cells.Cell.{Cell}
 use Rattle.hsp_price_dispatch.specs.declared.choosing.Place.{Place}
 use Rattle.hsp_price_dispatch.proofs.Chosen.{OnPlace, free_room, on_fullest}
@@ -47,7 +50,7 @@ use Rattle.hsp_price_dispatch.proofs.ClassParts.{cells_apart, left_from, left_ke
 use Rattle.hsp_price_dispatch.proofs.Held.{given_left, some_left as some_where}
 use Rattle.hsp_price_dispatch.proofs.Indexing.{choice_some, full_first, or_first, several_have}
 use Rattle.hsp_price_dispatch.proofs.Begun.{cells_enough, cells_many}
-use Rattle.hsp_price_dispatch.proofs.FirstCells.{sends_many}
+use Rattle.hsp_price_dispatch.proofs.FirstCells.{next_cell, sends_many}
 use Rattle.hsp_price_dispatch.proofs.Fronts.{sends_there}
 use Rattle.hsp_price_dispatch.proofs.RoomTaken.{host_takes, one_if, server_takes, takes_room}
 use Rattle.hsp_price_dispatch.proofs.Sums.{all_sends, host_load_is, left_is, load_is, sent_where, shares_together, whole}
@@ -161,7 +164,7 @@ server_stays cells n k = elim (cases_eq k n) [
 
 -- ---- what a front has, and what is still asked
 
-pub record IsReady (own : Held) (entries : List Entry) (slack host_slack : ℕ → ℕ) : Type 0 where
+pub record IsReady (own : Held) (entries : List Entry) (slack host_slack class_slack : ℕ → ℕ) : Type 0 where
   pub placed : All (λ entry. is_placed own.service own.plan entry ≡ true) entries
   pub many : (k : ℕ) → k < length own.plan.classes
       → length (sends (class_at own.plan k)) ≡ length (class_at own.plan k).servers
@@ -170,16 +173,17 @@ pub record IsReady (own : Held) (entries : List Entry) (slack host_slack : ℕ �
   pub servers : (k i : ℕ) → k < length own.plan.classes → i < length (class_at own.plan k).servers
       → (cell_at own.cells (first_cell own.plan.classes k + i)).server ≡ slice_index (class_at own.plan k).servers i
   pub classes : (k : ℕ) → k < length own.plan.classes
-      → asked_at own.service own.plan k entries
-      ≤ left_from own.cells (first_cell own.plan.classes k) (length (class_at own.plan k).servers)
+      → left_from own.cells (first_cell own.plan.classes k) (length (class_at own.plan k).servers)
+      ≡ asked_at own.service own.plan k entries + class_slack k
+  pub all_cells : length own.cells ≡ first_cell own.plan.classes (length own.plan.classes)
   pub rooms : (j : ℕ) → room_at own j
       ≡ held_at own j + (alone_where own.service own.plan (λ i. i == j) entries + slack j)
   pub host_rooms : (h : ℕ) → host_room_at own h
       ≡ host_held_at own h
       + (alone_where own.service own.plan (λ i. is_on (host_at own.service i) h) entries + host_slack h)
 
-module _ (own : Held) (entry : Entry) (entries : List Entry) (slack host_slack : ℕ → ℕ)
-    (is : IsReady own (entry ∷ entries) slack host_slack) where
+module _ (own : Held) (entry : Entry) (entries : List Entry) (slack host_slack class_slack : ℕ → ℕ)
+    (is : IsReady own (entry ∷ entries) slack host_slack class_slack) where
   abbrev arcs : List Arc
   arcs = arcs_of own.service (row_of entry)
 
@@ -238,7 +242,12 @@ module _ (own : Held) (entry : Entry) (entries : List Entry) (slack host_slack :
         choice_some own entry.region arcs least some
         ∙ sym (full_first (Free arc) (assigned own entry.region least) (elsewhere own arcs) by)
 
-    pub ready_alone : IsReady (with_query_at own arc.server) entries slack host_slack
+    -- it is of no class
+    no_number : (k : ℕ) → one_if (is_number k class) ≡ 0
+    no_number k =
+        ap (λ (list : List Arc). one_if (is_number k (class_number own.plan entry.region list))) one
+
+    pub ready_alone : IsReady (with_query_at own arc.server) entries slack host_slack class_slack
     ready_alone =
         let room = free_room own arc.server free in
         record {
@@ -246,7 +255,8 @@ module _ (own : Held) (entry : Entry) (entries : List Entry) (slack host_slack :
           many = is.many;
           inside = is.inside;
           servers = is.servers;
-          classes = λ k l. omega (arith, is.classes k l, asked_split k);
+          classes = λ k l. omega (arith, is.classes k l, asked_split k, no_number k);
+          all_cells = is.all_cells;
           rooms = λ j.
               omega (
                 arith,
@@ -382,34 +392,37 @@ module _ (own : Held) (entry : Entry) (entries : List Entry) (slack host_slack :
       room_here = rw (one_server i inside) (roomy i inside left)
 
       classes_after : (m : ℕ) → m < length own.plan.classes
-          → asked_at own.service own.plan m entries
-          ≤ left_from new.cells (first_cell own.plan.classes m) (length (class_at own.plan m).servers)
+          → left_from new.cells (first_cell own.plan.classes m) (length (class_at own.plan m).servers)
+          ≡ asked_at own.service own.plan m entries + class_slack m
       classes_after m l = elim (cases_eq k m) [
         | inl same ↦
             let less = left_less own.cells first (length servers) i (omega (arith, inside, long)) there left in
             let bound = is.classes k found.0 in
             let split = asked_split k in
-            let here : asked_at own.service own.plan k entries ≤ left_from new.cells first (length servers) =
+            let here : left_from new.cells first (length servers)
+            ≡ asked_at own.service own.plan k entries + class_slack k =
             omega (arith, less, bound, split, asked_one) in
             subst
-            (λ (c : ℕ). asked_at own.service own.plan c entries
-            ≤ left_from new.cells (first_cell own.plan.classes c) (length (class_at own.plan c).servers)) same here
+            (λ (c : ℕ). left_from new.cells (first_cell own.plan.classes c) (length (class_at own.plan c).servers)
+            ≡ asked_at own.service own.plan c entries + class_slack c) same here
         | inr other ↦
             let kept =
             left_kept own.cells (first_cell own.plan.classes m) (length (class_at own.plan m).servers) n
             (one_given (cell_at own.cells n))
             (λ c low together.
             cells_apart own.plan.classes is.many k m i c other found.0 l (omega (arith, inside, long)) low together) in
-            omega (arith, kept, is.classes m l, asked_split m)
+            let none : one_if (is_number m class) ≡ 0 = rw (of_class, ne_eqb k m other) refl in
+            omega (arith, kept, is.classes m l, asked_split m, none)
       ]
 
-      ready_class : IsReady new entries slack host_slack
+      ready_class : IsReady new entries slack host_slack class_slack
       ready_class = record {
         placed = All-tail (λ e. is_placed own.service own.plan e ≡ true) entry entries is.placed;
         many = is.many;
         inside = λ m l. omega (arith, is.inside m l, length-set own.cells n (one_given (cell_at own.cells n)));
         servers = λ m c l low. server_stays own.cells n (first_cell own.plan.classes m + c) ∙ is.servers m c l low;
         classes = classes_after;
+        all_cells = length-set own.cells n (one_given (cell_at own.cells n)) ∙ is.all_cells;
         rooms = λ s.
             omega (
               arith,
@@ -436,13 +449,13 @@ module _ (own : Held) (entry : Entry) (entries : List Entry) (slack host_slack :
 
   -- the query is assigned, and the rest can be
   abbrev Goes : Type 0
-  Goes = (is_assigned (answer_by own entry) ≡ true) × IsReady (left_by own entry) entries slack host_slack
+  Goes = (is_assigned (answer_by own entry) ≡ true) × IsReady (left_by own entry) entries slack host_slack class_slack
 
   goes_by : (by : Choice) → choice_for own entry ≡ by → is_assigned (answer_of by) ≡ true
-      → IsReady (left_with own by) entries slack host_slack → Goes
+      → IsReady (left_with own by) entries slack host_slack class_slack → Goes
   goes_by by e so ready = (
     ap (λ (c : Choice). is_assigned (answer_of c)) e ∙ so,
-    subst (λ (c : Choice). IsReady (left_with own c) entries slack host_slack) (sym e) ready,
+    subst (λ (c : Choice). IsReady (left_with own c) entries slack host_slack class_slack) (sym e) ready,
   )
 
   goes_class : 2 ≤ length least → is_some class ≡ true → Goes
@@ -477,17 +490,95 @@ all_cons : {A : Type 0} (P : A → Type 0) (x : A) (xs : List A) → P x → All
 all_cons P x xs here all zero d l = here
 all_cons P x xs here all (suc k) d l = all k d (omega arith)
 
-all_go : (own : Held) (entries : List Entry) (slack host_slack : ℕ → ℕ) → IsReady own entries slack host_slack
+all_go : (own : Held) (entries : List Entry) (slack host_slack class_slack : ℕ → ℕ) → IsReady own entries slack host_slack class_slack
     → All (λ answer. is_assigned answer ≡ true) (answers_to own entries)
-    × IsReady (left_after own entries) [] slack host_slack
-all_go own [] slack host_slack is = ((λ k d l. absurd (omega arith)), is)
-all_go own (entry ∷ entries) slack host_slack is =
-    let one = goes own entry entries slack host_slack is in
-    let more = all_go (left_by own entry) entries slack host_slack one.1 in (
+    × IsReady (left_after own entries) [] slack host_slack class_slack
+all_go own [] slack host_slack class_slack is = ((λ k d l. absurd (omega arith)), is)
+all_go own (entry ∷ entries) slack host_slack class_slack is =
+    let one = goes own entry entries slack host_slack class_slack is in
+    let more = all_go (left_by own entry) entries slack host_slack class_slack one.1 in (
       all_cons (λ answer. is_assigned answer ≡ true) (answer_by own entry) (answers_to (left_by own entry) entries) one.0
           more.0,
       more.1,
     )
+
+-- ---- the end
+
+either : (t : Bool) (n : ℕ) → n ≡ 0 → (if t then n else 0) ≡ 0
+either true n e = e
+either false n e = refl
+
+-- cells with nothing left have nothing anywhere
+nothing_where : (test : ℕ → Bool) (cells : List Cell) → All (λ (cell : Cell). cell.left ≡ 0) cells
+    → left_where test cells ≡ 0
+nothing_where test [] all = refl
+nothing_where test (cell ∷ cells) all =
+    let none = All-head (λ (cell : Cell). cell.left ≡ 0) cell cells all in
+    let here : (if test cell.server then cell.left else 0) ≡ 0 = either (test cell.server) cell.left none in
+    let more = nothing_where test cells (All-tail (λ (cell : Cell). cell.left ≡ 0) cell cells all) in
+    omega (arith, sum_by-cons (λ (cell : Cell). if test cell.server then cell.left else 0) cell cells, here, more)
+
+-- the plan stays
+plan_with : (own : Held) (by : Choice) → (left_with own by).plan ≡ own.plan
+plan_with own (choice.OfClass n arc) = refl
+plan_with own (choice.Free arc) = refl
+plan_with own (choice.Diverted arc) = refl
+plan_with own choice.Full = refl
+plan_with own choice.Unknown = refl
+
+plan_stays : (own : Held) (entries : List Entry) → (left_after own entries).plan ≡ own.plan
+plan_stays own [] = refl
+plan_stays own (entry ∷ entries) = plan_stays (left_by own entry) entries ∙ plan_with own (choice_for own entry)
+
+-- no term of a sum of nothing is more
+no_term : (cells : List Cell) (first many i : ℕ) → i < many → left_from cells first many ≡ 0
+    → (cell_at cells (first + i)).left ≡ 0
+no_term cells first zero i l none = absurd (omega arith)
+no_term cells first (suc many) i l none = elim (cases_eq i many) [
+  | inl last ↦ rw last (omega (arith, none))
+  | inr before ↦ no_term cells first many i (omega (arith, l, before)) (omega (arith, none))
+]
+
+-- each cell is one of a class
+class_of_cell : (classes : List Class) (n upto : ℕ) → upto ≤ length classes → n < first_cell classes upto
+    → (k : ℕ) × (i : ℕ) × (k < upto) × (i < length (sends (get_or classes k no_class)))
+    × (n ≡ first_cell classes k + i)
+class_of_cell classes n zero room inside = absurd (omega arith)
+class_of_cell classes n (suc upto) room inside = elim (cases_lt n (first_cell classes upto)) [
+  | inl before ↦
+      let more = class_of_cell classes n upto (omega arith) before in
+      (more.0, more.1, omega (arith, more.2), more.3, more.4)
+  | inr here ↦
+      let next =
+      next_cell classes upto no_class (first_cell classes upto) (length (sends (get_or classes upto no_class)))
+      (omega arith) refl (sends_many (get_or classes upto no_class)) in
+      let e : upto + 1 ≡ suc upto = omega arith in
+      let step = rw e at next in (
+        upto,
+        n - first_cell classes upto,
+        omega arith,
+        omega (arith, step, inside, here),
+        omega (arith, here),
+      )
+]
+
+-- where nothing is left of any class, nothing is left of any cell
+no_cells_left : (test : ℕ → Bool) (cells : List Cell) (classes : List Class)
+    → ((k : ℕ) → k < length classes
+    → left_from cells (first_cell classes k) (length (get_or classes k no_class).servers) ≡ 0)
+    → ((k : ℕ) → k < length classes
+    → length (sends (get_or classes k no_class)) ≡ length (get_or classes k no_class).servers)
+    → length cells ≡ first_cell classes (length classes) → left_where test cells ≡ 0
+no_cells_left test cells classes none many long =
+    nothing_where test cells
+    (λ n d l.
+    let at = class_of_cell classes n (length classes) (omega arith) (omega (arith, l, long)) in
+    let i : at.1 < length (get_or classes at.0 no_class).servers = omega (arith, at.3, many at.0 at.2) in
+    let here = no_term cells (first_cell classes at.0) (length (get_or classes at.0 no_class).servers) at.1 i
+    (none at.0 at.2) in
+    let same : get_or cells n d ≡ cell_at cells (first_cell classes at.0 + at.1) =
+    get_or_default cells n d no_cell l ∙ ap (cell_at cells) at.4 in
+    ap (λ (cell : Cell). cell.left) same ∙ here)
 
 -- ---- the beginning
 
@@ -555,6 +646,9 @@ module _ (own : Held) (entries : List Entry) (fits_text : is_best own.plan ≡ t
       capacity_at own.service j
       - (load_at own.service own.plan [] j + alone_where own.service own.plan (λ i. i == j) entries)
 
+  abbrev class_slack : ℕ → ℕ
+  class_slack k = sum (class_at own.plan k).amounts - asked_at own.service own.plan k entries
+
   abbrev host_slack : ℕ → ℕ
   host_slack h =
       limit_at own.service h
@@ -598,23 +692,45 @@ module _ (own : Held) (entries : List Entry) (fits_text : is_best own.plan ≡ t
         omega (arith, none, no_limit, within.hosts h, held_host h)
   ]
 
-  ready_start : IsReady own entries slack host_slack
+  ready_start : IsReady own entries slack host_slack class_slack
   ready_start = record {
     placed = within.placed;
     many = sends_long;
     inside = rw begun.cells (cells_enough 1 0 own.plan fits_text);
     servers = λ k i l low. ap (λ (cell : Cell). cell.server) (cell_start k i l low);
     classes = λ k l. omega (arith, within.classes k l, classes_start k l);
+    all_cells = rw begun.cells (cells_many 1 0 classes) ∙ ap (λ list. length (flat_map sends list)) (sym (take_all (length classes) classes (omega arith)));
     rooms = rooms_start;
     host_rooms = host_rooms_start;
   }
 
+  -- where each class is asked for its amounts nothing is left at the end
+  nothing_left : ((k : ℕ) → k < length classes
+      → asked_at own.service own.plan k entries ≡ sum (class_at own.plan k).amounts)
+      → (end : Held) → end.plan ≡ own.plan → IsReady end [] slack host_slack class_slack → (test : ℕ → Bool)
+      → left_where test end.cells ≡ 0
+  nothing_left exact end same is test =
+      no_cells_left test end.cells end.plan.classes
+      (λ k l.
+      let own_l : k < length classes = rw same at l in
+      let no_slack : class_slack k ≡ 0 = omega (arith, exact k own_l) in
+      omega (arith, is.classes k l, no_slack)) is.many is.all_cells
+
   served : All (λ answer. is_assigned answer ≡ true) (answers_to own entries)
       × ((j : ℕ) → count_at j (answers_to own entries)
       ≤ alone_where own.service own.plan (λ i. i == j) entries + load_at own.service own.plan [] j)
+      × (((k : ℕ) → k < length classes
+      → asked_at own.service own.plan k entries ≡ sum (class_at own.plan k).amounts)
+      → (j : ℕ) → count_at j (answers_to own entries)
+      ≡ alone_where own.service own.plan (λ i. i == j) entries + load_at own.service own.plan [] j)
   served =
-      let all = all_go own entries slack host_slack ready_start in
-      (all.0, λ j. omega (arith, takes_room own entries j, rooms_start j, all.1.rooms j, held_server j))
+      let all = all_go own entries slack host_slack class_slack ready_start in (
+        all.0,
+        λ j. omega (arith, takes_room own entries j, rooms_start j, all.1.rooms j, held_server j),
+        λ exact j.
+            let none = nothing_left exact (left_after own entries) (plan_stays own entries) all.1 (λ i. i == j) in
+            omega (arith, takes_room own entries j, rooms_start j, all.1.rooms j, held_server j, none),
+      )
 
 pub served_by_plan : IsServedByPlan
 served_by_plan at plan own entries text fits begun within =

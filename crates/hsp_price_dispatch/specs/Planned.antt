@@ -62,7 +62,7 @@ is_assigned Full = false
 is_assigned Unknown = false
 
 -- Then one front assigns each of them, and brings to each server no more than the plan does: its classes' amounts, and
--- the queries that have it as only least server.
+-- the queries that have it as only least server. Where each class is asked for exactly its amounts, it brings just that.
 abbrev pub IsServedByPlan : Type 0
 IsServedByPlan =
     (at : Service) (plan : Best) (own : Held) (entries : List Entry) → IsCertificate (certificate.Plan plan)
@@ -70,3 +70,6 @@ IsServedByPlan =
     → All (λ answer. is_assigned answer ≡ true) (answers_to own entries)
     × ((j : ℕ) → count_at j (answers_to own entries)
     ≤ alone_where at plan (λ i. i == j) entries + load_at at plan [] j)
+    × (((k : ℕ) → k < length plan.classes → asked_at at plan k entries ≡ sum (class_at plan k).amounts)
+    → (j : ℕ) → count_at j (answers_to own entries)
+    ≡ alone_where at plan (λ i. i == j) entries + load_at at plan [] j)

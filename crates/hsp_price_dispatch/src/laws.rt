@@ -43,7 +43,7 @@ pub fn front_apart()
 {}
 
 /// Where queries ask one front for no more than the plan has, each is assigned, and no server gets more than the plan
-/// brings there.
+/// brings there. Where each class is asked for exactly its amounts, each server gets just that.
 pub fn served_by_plan()
     ensures { IsServedByPlan }
 {}
