@@ -1,4 +1,4 @@
-// Tests of the dispatcher, of fronts and of the reports.
+// Tests of the dispatcher, of fronts, of the dispatcher by prices, and of the reports.
 #![tactic(auto)]
 
 #[cfg(test)]
@@ -15,6 +15,8 @@ mod front_run_tests;
 mod fronts_tests;
 #[cfg(test)]
 mod log_cases;
+#[cfg(test)]
+mod price_dispatch_tests;
 #[cfg(test)]
 mod report_tests;
 #[cfg(test)]

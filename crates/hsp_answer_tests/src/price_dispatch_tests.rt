@@ -1,0 +1,259 @@
+// The dispatcher by a certificate by prices, of the worked service.
+//
+// 10/1 may go to the servers 1 and 4, 10/2 to 0 and 3, and 10/3 to 1 and 2. The servers 0 and 1 take 10 and 6, and
+// 2, 3 and 4 take 2, 10 and 10.
+
+use crate::building::instance_by;
+use crate::same::is_same;
+use hsp_dispatch::front_share::Front;
+use hsp_instance::{Arc, Instance};
+use hsp_names::HandleRef;
+use hsp_price_dispatch::{PriceAnswer, PriceDispatcher, StartFault};
+use hsp_price_text::{PriceCertificate, read_prices};
+use hsp_tables::{Costs, read_costs};
+use hsp_test_support::service::{CAPACITY, COSTS, DEMAND, HOST, SETTINGS};
+use std::alloc::Global;
+use std::process::Abort;
+
+// The server 1 has the price 1. Of the queries from r2 for 10/3 one goes there, and two go to the server 2.
+const PLAN: &[u8] =
+    b"HSPLAN PRICES 1\nPLAN\ncost 17\nserver 0 0\nserver 1 1\nserver 2 0\nserver 3 0\nserver 4 0\n\
+    class r2 1 1 2 2\nEND\n";
+
+// The same with the host of the servers 0 and 1, whose price is 0.
+const HOSTED_PLAN: &[u8] =
+    b"HSPLAN PRICES 1\nPLAN\ncost 17\nserver 0 0\nserver 1 1\nserver 2 0\nserver 3 0\nserver 4 0\nhost 0 0\n\
+    class r2 1 1 2 2\nEND\n";
+
+// The server 2 takes 2.
+const TOO_MUCH: &[u8] =
+    b"HSPLAN PRICES 1\nPLAN\ncost 17\nserver 0 0\nserver 1 1\nserver 2 0\nserver 3 0\nserver 4 0\n\
+    class r2 1 1 2 3\nEND\n";
+
+const NO_SUCH_SERVER: &[u8] =
+    b"HSPLAN PRICES 1\nPLAN\ncost 17\nserver 0 0\nserver 1 1\nserver 2 0\nserver 3 0\nserver 4 0\n\
+    class r2 1 1 5 2\nEND\n";
+
+// One price is absent.
+const TOO_SHORT: &[u8] =
+    b"HSPLAN PRICES 1\nPLAN\ncost 17\nserver 0 0\nserver 1 1\nserver 2 0\nserver 3 0\n\
+    class r2 1 1 2 2\nEND\n";
+
+// ---- what a dispatcher stands on
+
+#[derive(Drop)]
+struct Held {
+    instance: Instance,
+    costs: Costs,
+    certificate: PriceCertificate,
+}
+
+// The worked service with these hosts, and a certificate. The host takes 8.
+fn made(alloc: Global, hosts: &[u8], prices: &[u8]) -> Option<Held> {
+    let mut settings = Vec::from_slice(alloc, SETTINGS).ok()?;
+    settings.extend_from_slice(hosts).ok()?;
+    Some(Held {
+        instance: instance_by(alloc, &settings, DEMAND, COSTS, CAPACITY)?,
+        costs: read_costs(alloc, COSTS).ok()?,
+        certificate: read_prices(alloc, prices).ok()?,
+    })
+}
+
+// The same, once more where memory ran out.
+fn held(rt: &impl Abort, alloc: Global, hosts: &[u8], prices: &[u8]) -> Held {
+    match made(alloc, hosts, prices) {
+        Some(held) => held,
+        None => made(alloc, hosts, prices).expect(rt, "the texts are right"),
+    }
+}
+
+type Started<'a> = Result<PriceDispatcher<'a>, StartFault>;
+
+// A front before its first query. There are two of them at most.
+fn start_once(alloc: Global, held: &Held, fronts: u32, number: u32) -> Started<'_> {
+    let PriceCertificate::Plan(plan) = &held.certificate else {
+        return Err(StartFault::OutOfMemory);
+    };
+    if number >= fronts {
+        return Err(StartFault::OutOfMemory);
+    }
+    let front = Front { fronts, number };
+    PriceDispatcher::new(alloc, &held.instance, &held.costs, plan, front)
+}
+
+// The same, once more where memory ran out.
+fn start(alloc: Global, held: &Held, fronts: u32, number: u32) -> Started<'_> {
+    match start_once(alloc, held, fronts, number) {
+        Err(StartFault::OutOfMemory) => start_once(alloc, held, fronts, number),
+        started => started,
+    }
+}
+
+// ---- queries
+
+#[derive(Clone, Copy)]
+struct Query {
+    region: &'static [u8],
+    handle: &'static [u8],
+}
+
+const FIRST: Query = Query {
+    region: b"r1",
+    handle: b"10/1",
+};
+
+const SECOND: Query = Query {
+    region: b"r1",
+    handle: b"10/2",
+};
+
+const THIRD: Query = Query {
+    region: b"r2",
+    handle: b"10/3",
+};
+
+const ELSEWHERE: Query = Query {
+    region: b"r9",
+    handle: b"10/3",
+};
+
+fn arc(site: u32, server: u32, cost: u64) -> Arc {
+    Arc { site, server, cost }
+}
+
+// So many such queries have this answer each. A query that memory ran out for is asked again.
+fn get(
+    rt: &impl Abort,
+    alloc: Global,
+    dispatcher: &mut PriceDispatcher<'_>,
+    query: Query,
+    wanted: (u32, PriceAnswer),
+) {
+    let handle = HandleRef::parse(query.handle).expect(rt, "the handle is one");
+    for _again in 0..wanted.0 {
+        let answer = match dispatcher.assign(alloc, query.region, handle) {
+            Ok(answer) => Ok(answer),
+            Err(_) => dispatcher.assign(alloc, query.region, handle),
+        };
+        is_same(rt, answer.ok(), Some(wanted.1));
+    }
+}
+
+// The first amount goes first where the parts are the same. Then the second one has the greater part left. When both
+// are used up, the first least server with free room takes the rest.
+fn ask_a_class(rt: &impl Abort, alloc: Global, dispatcher: &mut PriceDispatcher<'_>) {
+    let near = PriceAnswer::Assigned(arc(0, 1, 2));
+    let far = PriceAnswer::Assigned(arc(1, 2, 3));
+    get(rt, alloc, dispatcher, THIRD, (1, near));
+    get(rt, alloc, dispatcher, THIRD, (2, far));
+    get(rt, alloc, dispatcher, THIRD, (5, near));
+    get(rt, alloc, dispatcher, THIRD, (2, PriceAnswer::Full));
+    get(rt, alloc, dispatcher, ELSEWHERE, (1, PriceAnswer::Unknown));
+}
+
+#[test]
+fn a_class_goes_by_its_amounts_and_then_into_free_room(rt: HostRuntime) {
+    let alloc = rt.alloc();
+    let held = held(&rt, alloc, b"", PLAN);
+    match start(alloc, &held, 1, 0) {
+        Ok(mut dispatcher) => ask_a_class(&rt, alloc, &mut dispatcher),
+        Err(fault) => is_same(&rt, Some(fault), None),
+    }
+}
+
+// Room that is held for a class goes last. What the class has lost so, it gets no more.
+fn ask_too_much(rt: &impl Abort, alloc: Global, dispatcher: &mut PriceDispatcher<'_>) {
+    let least = PriceAnswer::Assigned(arc(0, 1, 1));
+    let other = PriceAnswer::Diverted(arc(1, 4, 4));
+    let taken = PriceAnswer::Diverted(arc(0, 1, 1));
+    get(rt, alloc, dispatcher, FIRST, (5, least));
+    get(rt, alloc, dispatcher, FIRST, (10, other));
+    get(rt, alloc, dispatcher, FIRST, (1, taken));
+    get(rt, alloc, dispatcher, FIRST, (1, PriceAnswer::Full));
+    let far = PriceAnswer::Assigned(arc(1, 2, 3));
+    get(rt, alloc, dispatcher, THIRD, (2, far));
+    get(rt, alloc, dispatcher, THIRD, (1, PriceAnswer::Full));
+}
+
+#[test]
+fn room_that_is_held_goes_last(rt: HostRuntime) {
+    let alloc = rt.alloc();
+    let held = held(&rt, alloc, b"", PLAN);
+    match start(alloc, &held, 1, 0) {
+        Ok(mut dispatcher) => ask_too_much(&rt, alloc, &mut dispatcher),
+        Err(fault) => is_same(&rt, Some(fault), None),
+    }
+}
+
+// The host has room for 7 beside the class, and its server 0 for 10.
+fn ask_a_host(rt: &impl Abort, alloc: Global, dispatcher: &mut PriceDispatcher<'_>) {
+    let least = PriceAnswer::Assigned(arc(0, 0, 1));
+    let other = PriceAnswer::Diverted(arc(1, 3, 4));
+    let taken = PriceAnswer::Diverted(arc(0, 0, 1));
+    get(rt, alloc, dispatcher, SECOND, (7, least));
+    get(rt, alloc, dispatcher, SECOND, (10, other));
+    get(rt, alloc, dispatcher, SECOND, (1, taken));
+    get(rt, alloc, dispatcher, SECOND, (1, PriceAnswer::Full));
+}
+
+#[test]
+fn a_host_may_fill_before_its_servers(rt: HostRuntime) {
+    let alloc = rt.alloc();
+    let held = held(&rt, alloc, HOST, HOSTED_PLAN);
+    match start(alloc, &held, 1, 0) {
+        Ok(mut dispatcher) => ask_a_host(&rt, alloc, &mut dispatcher),
+        Err(fault) => is_same(&rt, Some(fault), None),
+    }
+}
+
+// The first of two fronts has one query of each amount, and 3 of the free room of the server 1.
+fn ask_the_first(rt: &impl Abort, alloc: Global, dispatcher: &mut PriceDispatcher<'_>) {
+    let near = PriceAnswer::Assigned(arc(0, 1, 2));
+    let far = PriceAnswer::Assigned(arc(1, 2, 3));
+    get(rt, alloc, dispatcher, THIRD, (1, near));
+    get(rt, alloc, dispatcher, THIRD, (1, far));
+    get(rt, alloc, dispatcher, THIRD, (3, near));
+    get(rt, alloc, dispatcher, THIRD, (1, PriceAnswer::Full));
+}
+
+// The second one has none of the first amount, one of the second, and 2 of the free room.
+fn ask_the_second(rt: &impl Abort, alloc: Global, dispatcher: &mut PriceDispatcher<'_>) {
+    let near = PriceAnswer::Assigned(arc(0, 1, 2));
+    let far = PriceAnswer::Assigned(arc(1, 2, 3));
+    get(rt, alloc, dispatcher, THIRD, (1, far));
+    get(rt, alloc, dispatcher, THIRD, (2, near));
+    get(rt, alloc, dispatcher, THIRD, (1, PriceAnswer::Full));
+}
+
+#[test]
+fn fronts_have_their_shares(rt: HostRuntime) {
+    let alloc = rt.alloc();
+    let held = held(&rt, alloc, b"", PLAN);
+    match start(alloc, &held, 2, 0) {
+        Ok(mut dispatcher) => ask_the_first(&rt, alloc, &mut dispatcher),
+        Err(fault) => is_same(&rt, Some(fault), None),
+    }
+    match start(alloc, &held, 2, 1) {
+        Ok(mut dispatcher) => ask_the_second(&rt, alloc, &mut dispatcher),
+        Err(fault) => is_same(&rt, Some(fault), None),
+    }
+}
+
+// A dispatcher by this certificate has this fault.
+fn has_fault(rt: &impl Abort, alloc: Global, prices: &[u8], wanted: StartFault) {
+    let held = held(rt, alloc, b"", prices);
+    let fault = match start(alloc, &held, 1, 0) {
+        Ok(_dispatcher) => None,
+        Err(fault) => Some(fault),
+    };
+    is_same(rt, fault, Some(wanted));
+}
+
+#[test]
+fn a_plan_that_does_not_fit_is_refused(rt: HostRuntime) {
+    let alloc = rt.alloc();
+    has_fault(&rt, alloc, TOO_SHORT, StartFault::Shape);
+    has_fault(&rt, alloc, HOSTED_PLAN, StartFault::Shape);
+    has_fault(&rt, alloc, NO_SUCH_SERVER, StartFault::NoSuchServer);
+    has_fault(&rt, alloc, TOO_MUCH, StartFault::Load);
+}
