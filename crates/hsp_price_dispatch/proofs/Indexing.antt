@@ -20,6 +20,7 @@ use Rattle.hsp_classes.proofs.Lists.{all_kept}
 use Rattle.hsp_price_check.specs.ClassNumbers.{is_named}
 use Rattle.hsp_price_check.specs.Extras.{pay_by}
 use Rattle.hsp_price_check.specs.Passed.{class_at, no_class}
+use Rattle.hsp_price_dispatch.specs.Choosing.{LeadsWithin, answer_of}
 use Rattle.hsp_price_dispatch.specs.Choosing.{assigned, choice_among, class_number, elsewhere, first_cell, or_full}
 use Rattle.hsp_price_dispatch.specs.Holding.{Held, cell_at, one_given}
 use Rattle.hsp_price_dispatch.specs.Choosing.{left_with}
@@ -212,3 +213,12 @@ module _ (own : Held) (index : Index) (is : IsIndexOf own index) (arcs list item
     least_within within =
         subst (λ (own_list : List Arc). AllByRecursion (IsWithin (length own.service.servers)) own_list) (sym least_list)
         (kept_within (length own.service.servers) (is_least (pay_over own.service own.plan) arcs) arcs within)
+
+-- what can be taken leads to a server that is there
+pub answer_within : (own : Held) (choice : Choice) → CanTake own choice
+    → LeadsWithin (length own.service.servers) (answer_of choice)
+answer_within own (OfClass n arc) is = is.0.inside
+answer_within own (Free arc) is = is.inside
+answer_within own (Diverted arc) is = is.inside
+answer_within own Full is = tt
+answer_within own Unknown is = tt

@@ -92,7 +92,7 @@ module _ (own : Held) where
   host_choice_takes P Q Unknown h is = omega arith
 
   -- the service and the plan stay
-  service_stays : (choice : Choice) → (left_with own choice).service ≡ own.service
+  pub service_stays : (choice : Choice) → (left_with own choice).service ≡ own.service
   service_stays (OfClass n arc) = refl
   service_stays (Free arc) = refl
   service_stays (Diverted arc) = refl
