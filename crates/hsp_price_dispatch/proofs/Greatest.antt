@@ -42,6 +42,7 @@ module _ (own : Held) where
   none_can true place o e none = absurd (cc (none))
   none_can false place o e none = (e, none)
 
+  -- where none is found none is above any
   above_none : (p : Place) (places : List Place) → fullest own places ≡ None
       → AllByRecursion (IsNotAbove p) places
   above_none p [] none = tt
@@ -60,6 +61,7 @@ module _ (own : Held) where
     all_trans y x places some low all.1,
   )
 
+  -- none is above the fuller of two
   of_two : (t : Bool) (x y p : Place) (places : List Place) → is_fuller y.cell x.cell ≡ t
       → (if t then y else x) ≡ p → 0 < y.cell.share → AllByRecursion (IsNotAbove y) places
       → AllByRecursion (IsNotAbove p) (x ∷ places)
@@ -88,6 +90,7 @@ module _ (own : Held) where
       let left = ltb-true 0 y.cell.left parts.0 in
       of_two (is_fuller y.cell x.cell) x y p places refl same (omega (arith, left, low.0)) (before y found)
 
+  -- so none is above the one that is found
   none_above : (places : List Place) (p : Place) → AllByRecursion IsLow places → fullest own places ≡ Some p
       → AllByRecursion (IsNotAbove p) places
   none_above [] p low is = tt
@@ -95,10 +98,12 @@ module _ (own : Held) where
       one_more (can_give own x) (fullest own places) x p places refl refl (on_fullest own IsLow places low.1)
       (λ y found. none_above places y low.1 found) is
 
+  -- the same, place by place
   all_low : (places : List Place) → All IsLow places → AllByRecursion IsLow places
   all_low [] all = tt
   all_low (x ∷ places) all = (All-head IsLow x places all, all_low places (All-tail IsLow x places all))
 
+-- the greatest part is given
 pub gives_the_greatest : GivesTheGreatestPart
 gives_the_greatest own places place low found =
     All-from_recursion (IsNotAbove own place) places (none_above own places place (all_low own places low) found)

@@ -1,5 +1,6 @@
 -- What holds of every plan and of every list of queries.
-use Rattle.std.specs.Prelude.{◌≡◌, ◌≤◌, ◌<◌, ◌*◌, ◌+◌, ◌==◌, ◌⊎◌, Bool, false, true, ℕ, List, [], ◌∷◌, All, Some, count_by}
+use Rattle.std.specs.Prelude.{◌≡◌, ◌≤◌, ◌<◌, ◌*◌, ◌+◌, ◌==◌, ◌⊎◌, Bool, false}
+use Rattle.std.specs.Prelude.{true, ℕ, List, [], ◌∷◌, All, Some, count_by}
 use Rattle.std.specs.Prelude.{length, if◌then◌else◌}
 use Rattle.std.specs.List.{Contains}
 use Rattle.hsp_instance.specs.declared.arc.Arc.{Arc}
@@ -87,8 +88,8 @@ NeverExceedsTogether =
 
 -- ---- arcs
 
--- An assigned query goes over one of its least arcs, and a diverted one over one of its arcs: to a site where its region
--- has a cost, and to the server that its handle's hash fixes there.
+-- An assigned query goes over one of its least arcs, and a diverted one over one of its arcs: to a site where its
+-- region has a cost, and to the server that its handle's hash fixes there.
 abbrev pub GoesOverItsArcs : Type 0
 GoesOverItsArcs =
     (own : Held) (entry : Entry) (arc : Arc)
@@ -104,8 +105,8 @@ LeastAreArcs =
 
 -- ---- parts
 
--- Of the places of a class that can give, none has a greater part of its amount left than the one that is found. No more
--- is left of an amount than the front's share of it.
+-- Of the places of a class that can give, none has a greater part of its amount left than the one that is found. No
+-- more is left of an amount than the front's share of it.
 abbrev pub GivesTheGreatestPart : Type 0
 GivesTheGreatestPart =
     (own : Held) (places : List Place) (place : Place) → All (λ other. other.cell.left ≤ other.cell.share) places

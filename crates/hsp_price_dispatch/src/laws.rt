@@ -28,7 +28,8 @@ pub fn goes_over_its_arcs()
     ensures least { LeastAreArcs }
 {}
 
-/// Of the places of a class that can give, none has a greater part of its amount left than the one that a query goes to.
+/// Of the places of a class that can give, none has a greater part of its amount left than the one that a query goes
+/// to.
 pub fn gives_the_greatest_part()
     ensures { GivesTheGreatestPart }
 {}
