@@ -1,6 +1,7 @@
 -- Over which arcs queries go, and where none has room.
 use Rattle.std.proofs.Common.{◌≡◌, ◌<◌, ◌≤◌, ◌∙◌, ℕ, zero, suc, Bool, true, false, List, [], ◌∷◌, length}
-use Rattle.std.proofs.Common.{All, Option, None, Some, arith, filter, get_or, inl, inr, refl, subst, sym, nat_le, nat_lt}
+use Rattle.std.proofs.Common.{All, Option, None, Some, arith, filter, get_or, inl}
+use Rattle.std.proofs.Common.{inr, refl, subst, sym, nat_le, nat_lt}
 use Rattle.std.specs.List.{Contains}
 use Rattle.std.proofs.lemmas.Bool.{and_cases, cases_lt, false_from_ne_true, le-leb, lt-ltb, true≢false}
 use Rattle.std.proofs.lemmas.List.Elements.{All-contains_itself, All-filter}
@@ -37,6 +38,7 @@ module _ (own : Held) (P Q : Arc → Type 0) where
   diverted_over choice.Full arc is e = absurd (cc (e))
   diverted_over choice.Unknown arc is e = absurd (cc (e))
 
+-- so an answer goes over one of its own arcs
 pub goes_over : GoesOverItsArcs
 goes_over own entry arc =
     let arcs = arcs_of own.service (row_of entry) in
@@ -48,6 +50,7 @@ goes_over own entry arc =
       (λ e. diverted_over own (Contains least) (Contains arcs) (choice_for own entry) arc is e),
     )
 
+-- the least arcs are some of the arcs
 pub least_are_arcs : LeastAreArcs
 least_are_arcs own entry arc there =
     let arcs = arcs_of own.service (row_of entry) in
@@ -103,6 +106,7 @@ kept_at test (x ∷ xs) zero arc inside is none =
 kept_at test (x ∷ xs) (suc k) arc inside is none =
     kept_at test xs k arc (omega arith) is (none_kept (test x) test x xs refl none).1
 
+-- what passes is not filtered away
 kept : (test : Arc → Bool) (xs : List Arc) (arc : Arc) → Contains xs arc → test arc ≡ true → filter test xs ≡ []
     → ⊥
 kept test xs arc there e none = true≢false (sym e ∙ kept_at test xs there.0 arc there.1 there.2 none)
@@ -151,6 +155,7 @@ first_none : (by : Arc → Choice) (arcs : List Arc) → at_first by arcs ≡ No
 first_none by [] e = refl
 first_none by (arc ∷ arcs) e = absurd (cc (e))
 
+-- where neither is there the second is not
 second_none : (a b : Option Choice) → or_else a b ≡ None → b ≡ None
 second_none None b e = e
 second_none (Some by) b e = absurd (cc (e))
@@ -160,6 +165,7 @@ goes_nowhere : (own : Held) (o : Option Choice) → OnChoice own AnyArc AnyArc o
 goes_nowhere own None is e = refl
 goes_nowhere own (Some by) is e = absurd (subst (λ (own_by : Choice). OnChoice own AnyArc AnyArc (Some own_by)) e is)
 
+-- where no arc has room for a query, none of its arcs has
 full_among : (own : Held) (region : List ℕ) (arcs least : List Arc)
     → choice_among own region arcs least ≡ choice.Full → All (HasNoRoom own) arcs
 full_among own region [] least e k d l = absurd (omega arith)
@@ -177,6 +183,7 @@ full_among own region (arc ∷ arcs) least e k d l =
     (first_none choice.Diverted (least_arcs pay (filter (has_room own) all)) roomy) in
     no_room own (get_or all k d) (all_fail (has_room own) all nothing k d l)
 
+-- only one choice is answered by Full
 is_full : (by : Choice) → answer_of by ≡ Full → by ≡ choice.Full
 is_full (choice.OfClass n arc) e = absurd (cc (e))
 is_full (choice.Free arc) e = absurd (cc (e))
@@ -184,6 +191,7 @@ is_full (choice.Diverted arc) e = absurd (cc (e))
 is_full choice.Full e = refl
 is_full choice.Unknown e = absurd (cc (e))
 
+-- so Full is answered only where no arc has room
 pub full_without_room : IsFullWithoutRoom
 full_without_room own entry e =
     full_among own entry.region (arcs_of own.service (row_of entry)) (least_of own.service own.plan (row_of entry))

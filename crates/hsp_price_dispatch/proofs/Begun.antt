@@ -55,6 +55,7 @@ servers_low (x ∷ xs) e =
     let low : x ≤ 1023 = leb-true x 1023 parts.0 in
     (omega (arith, low), servers_low xs parts.1)
 
+-- no number is below 0
 none_below : (xs : List ℕ) → AllByRecursion (λ x. 0 ≤ x) xs
 none_below [] = tt
 none_below (x ∷ xs) = (omega arith, none_below xs)
@@ -106,7 +107,8 @@ pub cells_in : (fronts front n : ℕ) (classes : List Class)
 cells_in fronts front n classes there =
     subst (λ (list : List Cell). All (λ (cell : Cell). cell.server < n) list) (sym (cells_are fronts front classes))
     (λ k d l.
-    let inside : k < length (all_sends classes) = omega (arith, length-map (all_sends classes) (cell_of fronts front)) in
+    let inside : k < length (all_sends classes) = omega (arith, length-map (all_sends classes) (cell_of fronts front))
+    in
     let own = sends_there n classes there k (0, 0) inside in
     subst (λ (cell : Cell). cell.server < n)
     (sym (get_or-map (cell_of fronts front) (all_sends classes) k (0, 0) d inside)) own)

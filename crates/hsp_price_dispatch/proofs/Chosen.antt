@@ -68,22 +68,26 @@ module _ (own : Held) (P : Place → Type 0) where
   OnPlace None = ⊤
   OnPlace (Some place) = P place × (can_give own place ≡ true)
 
+  -- what holds of two places holds of the one that is taken
   of_two : (t : Bool) (place later : Place) → P place × (can_give own place ≡ true)
       → P later × (can_give own later ≡ true)
       → P (if t then later else place) × (can_give own (if t then later else place) ≡ true)
   of_two true place later here there = there
   of_two false place later here there = here
 
+  -- so it is with the fuller one
   of_fuller : (place : Place) (o : Option Place) → P place × (can_give own place ≡ true) → OnPlace o
       → P (fuller place o) × (can_give own (fuller place o) ≡ true)
   of_fuller place None here all = here
   of_fuller place (Some later) here all = of_two (is_fuller later.cell place.cell) place later here all
 
+  -- and with one place more
   on_next : (t : Bool) (place : Place) (o : Option Place) → can_give own place ≡ t → P place → OnPlace o
       → OnPlace (if t then Some (fuller place o) else o)
   on_next true place o e here all = of_fuller place o (here, e) all
   on_next false place o e here all = all
 
+  -- and with the one of all places that is found
   pub on_fullest : (places : List Place) → AllByRecursion P places → OnPlace (fullest own places)
   on_fullest [] all = tt
   on_fullest (place ∷ places) all =
@@ -114,6 +118,7 @@ module _ (own : Held) (P Q : Arc → Type 0) where
   OnChoice None = ⊤
   OnChoice (Some choice) = IsGoing choice
 
+  -- a query that goes somewhere is answered well
   good : (choice : Choice) → IsGoing choice → IsGood choice
   good (OfClass n arc) is = is
   good (Free arc) is = is
@@ -121,10 +126,12 @@ module _ (own : Held) (P Q : Arc → Type 0) where
   good Full is = tt
   good Unknown is = tt
 
+  -- and so it is where Full is answered otherwise
   good_or_full : (o : Option Choice) → OnChoice o → IsGood (or_full o)
   good_or_full None is = tt
   good_or_full (Some choice) is = good choice is
 
+  -- what holds of two choices holds of the first that is there
   on_either : (a b : Option Choice) → OnChoice a → OnChoice b → OnChoice (or_else a b)
   on_either None b first second = second
   on_either (Some choice) b first second = first
@@ -137,6 +144,7 @@ module _ (own : Held) (P Q : Arc → Type 0) where
       let left : 0 < place.cell.left = ltb-true 0 place.cell.left parts.0 in
       (is.0.0, parts.1, is.0.1, subst (λ (cell : Cell). 0 < cell.left) is.0.2 left)
 
+  -- by a class
   on_class : (least : List Arc) (o : Option ℕ) → All P least → OnChoice (by_class own least o)
   on_class least None all = tt
   on_class least (Some k) all =
@@ -149,6 +157,7 @@ module _ (own : Held) (P Q : Arc → Type 0) where
   on_first by [] all = tt
   on_first by (arc ∷ arcs) all = All-head (λ arc. IsGoing (by arc)) arc arcs all
 
+  -- by free room
   on_room : (least : List Arc) → All P least → OnChoice (by_room own least)
   on_room least all =
       on_first Free (filter (is_free own) least)
@@ -157,6 +166,7 @@ module _ (own : Held) (P Q : Arc → Type 0) where
         free_room own _ (filter_passes (is_free own) least k d l),
       ))
 
+  -- by the least of the arcs that pass a test
   on_diverted : (test : Arc → Bool) (arcs : List Arc) → ((arc : Arc) → test arc ≡ true → has_room own arc ≡ true)
       → All Q arcs → OnChoice (diverted own test arcs)
   on_diverted test arcs roomy all =
@@ -169,12 +179,14 @@ module _ (own : Held) (P Q : Arc → Type 0) where
             (All-filter (is_least pay kept) (λ arc. test arc ≡ true) kept (filter_passes test arcs) k d l),
       ))
 
+  -- over any arc
   on_elsewhere : (arcs : List Arc) → All Q arcs → OnChoice (elsewhere own arcs)
   on_elsewhere arcs all =
       on_either (diverted own (is_free own) arcs) (diverted own (has_room own) arcs)
       (on_diverted (is_free own) arcs (λ arc. free_room own arc.server) all)
       (on_diverted (has_room own) arcs (λ arc e. e) all)
 
+  -- over a least arc
   on_assigned : (region : List ℕ) (least : List Arc) → All P least → OnChoice (assigned own region least)
   on_assigned region least all =
       on_either (by_class own least (class_number own.plan region least)) (by_room own least)
@@ -187,6 +199,7 @@ module _ (own : Held) (P Q : Arc → Type 0) where
       on_either (assigned own region least) (elsewhere own arcs) (on_assigned region least some)
       (on_elsewhere arcs all)
 
+  -- so it is with every choice
   pub is_good : (region : List ℕ) (arcs least : List Arc) → All Q arcs → All P least
       → IsGood (choice_among own region arcs least)
   is_good region [] least all some = tt

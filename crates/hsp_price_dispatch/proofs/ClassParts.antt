@@ -65,7 +65,11 @@ pub some_left : (cells : List Cell) (first many : ℕ) → 0 < left_from cells f
 some_left cells first zero some = absurd (omega arith)
 some_left cells first (suc many) some = elim (cases_lt 0 (cell_at cells (first + many)).left) [
   | inl here ↦ (many, omega arith, here)
-  | inr none ↦ let more = some_left cells first many (omega (arith, some, none)) in (more.0, omega (arith, more.1), more.2)
+  | inr none ↦ let more = some_left cells first many (omega (arith, some, none)) in (
+    more.0,
+    omega (arith, more.1),
+    more.2,
+  )
 ]
 
 module _ (classes : List Class) (same : (k : ℕ) → k < length classes

@@ -15,6 +15,7 @@ zip_many [] ys = omega arith
 zip_many (x ∷ xs) [] = omega arith
 zip_many (x ∷ xs) (y ∷ ys) = let more = zip_many xs ys in omega (arith, more)
 
+-- as many as the class has servers and amounts
 pub sends_many : (class : Class) → length (sends class) ≡ min (length class.servers) (length class.amounts)
 sends_many class = zip_many class.servers class.amounts
 

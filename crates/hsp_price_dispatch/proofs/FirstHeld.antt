@@ -1,6 +1,7 @@
 -- What a front holds at first, by the lists that were added up.
 use Rattle.std.proofs.Common.{◌≡◌, ◌<◌, ◌≤◌, ◌+◌, ◌-◌, ◌^◌, ◌==◌, ◌∙◌, ℕ, Bool, false, List, [], ◌∷◌, length, All}
-use Rattle.std.proofs.Common.{None, Option, Some, ap, arith, get_or, if◌then◌else◌, inl, inr, ne_eqb, refl, slice_index, subst, sym}
+use Rattle.std.proofs.Common.{None, Option, Some, ap, arith, get_or, if◌then◌else◌, inl}
+use Rattle.std.proofs.Common.{inr, ne_eqb, refl, slice_index, subst, sym}
 use Rattle.std.specs.List.{flat_map}
 use Rattle.std.proofs.lemmas.Bool.{cases_lt}
 use Rattle.std.proofs.lemmas.List.{get_or_past, length-map}
@@ -61,6 +62,7 @@ module _ (at : Service) (plan : Best) (fronts front : ℕ) (own : Accepted) (is 
         load_is at plan j,
       )
 
+  -- nor at the servers of a host
   host_left_low : (h : ℕ) → left_where (λ k. is_on (host_at at k) h) cells ≤ host_load_at at plan [] h
   host_left_low h =
       let test = λ (k : ℕ). is_on (host_at at k) h in
@@ -85,6 +87,7 @@ module _ (at : Service) (plan : Best) (fronts front : ℕ) (own : Accepted) (is 
   not_on None h below past = refl
   not_on (Some g) h below past = ne_eqb g h (λ same. omega (arith, below g refl, past, same))
 
+  -- nothing is left past the hosts
   past_hosts : (h : ℕ) → length own.numbers.limits.items ≤ h → left_where (λ k. is_on (host_at at k) h) cells ≡ 0
   past_hosts h past =
       none_where (λ k. is_on (host_at at k) h) cells
@@ -99,6 +102,7 @@ module _ (at : Service) (plan : Best) (fronts front : ℕ) (own : Accepted) (is 
       ap (λ (list : List ℕ). length list) is.numbers.capacities
       ∙ length-map at.servers (λ (server : Server). server.capacity)
 
+  -- as many hosts as the service has
   pub hosts_many : length own.numbers.limits.items ≡ length at.hosts
   hosts_many =
       ap (λ (list : List ℕ). length list) is.numbers.limits ∙ length-map at.hosts (λ (host : Host). host.limit)
@@ -122,6 +126,7 @@ module _ (at : Service) (plan : Best) (fronts front : ℕ) (own : Accepted) (is 
         let low : left_where (λ k. k == j) cells ≤ capacity_at at j = omega (arith, left_low j, is.fits.load.0 j l) in
         each j l ∙ kept_within (left_where (λ k. k == j) cells) (capacity_at at j) (capacity_small at is.service j) low
 
+    -- and so they are past the servers
     pub held_is : (j : ℕ) → slice_index held j ≡ left_where (λ k. k == j) cells
     held_is j = elim (cases_lt j (length at.servers)) [
       | inl there ↦ held_there j there
@@ -160,12 +165,14 @@ module _ (at : Service) (plan : Best) (fronts front : ℕ) (own : Accepted) (is 
           ∙ ap (λ list. if is_on (host_in list j) h then left_where (λ k. k == j) cells else 0) is.numbers.server_hosts)
           ∙ sym (host_left at cells h servers_in)
 
+      -- and past the hosts
       pub host_held_is : (h : ℕ) → slice_index host_held h ≡ left_where (λ k. is_on (host_at at k) h) cells
       host_held_is h = elim (cases_lt h (length host_held)) [
         | inl there ↦ host_there h there
         | inr past ↦ get_or_past host_held h 0 past ∙ sym (past_hosts h (omega (arith, past, host_many)))
       ]
 
+      -- no more is held at a host than all classes bring there
       pub host_held_low : (h : ℕ) → h < length at.hosts → slice_index host_held h ≤ slice_index own.host_loads.items h
       host_held_low h l = omega (arith, host_held_is h, host_left_low h, is.host_loads h l)
 
@@ -175,6 +182,7 @@ module _ (at : Service) (plan : Best) (fronts front : ℕ) (own : Accepted) (is 
         first_held =
             record { service = at; plan = plan; cells = cells; rooms = rooms; host_rooms = host_rooms }
 
+        -- the lists are those of the front
         pub first_stands : IsStanding first_held hosts held host_held
         first_stands = record {
           server_hosts_are = is.numbers.server_hosts;
@@ -185,6 +193,7 @@ module _ (at : Service) (plan : Best) (fronts front : ℕ) (own : Accepted) (is 
           host_held_is = host_held_is;
         }
 
+        -- and the front has just begun
         pub first_begun : ((j : ℕ) → j < length at.servers
             → slice_index rooms j
             ≡ share fronts front (slice_index own.numbers.capacities.items j - slice_index own.loads.items j)

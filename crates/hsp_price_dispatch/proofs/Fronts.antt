@@ -23,7 +23,8 @@ use Rattle.hsp_price_dispatch.specs.Laws.{left_after}
 use Rattle.hsp_price_dispatch.specs.Starting.{Fits, capacity_at, limit_at}
 use Rattle.hsp_price_dispatch.specs.declared.answer.PriceAnswer.{PriceAnswer}
 use Rattle.hsp_price_dispatch.proofs.RoomTaken.{never_exceeds}
-use Rattle.hsp_price_dispatch.proofs.Sums.{all_sends, host_load_is, left_is, load_is, sent_where, shares_together, whole}
+use Rattle.hsp_price_dispatch.proofs.Sums.{all_sends, host_load_is, left_is, load_is}
+use Rattle.hsp_price_dispatch.proofs.Sums.{sent_where, shares_together, whole}
 
 -- ---- each front alone
 
@@ -59,15 +60,18 @@ module _ (begun : ℕ → Held) (front : ℕ) where
             (later ∙ ap (λ (held : Held). answers_to held (entries_at front events)) same)
       ]
 
+-- so each front answers as if there were no other
 pub answers_alone : AnswersAlone
 answers_alone begun front events = at_front begun front [] events
 
+-- by its own entries alone
 pub by_its_entries : GoesByItsEntries
 by_its_entries begun front a b same = (
   answers_alone begun front a ∙ ap (answers_to (begun front)) same ∙ sym (answers_alone begun front b),
   ap (left_after (begun front)) same,
 )
 
+-- in whatever order those of the others come
 pub in_the_same : EndsInTheSame
 in_the_same begun a b same front = ap (left_after (begun front)) (same front)
 
@@ -86,7 +90,8 @@ pub sends_there : (n : ℕ) (classes : List Class) → All (λ (class : Class). 
 sends_there n [] all = λ k d l. absurd (omega arith)
 sends_there n (class ∷ classes) all =
     All-append (λ (sent : ℕ × ℕ). sent.0 < n) (sends class) (all_sends classes)
-    (zip_there n class.servers class.amounts (All-head (λ (class : Class). All (λ j. j < n) class.servers) class classes all))
+    (zip_there n class.servers class.amounts (All-head (λ (class : Class). All (λ j. j < n) class.servers) class
+    classes all))
     (sends_there n classes (All-tail (λ (class : Class). All (λ j. j < n) class.servers) class classes all))
 
 module _ (at : Service) (plan : Best) (fronts : ℕ) (begun : ℕ → Held) (some : 0 < fronts) (fits : Fits at plan)
@@ -113,6 +118,7 @@ module _ (at : Service) (plan : Best) (fronts : ℕ) (begun : ℕ → Held) (som
   held_first test front inside =
       ap (left_where test) (are front inside).cells ∙ left_is fronts front test plan.classes
 
+  -- the room of all fronts at a server
   pub rooms_together : (j : ℕ) → j < length at.servers
       → sum_below fronts (λ front. room_at (begun front) j) ≡ capacity_at at j
   rooms_together j l =
@@ -124,6 +130,7 @@ module _ (at : Service) (plan : Best) (fronts : ℕ) (begun : ℕ → Held) (som
       (held_first (λ k. k == j) front inside))
       ∙ together (λ k. k == j) (capacity_at at j) (load_at at plan [] j) (fits.load.0 j l) (load_is at plan j)
 
+  -- and at a host
   pub host_rooms_together : (h : ℕ) → h < length at.hosts
       → sum_below fronts (λ front. host_room_at (begun front) h) ≡ limit_at at h
   host_rooms_together h l =
@@ -139,6 +146,7 @@ module _ (at : Service) (plan : Best) (fronts : ℕ) (begun : ℕ → Held) (som
       (host_load_is at plan h (sends_there (length at.servers) plan.classes fits.there))
 
   module _ (entries : ℕ → List Entry) where
+    -- no server gets more than it takes
     pub exceeds_no_server : (j : ℕ) → j < length at.servers
         → sum_below fronts (λ front. count_at j (answers_to (begun front) (entries front))) ≤ capacity_at at j
     exceeds_no_server j l =
@@ -147,6 +155,7 @@ module _ (at : Service) (plan : Best) (fronts : ℕ) (begun : ℕ → Held) (som
         (λ front. room_at (begun front) j) (λ front inside. (never_exceeds (begun front) (entries front)).0 j) in
         omega (arith, each, rooms_together j l)
 
+    -- and no host
     pub exceeds_no_host : (h : ℕ) → h < length at.hosts
         → sum_below fronts (λ front. count_on at h (answers_to (begun front) (entries front))) ≤ limit_at at h
     exceeds_no_host h l =
@@ -154,14 +163,17 @@ module _ (at : Service) (plan : Best) (fronts : ℕ) (begun : ℕ → Held) (som
         sum_below_le fronts (λ front. count_on at h (answers_to (begun front) (entries front)))
         (λ front. host_room_at (begun front) h)
         (λ front inside.
-        subst (λ (own : Service). count_on own h (answers_to (begun front) (entries front)) ≤ host_room_at (begun front) h)
+        subst (λ (own : Service). count_on own h (answers_to (begun front) (entries front)) ≤ host_room_at (begun
+        front) h)
         (are front inside).service ((never_exceeds (begun front) (entries front)).1 h)) in
         omega (arith, each, host_rooms_together h l)
 
+-- the rooms add up
 pub rooms_add_up : RoomsAddUp
 rooms_add_up at plan fronts begun some fits are =
     (rooms_together at plan fronts begun some fits are, host_rooms_together at plan fronts begun some fits are)
 
+-- so nothing is exceeded
 pub never_exceeds_together : NeverExceedsTogether
 never_exceeds_together at plan fronts begun entries some fits are = (
   exceeds_no_server at plan fronts begun some fits are entries,

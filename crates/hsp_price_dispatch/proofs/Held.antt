@@ -9,7 +9,8 @@ use Rattle.std.proofs.lemmas.List.Sums.{get_or-le-sum_by, sum_by-set}
 use Rattle.hsp_check.specs.Plan.{is_on}
 use Rattle.hsp_classes.specs.Least.{host_at}
 use Rattle.hsp_price_dispatch.specs.Holding.{Held, cell_at, left_where, no_cell, one_given, one_less, one_less_on}
-use Rattle.hsp_price_dispatch.specs.Holding.{host_held_at, host_room_at, held_at, is_free_at, room_at, with_given, with_query_at}
+use Rattle.hsp_price_dispatch.specs.Holding.{host_held_at, host_room_at, held_at, is_free_at}
+use Rattle.hsp_price_dispatch.specs.Holding.{room_at, with_given, with_query_at}
 use Rattle.hsp_price_dispatch.specs.Standing.{IsStanding}
 use Rattle.hsp_price_dispatch.specs.declared.cells.Cell.{Cell}
 use Rattle.hsp_price_dispatch.proofs.RoomTaken.{less_at, one_if}
@@ -87,6 +88,7 @@ module _ (own : Held) (server_hosts : List (Option ℕ)) (held host_held : List 
         let left = some_left (λ k. is_on (host_at own.service k) h) own.cells n inside some on in
         omega (arith, left, is.host_held_is h)
 
+    -- if there is one
     pub host_held_some : IfSome (host_at own.service at_cell) (λ h. 0 < slice_index host_held h)
     host_held_some = host_held_on (host_at own.service at_cell) refl
 

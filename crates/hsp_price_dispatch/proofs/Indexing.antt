@@ -20,6 +20,7 @@ use Rattle.hsp_classes.proofs.Lists.{all_kept}
 use Rattle.hsp_price_check.specs.ClassNumbers.{is_named}
 use Rattle.hsp_price_check.specs.Extras.{pay_by}
 use Rattle.hsp_price_check.specs.Passed.{class_at, no_class}
+use Rattle.hsp_price_dispatch.specs.Choosing.{LeadsWithin, answer_of}
 use Rattle.hsp_price_dispatch.specs.Choosing.{assigned, choice_among, class_number, elsewhere, first_cell, or_full}
 use Rattle.hsp_price_dispatch.specs.Holding.{Held, cell_at, one_given}
 use Rattle.hsp_price_dispatch.specs.Choosing.{left_with}
@@ -105,6 +106,7 @@ module _ (own : Held) (index : Index) (is : IsIndexOf own index) where
       let same : length own.service.servers ≡ length index.extras.items = omega (arith, is.prices, is.extras.many) in
       subst (λ n. AllByRecursion (IsWithin n) arcs) same within
 
+  -- the numbers are low
   pub extras_low : (j : ℕ) → j < length index.extras.items → slice_index index.extras.items j ≤ 2000000000000
   extras_low j l = is.extras.low j (omega (arith, is.extras.many))
 
@@ -190,9 +192,11 @@ or_second a b y e f = rw (← e) f
 pub full_first : (by : Choice) (a b : Option Choice) → Some by ≡ a → by ≡ or_full (or_else a b)
 full_first by a b e = rw (← e) refl
 
+-- the second choice is found where the first is not
 pub full_second : (by : Choice) (a b : Option Choice) → None ≡ a → Some by ≡ b → by ≡ or_full (or_else a b)
 full_second by a b e f = rw (← e, ← f) refl
 
+-- and Full where neither is
 pub full_none : (a b : Option Choice) → None ≡ a → None ≡ b → Full ≡ or_full (or_else a b)
 full_none a b e f = rw (← e, ← f) refl
 
@@ -210,5 +214,15 @@ module _ (own : Held) (index : Index) (is : IsIndexOf own index) (arcs list item
     pub least_within : AllByRecursion (IsWithin (length own.service.servers)) arcs
         → AllByRecursion (IsWithin (length own.service.servers)) list
     least_within within =
-        subst (λ (own_list : List Arc). AllByRecursion (IsWithin (length own.service.servers)) own_list) (sym least_list)
+        subst (λ (own_list : List Arc). AllByRecursion (IsWithin (length own.service.servers)) own_list) (sym
+        least_list)
         (kept_within (length own.service.servers) (is_least (pay_over own.service own.plan) arcs) arcs within)
+
+-- what can be taken leads to a server that is there
+pub answer_within : (own : Held) (choice : Choice) → CanTake own choice
+    → LeadsWithin (length own.service.servers) (answer_of choice)
+answer_within own (OfClass n arc) is = is.0.inside
+answer_within own (Free arc) is = is.inside
+answer_within own (Diverted arc) is = is.inside
+answer_within own Full is = tt
+answer_within own Unknown is = tt

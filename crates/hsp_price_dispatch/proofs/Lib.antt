@@ -12,3 +12,4 @@ pub mod Begun
 pub mod FirstHeld
 pub mod ClassParts
 pub mod Planned
+pub mod Greatest

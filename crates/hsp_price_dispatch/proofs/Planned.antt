@@ -53,7 +53,8 @@ use Rattle.hsp_price_dispatch.proofs.Begun.{cells_enough, cells_many}
 use Rattle.hsp_price_dispatch.proofs.FirstCells.{next_cell, sends_many}
 use Rattle.hsp_price_dispatch.proofs.Fronts.{sends_there}
 use Rattle.hsp_price_dispatch.proofs.RoomTaken.{host_takes, one_if, server_takes, takes_room}
-use Rattle.hsp_price_dispatch.proofs.Sums.{all_sends, host_load_is, left_is, load_is, sent_where, shares_together, whole}
+use Rattle.hsp_price_dispatch.proofs.Sums.{all_sends, host_load_is, left_is, load_is}
+use Rattle.hsp_price_dispatch.proofs.Sums.{sent_where, shares_together, whole}
 
 -- ---- places
 
@@ -61,28 +62,36 @@ use Rattle.hsp_price_dispatch.proofs.Sums.{all_sends, host_load_is, left_is, loa
 abbrev pub IsAt : List Cell → ℕ → List Arc → Place → Type 0
 IsAt cells n arcs place = (i : ℕ) × (i < length arcs) × (place ≡ place_at cells n arcs i)
 
+-- a place behind the first arc
 one_later : (cells : List Cell) (n : ℕ) (arc : Arc) (arcs : List Arc) (place : Place) → IsAt cells (n + 1) arcs place
     → IsAt cells n (arc ∷ arcs) place
 one_later cells n arc arcs place is =
     let e : (n + 1) + is.0 ≡ n + suc is.0 = omega arith in
     let same : place_at cells (n + 1) arcs is.0 ≡ place_at cells n (arc ∷ arcs) (suc is.0) =
-    ap (λ (k : ℕ). let p : Place = record { arc = get_or arcs is.0 no_arc; number = k; cell = cell_at cells k } in p) e in
+    ap (λ (k : ℕ). let p : Place = record { arc = get_or arcs is.0 no_arc; number = k; cell = cell_at cells k } in p)
+    e in
     (suc is.0, omega (arith, is.1), is.2 ∙ same)
 
+-- so are all places behind it
 all_later : (cells : List Cell) (n : ℕ) (arc : Arc) (arcs : List Arc) (places : List Place)
     → AllByRecursion (IsAt cells (n + 1) arcs) places → AllByRecursion (IsAt cells n (arc ∷ arcs)) places
 all_later cells n arc arcs [] all = tt
 all_later cells n arc arcs (place ∷ places) all =
     (one_later cells n arc arcs place all.0, all_later cells n arc arcs places all.1)
 
+-- each place is at its arc
 pub all_at : (cells : List Cell) (n : ℕ) (arcs : List Arc)
     → AllByRecursion (IsAt cells n arcs) (places_from n arcs (drop n cells))
 all_at cells n [] = tt
 all_at cells n (arc ∷ arcs) = elim (cases_lt n (length cells)) [
   | inl inside ↦
       let e : n ≡ n + 0 = omega arith in
-      let first : IsAt cells n (arc ∷ arcs) (record { arc = arc; number = n; cell = cell_at cells n }) =
-      (0, omega arith, ap (λ (k : ℕ). let p : Place = record { arc = arc; number = k; cell = cell_at cells k } in p) e) in
+      let first : IsAt cells n (arc ∷ arcs) (record { arc = arc; number = n; cell = cell_at cells n }) = (
+        0,
+        omega arith,
+        ap (λ (k : ℕ). let p : Place = record { arc = arc; number = k; cell = cell_at cells k } in p)
+            e,
+      ) in
       rw (drop_more cells n no_cell inside)
       (first, all_later cells n arc arcs (places_from (n + 1) arcs (drop (n + 1) cells)) (all_at cells (n + 1) arcs))
   | inr past ↦ rw (drop_all n cells past) tt
@@ -94,6 +103,7 @@ none_next : (own : Held) (t : Bool) (place : Place) (o : Option Place) → can_g
 none_next own true place o e none = absurd (cc (none))
 none_next own false place o e none = (e, none)
 
+-- so no place of an arc can give
 none_gives : (own : Held) (cells : List Cell) (n : ℕ) (arcs : List Arc) (i : ℕ) → i < length arcs
     → n + length arcs ≤ length cells → fullest own (places_from n arcs (drop n cells)) ≡ None
     → can_give own (place_at cells n arcs i) ≡ false
@@ -122,6 +132,7 @@ none_gives own cells n (arc ∷ arcs) (suc i) inside room none =
 
 -- ---- the class of a query
 
+-- a number that is there
 some_of : (o : Option ℕ) → is_some o ≡ true → (k : ℕ) × (o ≡ Some k)
 some_of None e = absurd (true≢false (sym e))
 some_of (Some k) e = (k, refl)
@@ -201,6 +212,7 @@ module _ (own : Held) (entry : Entry) (entries : List Entry) (slack host_slack c
       sum_by-cons
       (λ (e : Entry). goes_alone test (only_arc (least_of own.service own.plan (row_of e)))) entry entries
 
+  -- one query more of a class or not
   asked_split : (k : ℕ)
       → asked_at own.service own.plan k (entry ∷ entries)
       ≡ one_if (is_number k class) + asked_at own.service own.plan k entries
@@ -214,6 +226,7 @@ module _ (own : Held) (entry : Entry) (entries : List Entry) (slack host_slack c
     alone_one : (test : ℕ → Bool) → goes_alone test (only_arc least) ≡ one_if (test arc.server)
     alone_one test = ap (λ (list : List Arc). goes_alone test (only_arc list)) one
 
+    -- its host has free room, if there is one
     host_free : (o : Option ℕ) → host_at own.service arc.server ≡ o
         → host_passes o (λ h. nat_lt (host_held_at own h) (host_room_at own h)) ≡ true
     host_free None e = refl
@@ -223,6 +236,7 @@ module _ (own : Held) (entry : Entry) (entries : List Entry) (slack host_slack c
         lt-ltb (host_held_at own h) (host_room_at own h)
         (omega (arith, is.host_rooms h, alone_split test, alone_one test, on))
 
+    -- so has the server
     free : is_free own arc ≡ true
     free =
         let j = arc.server in
@@ -233,6 +247,7 @@ module _ (own : Held) (entry : Entry) (entries : List Entry) (slack host_slack c
         (omega (arith, is.rooms j, alone_split (λ i. i == j), alone_one (λ i. i == j), here)))
         (host_free (host_at own.service j) refl)
 
+    -- the query goes there
     pub chosen_alone : choice_for own entry ≡ Free arc
     chosen_alone =
         let some : 0 < length arcs =
@@ -247,6 +262,7 @@ module _ (own : Held) (entry : Entry) (entries : List Entry) (slack host_slack c
     no_number k =
         ap (λ (list : List Arc). one_if (is_number k (class_number own.plan entry.region list))) one
 
+    -- and the rest has as much as it asks for
     pub ready_alone : IsReady (with_query_at own arc.server) entries slack host_slack class_slack
     ready_alone =
         let room = free_room own arc.server free in
@@ -282,14 +298,17 @@ module _ (own : Held) (entry : Entry) (entries : List Entry) (slack host_slack c
     abbrev servers : List ℕ
     servers = (class_at own.plan k).servers
 
+    -- the class is there, with these servers
     found : (k < length own.plan.classes) × (servers ≡ servers_of least)
     found =
         class_servers own.plan entry.region least k
         (sym (several_have own.plan entry.region least several) ∙ of_class)
 
+    -- it has as many servers as there are least arcs
     long : length servers ≡ length least
     long = ap (λ (list : List ℕ). length list) found.1 ∙ length-map least (λ arc. arc.server)
 
+    -- its cells are there
     room_there : first + length least ≤ length own.cells
     room_there = omega (arith, is.inside k found.0, long)
 
@@ -315,6 +334,7 @@ module _ (own : Held) (entry : Entry) (entries : List Entry) (slack host_slack c
         let held = some_where test own.cells n (omega (arith, l, room_there)) left on in
         lt-ltb 0 (host_room_at own h) (omega (arith, is.host_rooms h, held))
 
+    -- so it is at the server
     roomy : (i : ℕ) → i < length least → 0 < (cell_at own.cells (first + i)).left
         → has_room_at own (cell_at own.cells (first + i)).server ≡ true
     roomy i l left =
@@ -326,6 +346,7 @@ module _ (own : Held) (entry : Entry) (entries : List Entry) (slack host_slack c
         (lt-ltb 0 (room_at own j) (omega (arith, is.rooms j, held)))
         (host_roomy i l left (host_at own.service j) refl)
 
+    -- so the place can give
     gives : (i : ℕ) → i < length least → 0 < (cell_at own.cells (first + i)).left
         → can_give own (place_at own.cells first least i) ≡ true
     gives i l left =
@@ -337,6 +358,7 @@ module _ (own : Held) (entry : Entry) (entries : List Entry) (slack host_slack c
     asked_one : one_if (is_number k class) ≡ 1
     asked_one = rw (of_class, eq-eqb k k refl) refl
 
+    -- something is left in one of its cells
     some_cell : (i : ℕ) × (i < length servers) × (0 < (cell_at own.cells (first + i)).left)
     some_cell =
         some_left own.cells first (length servers) (omega (arith, is.classes k found.0, asked_split k, asked_one))
@@ -385,12 +407,15 @@ module _ (own : Held) (entry : Entry) (entries : List Entry) (slack host_slack c
       abbrev new : Held
       new = with_given (with_query_at own j) n
 
+      -- the cell is there
       there : n < length own.cells
       there = omega (arith, inside, room_there)
 
+      -- and its server has room
       room_here : has_room_at own j ≡ true
       room_here = rw (one_server i inside) (roomy i inside left)
 
+      -- what is left of each class is what is still asked
       classes_after : (m : ℕ) → m < length own.plan.classes
           → left_from new.cells (first_cell own.plan.classes m) (length (class_at own.plan m).servers)
           ≡ asked_at own.service own.plan m entries + class_slack m
@@ -415,6 +440,7 @@ module _ (own : Held) (entry : Entry) (entries : List Entry) (slack host_slack c
             omega (arith, kept, is.classes m l, asked_split m, none)
       ]
 
+      -- the rest has as much as it asks for
       ready_class : IsReady new entries slack host_slack class_slack
       ready_class = record {
         placed = All-tail (λ e. is_placed own.service own.plan e ≡ true) entry entries is.placed;
@@ -451,6 +477,7 @@ module _ (own : Held) (entry : Entry) (entries : List Entry) (slack host_slack c
   abbrev Goes : Type 0
   Goes = (is_assigned (answer_by own entry) ≡ true) × IsReady (left_by own entry) entries slack host_slack class_slack
 
+  -- by what it is answered by
   goes_by : (by : Choice) → choice_for own entry ≡ by → is_assigned (answer_of by) ≡ true
       → IsReady (left_with own by) entries slack host_slack class_slack → Goes
   goes_by by e so ready = (
@@ -458,6 +485,7 @@ module _ (own : Held) (entry : Entry) (entries : List Entry) (slack host_slack c
     subst (λ (c : Choice). IsReady (left_with own c) entries slack host_slack class_slack) (sym e) ready,
   )
 
+  -- a query with several least arcs
   goes_class : 2 ≤ length least → is_some class ≡ true → Goes
   goes_class several some =
       let k = some_of class some in
@@ -475,35 +503,42 @@ module _ (own : Held) (entry : Entry) (entries : List Entry) (slack host_slack c
       goes_by (OfClass (number + i) (get_or least i no_arc)) chosen refl
       (ready_class k.0 several k.1 i place.2.1 left)
 
+  -- a query with any least arcs
   goes_so : (list : List Arc) → least ≡ list → has_place list class ≡ true → Goes
   goes_so [] e placed = absurd (true≢false (sym placed))
   goes_so (arc ∷ []) e placed = goes_by (Free arc) (chosen_alone arc e) refl (ready_alone arc e)
   goes_so (arc ∷ other ∷ more) e placed =
       goes_class (subst (λ (list : List Arc). 2 ≤ length list) (sym e) (omega arith)) placed
 
+  -- so each query is assigned
   pub goes : Goes
   goes = goes_so least refl (All-head (λ e. is_placed own.service own.plan e ≡ true) entry entries is.placed)
 
 -- ---- all queries
 
+-- a property of the first and of the others
 all_cons : {A : Type 0} (P : A → Type 0) (x : A) (xs : List A) → P x → All P xs → All P (x ∷ xs)
 all_cons P x xs here all zero d l = here
 all_cons P x xs here all (suc k) d l = all k d (omega arith)
 
-all_go : (own : Held) (entries : List Entry) (slack host_slack class_slack : ℕ → ℕ) → IsReady own entries slack host_slack class_slack
+-- one query after another
+all_go : (own : Held) (entries : List Entry) (slack host_slack class_slack : ℕ → ℕ) → IsReady own entries slack
+    host_slack class_slack
     → All (λ answer. is_assigned answer ≡ true) (answers_to own entries)
     × IsReady (left_after own entries) [] slack host_slack class_slack
 all_go own [] slack host_slack class_slack is = ((λ k d l. absurd (omega arith)), is)
 all_go own (entry ∷ entries) slack host_slack class_slack is =
     let one = goes own entry entries slack host_slack class_slack is in
     let more = all_go (left_by own entry) entries slack host_slack class_slack one.1 in (
-      all_cons (λ answer. is_assigned answer ≡ true) (answer_by own entry) (answers_to (left_by own entry) entries) one.0
+      all_cons (λ answer. is_assigned answer ≡ true) (answer_by own entry) (answers_to (left_by own entry) entries)
+          one.0
           more.0,
       more.1,
     )
 
 -- ---- the end
 
+-- nothing, whether it counts or not
 either : (t : Bool) (n : ℕ) → n ≡ 0 → (if t then n else 0) ≡ 0
 either true n e = e
 either false n e = refl
@@ -526,6 +561,7 @@ plan_with own (choice.Diverted arc) = refl
 plan_with own choice.Full = refl
 plan_with own choice.Unknown = refl
 
+-- whatever is asked
 plan_stays : (own : Held) (entries : List Entry) → (left_after own entries).plan ≡ own.plan
 plan_stays own [] = refl
 plan_stays own (entry ∷ entries) = plan_stays (left_by own entry) entries ∙ plan_with own (choice_for own entry)
@@ -586,6 +622,7 @@ no_cells_left test cells classes none many long =
 share_whole : (n : ℕ) → share 1 0 n ≡ n
 share_whole n = let all = shares_add_up 1 n (omega arith) in omega (arith, all)
 
+-- a pair at a place
 zip_at : (xs ys : List ℕ) (i : ℕ) → i < length xs → i < length ys
     → get_or (zip xs ys) i (0, 0) ≡ (slice_index xs i, slice_index ys i)
 zip_at [] ys i l m = absurd (omega arith)
@@ -598,9 +635,11 @@ module _ (own : Held) (entries : List Entry) (fits_text : is_best own.plan ≡ t
   abbrev classes : List Class
   classes = own.plan.classes
 
+  -- the classes are within their orders
   given : (k : ℕ) → k < length classes → IsGiven (class_at own.plan k)
   given k l = All-from_recursion IsGiven classes (given_classes own.plan fits_text) k no_class l
 
+  -- a class has an amount for each server
   sends_long : (k : ℕ) → k < length classes
       → length (sends (class_at own.plan k)) ≡ length (class_at own.plan k).servers
   sends_long k l = omega (arith, sends_many (class_at own.plan k), (given k l).amounts)
@@ -623,6 +662,7 @@ module _ (own : Held) (entries : List Entry) (fits_text : is_best own.plan ≡ t
       zip_at class.servers class.amounts i low (omega (arith, low, (given k l).amounts)) in
       rw begun.cells (rw first at at ∙ one ∙ ap (cell_of 1 0) pair)
 
+  -- what is left of a class at first are its amounts
   classes_start : (k : ℕ) → k < length classes
       → sum (class_at own.plan k).amounts
       ≡ left_from own.cells (first_cell classes k) (length (class_at own.plan k).servers)
@@ -655,14 +695,17 @@ module _ (own : Held) (entries : List Entry) (fits_text : is_best own.plan ≡ t
       - (host_load_at own.service own.plan [] h
       + alone_where own.service own.plan (λ i. is_on (host_at own.service i) h) entries)
 
+  -- at a server
   held_server : (j : ℕ) → held_at own j ≡ load_at own.service own.plan [] j
   held_server j = held_start (λ k. k == j) ∙ sym (load_is own.service own.plan j)
 
+  -- and at the servers of a host
   held_host : (h : ℕ) → host_held_at own h ≡ host_load_at own.service own.plan [] h
   held_host h =
       held_start (λ k. is_on (host_at own.service k) h)
       ∙ sym (host_load_is own.service own.plan h (sends_there (length own.service.servers) classes fits.there))
 
+  -- the room of a server at first
   rooms_start : (j : ℕ) → room_at own j
       ≡ held_at own j + (alone_where own.service own.plan (λ i. i == j) entries + slack j)
   rooms_start j = elim (cases_lt j (length own.service.servers)) [
@@ -677,6 +720,7 @@ module _ (own : Held) (entries : List Entry) (fits_text : is_best own.plan ≡ t
         omega (arith, none, no_capacity, within.servers j, held_server j)
   ]
 
+  -- and that of a host
   host_rooms_start : (h : ℕ) → host_room_at own h
       ≡ host_held_at own h
       + (alone_where own.service own.plan (λ i. is_on (host_at own.service i) h) entries + host_slack h)
@@ -692,6 +736,7 @@ module _ (own : Held) (entries : List Entry) (fits_text : is_best own.plan ≡ t
         omega (arith, none, no_limit, within.hosts h, held_host h)
   ]
 
+  -- so the front has as much as is asked for
   ready_start : IsReady own entries slack host_slack class_slack
   ready_start = record {
     placed = within.placed;
@@ -699,7 +744,8 @@ module _ (own : Held) (entries : List Entry) (fits_text : is_best own.plan ≡ t
     inside = rw begun.cells (cells_enough 1 0 own.plan fits_text);
     servers = λ k i l low. ap (λ (cell : Cell). cell.server) (cell_start k i l low);
     classes = λ k l. omega (arith, within.classes k l, classes_start k l);
-    all_cells = rw begun.cells (cells_many 1 0 classes) ∙ ap (λ list. length (flat_map sends list)) (sym (take_all (length classes) classes (omega arith)));
+    all_cells = rw begun.cells (cells_many 1 0 classes) ∙ ap (λ list. length (flat_map sends list)) (sym (take_all
+        (length classes) classes (omega arith)));
     rooms = rooms_start;
     host_rooms = host_rooms_start;
   }
@@ -716,6 +762,7 @@ module _ (own : Held) (entries : List Entry) (fits_text : is_best own.plan ≡ t
       let no_slack : class_slack k ≡ 0 = omega (arith, exact k own_l) in
       omega (arith, is.classes k l, no_slack)) is.many is.all_cells
 
+  -- and all of it is assigned
   served : All (λ answer. is_assigned answer ≡ true) (answers_to own entries)
       × ((j : ℕ) → count_at j (answers_to own entries)
       ≤ alone_where own.service own.plan (λ i. i == j) entries + load_at own.service own.plan [] j)
@@ -732,6 +779,7 @@ module _ (own : Held) (entries : List Entry) (fits_text : is_best own.plan ≡ t
             omega (arith, takes_room own entries j, rooms_start j, all.1.rooms j, held_server j, none),
       )
 
+-- the same of a front of the service and the plan
 pub served_by_plan : IsServedByPlan
 served_by_plan at plan own entries text fits begun within =
     let own_text : is_best own.plan ≡ true = rw begun.plan_is text in

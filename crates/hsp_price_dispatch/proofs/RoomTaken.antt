@@ -32,6 +32,7 @@ there numbers i some = elim (cases_lt i (length numbers)) [
   | inr past ↦ let none = get_or_past numbers i 0 past in absurd (omega (arith, none))
 ]
 
+-- one less at one place, and the others stay
 pub less_at : (numbers : List ℕ) (i j : ℕ) → 0 < slice_index numbers i
     → one_if (i == j) + slice_index (one_less numbers i) j ≡ slice_index numbers j
 less_at numbers i j some = elim (cases_eq i j) [
@@ -65,6 +66,7 @@ module _ (own : Held) where
   host_takes_on None h room = omega arith
   host_takes_on (Some g) h room = less_at own.host_rooms g h (ltb-true 0 (host_room_at own g) room)
 
+  -- so a query takes one of the room of its host
   pub host_takes : (i h : ℕ) → has_room_at own i ≡ true
       → one_if (is_on (host_at own.service i) h) + host_room_at (with_query_at own i) h ≡ host_room_at own h
   host_takes i h room =
@@ -82,6 +84,7 @@ module _ (own : Held) where
   choice_takes P Q Full j is = omega arith
   choice_takes P Q Unknown j is = omega arith
 
+  -- so it is at a host
   host_choice_takes : (P Q : Arc → Type 0) (choice : Choice) (h : ℕ) → IsGood own P Q choice
       → one_if (goes_to (λ k. is_on (host_at own.service k) h) (answer_of choice))
       + host_room_at (left_with own choice) h ≡ host_room_at own h
@@ -92,7 +95,7 @@ module _ (own : Held) where
   host_choice_takes P Q Unknown h is = omega arith
 
   -- the service and the plan stay
-  service_stays : (choice : Choice) → (left_with own choice).service ≡ own.service
+  pub service_stays : (choice : Choice) → (left_with own choice).service ≡ own.service
   service_stays (OfClass n arc) = refl
   service_stays (Free arc) = refl
   service_stays (Diverted arc) = refl
@@ -114,16 +117,19 @@ pub one_takes : (own : Held) (entry : Entry) (j : ℕ)
     → one_if (goes_to (λ k. k == j) (answer_by own entry)) + room_at (left_by own entry) j ≡ room_at own j
 one_takes own entry j = choice_takes own AnyArc AnyArc (choice_for own entry) j (choice_good own entry)
 
+-- and one of the room of its host
 pub one_host_takes : (own : Held) (entry : Entry) (h : ℕ)
     → one_if (goes_to (λ k. is_on (host_at own.service k) h) (answer_by own entry))
     + host_room_at (left_by own entry) h ≡ host_room_at own h
 one_host_takes own entry h = host_choice_takes own AnyArc AnyArc (choice_for own entry) h (choice_good own entry)
 
+-- the service stays
 pub same_service : (own : Held) (entry : Entry) → (left_by own entry).service ≡ own.service
 same_service own entry = service_stays own (choice_for own entry)
 
 -- ---- queries in turn
 
+-- at a server
 pub takes_room : TakesRoom
 takes_room own [] j = omega arith
 takes_room own (entry ∷ entries) j =
@@ -138,6 +144,7 @@ takes_room own (entry ∷ entries) j =
     let now : one_if (test answer) + room_at next j ≡ room_at own j = one_takes own entry j in
     omega (arith, split, later, now)
 
+-- and at a host
 pub takes_host_room : TakesHostRoom
 takes_host_room own [] h = omega arith
 takes_host_room own (entry ∷ entries) h =
@@ -154,6 +161,7 @@ takes_host_room own (entry ∷ entries) h =
     let now : one_if (test answer) + host_room_at next h ≡ host_room_at own h = one_host_takes own entry h in
     omega (arith, split, same, later, now)
 
+-- so no more queries come than there is room for
 pub never_exceeds : NeverExceeds
 never_exceeds own entries =
     (λ j. omega (arith, takes_room own entries j), λ h. omega (arith, takes_host_room own entries h))

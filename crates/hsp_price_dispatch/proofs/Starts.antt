@@ -45,6 +45,7 @@ capacity_low sites hosts [] all j = omega arith
 capacity_low sites hosts (s ∷ servers) all zero = all.0.capacity
 capacity_low sites hosts (s ∷ servers) all (suc j) = capacity_low sites hosts servers all.1 j
 
+-- so it is small
 pub capacity_small : (at : Service) → IsService at → (j : ℕ) → capacity_at at j < 2 ^ 64
 capacity_small at is j =
     let low = capacity_low at.sites (length at.hosts) at.servers is.servers.each j in omega (arith, low)
@@ -56,6 +57,7 @@ module _ (at : Service) (plan : Best) (is : IsService at) (numbers : ServiceNumb
   servers_many =
       ap (λ (list : List ℕ). length list) are.capacities ∙ length-map at.servers (λ (server : Server). server.capacity)
 
+  -- the capacities are those of the service
   capacities_are : (j : ℕ) → slice_index numbers.capacities.items j ≡ capacity_at at j
   capacities_are j = ap (λ (list : List ℕ). slice_index list j) are.capacities
 

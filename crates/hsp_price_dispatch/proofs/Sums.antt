@@ -95,6 +95,7 @@ if_le : (t : Bool) (a b : ℕ) → a ≤ b → (if t then a else 0) ≤ (if t th
 if_le true a b l = l
 if_le false a b l = omega arith
 
+-- so the shares come to no more than the whole amounts
 pub shares_low : (fronts front : ℕ) (test : ℕ → Bool) (all : List (ℕ × ℕ)) → 0 < fronts
     → sent_where (share fronts front) test all ≤ sent_where whole test all
 shares_low fronts front test all some =

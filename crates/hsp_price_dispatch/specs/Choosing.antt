@@ -1,6 +1,6 @@
 -- How a query is answered by what a front holds, and what the answer leaves.
 use Rattle.std.specs.Prelude.{ℕ, ◌+◌, ◌*◌, ◌&&◌, Bool, List, [], ◌∷◌, Option, None, Some, drop, filter, length, nat_lt}
-use Rattle.std.specs.Prelude.{position, slice_index_or, take, if◌then◌else◌}
+use Rattle.std.specs.Prelude.{◌<◌, ⊤, position, slice_index_or, take, if◌then◌else◌}
 use Rattle.std.specs.List.{flat_map}
 use Rattle.hsp_instance.specs.Building.{or_else}
 use Rattle.hsp_instance.specs.Instance.{Row}
@@ -130,6 +130,13 @@ answer_of (choice.Free arc) = answer.Assigned arc
 answer_of (choice.Diverted arc) = answer.Diverted arc
 answer_of choice.Full = answer.Full
 answer_of choice.Unknown = answer.Unknown
+
+-- an answer names one of so many servers, if any
+abbrev pub LeadsWithin : ℕ → PriceAnswer → Type 0
+LeadsWithin servers (answer.Assigned arc) = arc.server < servers
+LeadsWithin servers (answer.Diverted arc) = arc.server < servers
+LeadsWithin servers answer.Full = ⊤
+LeadsWithin servers answer.Unknown = ⊤
 
 abbrev pub answer_by : Held → Entry → PriceAnswer
 answer_by own entry = answer_of (choice_for own entry)

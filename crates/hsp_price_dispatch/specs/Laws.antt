@@ -1,5 +1,6 @@
 -- What holds of every plan and of every list of queries.
-use Rattle.std.specs.Prelude.{◌≡◌, ◌≤◌, ◌<◌, ◌+◌, ◌==◌, ◌⊎◌, Bool, false, ℕ, List, [], ◌∷◌, All, Some, count_by}
+use Rattle.std.specs.Prelude.{◌≡◌, ◌≤◌, ◌<◌, ◌*◌, ◌+◌, ◌==◌, ◌⊎◌, Bool, false}
+use Rattle.std.specs.Prelude.{true, ℕ, List, [], ◌∷◌, All, Some, count_by}
 use Rattle.std.specs.Prelude.{length, if◌then◌else◌}
 use Rattle.std.specs.List.{Contains}
 use Rattle.hsp_instance.specs.declared.arc.Arc.{Arc}
@@ -10,10 +11,11 @@ use Rattle.hsp_price_text.specs.Claim.{Best}
 use Rattle.hsp_classes.specs.Least.{arcs_of, host_at, least_of}
 use Rattle.hsp_dispatch.specs.Dispatch.{Entry, each_after}
 use Rattle.hsp_dispatch.specs.Fronts.{Event, entries_at}
-use Rattle.hsp_price_dispatch.specs.Choosing.{answer_by, left_by, row_of}
+use Rattle.hsp_price_dispatch.specs.Choosing.{answer_by, can_give, fullest, left_by, row_of}
 use Rattle.hsp_price_dispatch.specs.Holding.{Held, host_room_at, room_at}
 use Rattle.hsp_price_dispatch.specs.Starting.{Fits, IsBegun, capacity_at, limit_at}
 use Rattle.hsp_price_dispatch.specs.declared.answer.PriceAnswer.{PriceAnswer}
+use Rattle.hsp_price_dispatch.specs.declared.choosing.Place.{Place}
 use Rattle.hsp_price_dispatch.specs.declared.answer.PriceAnswer.TheVariants.{Assigned, Diverted, Full, Unknown}
 
 -- ---- queries in turn
@@ -86,8 +88,8 @@ NeverExceedsTogether =
 
 -- ---- arcs
 
--- An assigned query goes over one of its least arcs, and a diverted one over one of its arcs: to a site where its region
--- has a cost, and to the server that its handle's hash fixes there.
+-- An assigned query goes over one of its least arcs, and a diverted one over one of its arcs: to a site where its
+-- region has a cost, and to the server that its handle's hash fixes there.
 abbrev pub GoesOverItsArcs : Type 0
 GoesOverItsArcs =
     (own : Held) (entry : Entry) (arc : Arc)
@@ -100,6 +102,17 @@ LeastAreArcs =
     (own : Held) (entry : Entry) (arc : Arc)
     → Contains (least_of own.service own.plan (row_of entry)) arc
     → Contains (arcs_of own.service (row_of entry)) arc
+
+-- ---- parts
+
+-- Of the places of a class that can give, none has a greater part of its amount left than the one that is found. No
+-- more is left of an amount than the front's share of it.
+abbrev pub GivesTheGreatestPart : Type 0
+GivesTheGreatestPart =
+    (own : Held) (places : List Place) (place : Place) → All (λ other. other.cell.left ≤ other.cell.share) places
+    → fullest own places ≡ Some place
+    → All (λ other. can_give own other ≡ true
+    → other.cell.left * place.cell.share ≤ place.cell.left * other.cell.share) places
 
 -- ---- full
 

@@ -1,5 +1,6 @@
 -- Queries that ask for no more than the plan has, at one front.
-use Rattle.std.specs.Prelude.{◌≡◌, ◌≤◌, ◌<◌, ◌+◌, ◌==◌, Bool, true, false, ℕ, List, [], ◌∷◌, All, Option, None, Some, count_by}
+use Rattle.std.specs.Prelude.{◌≡◌, ◌≤◌, ◌<◌, ◌+◌, ◌==◌, Bool, true, false, ℕ}
+use Rattle.std.specs.Prelude.{List, [], ◌∷◌, All, Option, None, Some, count_by}
 use Rattle.std.specs.Prelude.{is_some, length, sum, sum_by, if◌then◌else◌}
 use Rattle.hsp_instance.specs.declared.arc.Arc.{Arc}
 use Rattle.hsp_check.specs.Plan.{is_on}
@@ -62,7 +63,8 @@ is_assigned Full = false
 is_assigned Unknown = false
 
 -- Then one front assigns each of them, and brings to each server no more than the plan does: its classes' amounts, and
--- the queries that have it as only least server. Where each class is asked for exactly its amounts, it brings just that.
+-- the queries that have it as only least server. Where each class is asked for exactly its amounts, it brings just
+-- that.
 abbrev pub IsServedByPlan : Type 0
 IsServedByPlan =
     (at : Service) (plan : Best) (own : Held) (entries : List Entry) → IsCertificate (certificate.Plan plan)

@@ -1,9 +1,9 @@
 // A front of the dispatcher that answers by a certificate by prices.
 
-ghost use Rattle.std.specs.Prelude.{◌≡◌, ◌≤◌, ◌<◌, IfErr, IfOk, OnErr, OnOk};
+ghost use Rattle.std.specs.Prelude.{◌≡◌, ◌≤◌, ◌<◌, IfErr, IfOk, OnErr, OnOk, length};
 ghost use Rattle.hsp_dispatch.specs.Shares.{query};
 ghost use Rattle.hsp_price_check.specs.Classes.{service_of};
-ghost use Rattle.hsp_price_dispatch.specs.Choosing.{answer_by, left_by};
+ghost use Rattle.hsp_price_dispatch.specs.Choosing.{LeadsWithin, answer_by, left_by};
 ghost use Rattle.hsp_price_dispatch.specs.Starting.{Fits, IsBegun, Stands};
 
 use crate::answer::PriceAnswer;
@@ -96,6 +96,8 @@ impl<'a> PriceDispatcher<'a> {
             (λ answer. answer ≡ answer_by self.old (query region.now handle.entry)) }
         ensures left { OnOk result (self.new ≡ left_by self.old (query region.now handle.entry)) }
         ensures stays { OnErr result (self.new ≡ self.old) }
+        ensures within { IfOk result (LeadsWithin (length self.old.service.servers)) }
+        ensures service { self.new.service ≡ self.old.service }
     {
         self.arcs.find(alloc, region, handle)?;
         let choice = choose(

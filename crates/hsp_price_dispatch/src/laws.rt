@@ -1,6 +1,7 @@
 // What holds of every plan and of every list of queries.
 
-ghost use Rattle.hsp_price_dispatch.specs.Laws.{AnswersAlone, EndsInTheSame, GoesByItsEntries, GoesOverItsArcs};
+ghost use Rattle.hsp_price_dispatch.specs.Laws.{AnswersAlone, EndsInTheSame, GivesTheGreatestPart, GoesByItsEntries};
+ghost use Rattle.hsp_price_dispatch.specs.Laws.{GoesOverItsArcs};
 ghost use Rattle.hsp_price_dispatch.specs.Laws.{IsFullWithoutRoom, LeastAreArcs, NeverExceeds, NeverExceedsTogether};
 ghost use Rattle.hsp_price_dispatch.specs.Laws.{RoomsAddUp, TakesHostRoom, TakesRoom};
 ghost use Rattle.hsp_price_dispatch.specs.Planned.{IsServedByPlan};
@@ -25,6 +26,12 @@ pub fn fronts_within()
 pub fn goes_over_its_arcs()
     ensures goes { GoesOverItsArcs }
     ensures least { LeastAreArcs }
+{}
+
+/// Of the places of a class that can give, none has a greater part of its amount left than the one that a query goes
+/// to.
+pub fn gives_the_greatest_part()
+    ensures { GivesTheGreatestPart }
 {}
 
 /// A query is answered by `Full` only where the server of each of its arcs, or its host, has no room left.

@@ -48,8 +48,10 @@ fn within_limits(
     plan: &PricedPlan,
     numbers: ServiceNumbers,
 ) -> Result<Accepted, StartFault>
-    requires numbers { (costs : List CostEntry) → AreNumbersOf (service_of costs instance.now) numbers }
-    requires shape { (costs : List CostEntry) → PlanMeets (service_of costs instance.now) [] plan.now Shaped }
+    requires numbers { (costs : List CostEntry)
+        → AreNumbersOf (service_of costs instance.now) numbers }
+    requires shape { (costs : List CostEntry)
+        → PlanMeets (service_of costs instance.now) [] plan.now Shaped }
     requires there { (costs : List CostEntry)
         → PlanMeets (service_of costs instance.now) [] plan.now MissingServer }
     ensures accepted { IfOk result (λ accepted. (costs : List CostEntry)

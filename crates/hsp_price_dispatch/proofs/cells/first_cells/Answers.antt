@@ -21,8 +21,10 @@ loop-class-preserved c =
     let classes = c.args.classes.now in
     let firsts = c.loop-class.firsts.items in
     let d = c.class-item.result in
-    let many : c.cells_many-next.result ≡ min (length (get_or classes i d).servers) (length (get_or classes i d).amounts) =
-    c.cells_many-next.ensures ∙ ap (λ (class : Class). min (length class.servers) (length class.amounts)) c.class-item.is in
+    let many : c.cells_many-next.result ≡ min (length (get_or classes i d).servers) (length (get_or classes i
+    d).amounts) =
+    c.cells_many-next.ensures ∙ ap (λ (class : Class). min (length class.servers) (length class.amounts))
+    c.class-item.is in
     let fit = c.requires.fit i d c.loop-class-test.true in
     let push : c.push.new.self.items ≡ firsts ++ c.loop-class.next ∷ [] = c.in_ok-push.ensures.items in
     record {
@@ -30,7 +32,8 @@ loop-class-preserved c =
           ap (λ (list : List ℕ). length list) push ∙ length_push firsts c.loop-class.next
           ∙ ap (λ n. n + 1) c.loop-class.invariant.many;
       next =
-          next_cell classes i d c.loop-class.next c.cells_many-next.result c.loop-class-test.true c.loop-class.invariant.next
+          next_cell classes i d c.loop-class.next c.cells_many-next.result c.loop-class-test.true
+          c.loop-class.invariant.next
           many;
       low =
           omega (arith, fit, sends_many (get_or classes i d), many, c.loop-class.invariant.low);

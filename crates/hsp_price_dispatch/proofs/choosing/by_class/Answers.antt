@@ -17,5 +17,6 @@ fullest-requires-clause-cells c =
     ∙ sym (c.find_class.ensures classes c.requires.index.classes) ∙ c.in-Some.is in
     let there = cells_there own c.args.index.now c.requires.index region c.args.least.now c.in-Some.class found in
     let read =
-    get_or_read c.args.index.now.firsts.items c.in-Some.class c.index-first.result.now there.0 c.index-first.ensures 0 in
+    get_or_read c.args.index.now.firsts.items c.in-Some.class c.index-first.result.now there.0 c.index-first.ensures 0
+    in
     omega (arith, there.1, read)

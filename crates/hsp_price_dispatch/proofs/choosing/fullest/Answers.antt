@@ -17,7 +17,8 @@ places-preserved-then-can_give c =
     record {
       inside = omega (arith, c.places.invariant.inside);
       best =
-          best_here own (drop (c.places.at - 1) (places_from c.args.first c.args.arcs.now (drop c.args.first own.cells)))
+          best_here own (drop (c.places.at - 1) (places_from c.args.first c.args.arcs.now (drop c.args.first
+          own.cells)))
           (drop c.places.at (places_from c.args.first c.args.arcs.now (drop c.args.first own.cells)))
           (place_at own.cells c.args.first c.args.arcs.now (c.places.at - 1)) c.fuller.result c.can_give.result
           c.places.best
@@ -35,7 +36,8 @@ places-preserved c =
     record {
       inside = omega (arith, c.places.invariant.inside);
       best =
-          best_later own (drop (c.places.at - 1) (places_from c.args.first c.args.arcs.now (drop c.args.first own.cells)))
+          best_later own (drop (c.places.at - 1) (places_from c.args.first c.args.arcs.now (drop c.args.first
+          own.cells)))
           (drop c.places.at (places_from c.args.first c.args.arcs.now (drop c.args.first own.cells)))
           (place_at own.cells c.args.first c.args.arcs.now (c.places.at - 1)) c.can_give.result c.places.best
           (place_before own.cells c.args.first c.args.arcs.now c.places.at c.places-test.true c.places.invariant.inside
