@@ -54,8 +54,8 @@ fn full_worth(alloc: Global, instance: &Instance, plan: &PricedPlan) -> Result<u
 /// rows, and its verdict on the plan is Yes.
 ///
 /// The report has the form of [`load_report`](hsp_report::load_report): a header, a line for each server in ascending
-/// number, and `bound A - B = C`. A is what the rows pay by the prices, B the capacities and the limits at the prices of
-/// servers and hosts, and C what the plan costs.
+/// number, and `bound A - B = C`. A is what the rows pay by the prices, B the capacities and the limits at the prices
+/// of servers and hosts, and C what the plan costs.
 pub fn price_load_report(
     alloc: Global,
     instance: &Instance,

@@ -15,8 +15,8 @@ use std::alloc::{AllocError, Global};
 
 // Appends the line of the region with this number.
 fn push_region(out: &mut Vec<u8>, check: &PriceCheck<'_>, number: usize) -> Result<(), AllocError>
-    requires { (at : Service) × (plan : Best) × (rows : List Row) × IsValidPass at plan rows check.now
-        × (number < length (regions_of rows)) }
+    requires { (at : Service) × (plan : Best) × (rows : List Row)
+        × IsValidPass at plan rows check.now × (number < length (regions_of rows)) }
     ensures { OnOk result ((at : Service) (plan : Best) (rows : List Row)
         → IsValidPass at plan rows check.now
         → out.new.items ≡ out.old.items ++ region_line_at at plan rows number) }
@@ -53,7 +53,11 @@ fn total_demand(check: &PriceCheck<'_>) -> u128
 }
 
 // Appends the line of what all rows ask for, and what the plan costs.
-fn push_total(out: &mut Vec<u8>, plan: &PricedPlan, check: &PriceCheck<'_>) -> Result<(), AllocError>
+fn push_total(
+    out: &mut Vec<u8>,
+    plan: &PricedPlan,
+    check: &PriceCheck<'_>,
+) -> Result<(), AllocError>
     requires { IsOfSome check.now }
     ensures { OnOk result ((at : Service) (rows : List Row)
         → IsValidPass at plan.now rows check.now

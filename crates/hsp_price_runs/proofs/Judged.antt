@@ -47,8 +47,9 @@ module _ {X : Type 0} (Is : PriceCertificate → List Row → Result X StreamFau
   certificate_stops e is = (Err (fault_of_input e), (Err e, is, refl), refl)
 
   -- it is read, and asked
-  pub text_is : (certificate : PriceCertificate) (answer : Result X StreamFault) → IsCertificateIn octets (Ok certificate)
-      → AnswersRecords (Is certificate) answer records → AnswersText Is octets answer records
+  pub text_is : (certificate : PriceCertificate) (answer : Result X StreamFault)
+      → IsCertificateIn octets (Ok certificate) → AnswersRecords (Is certificate) answer records
+      → AnswersText Is octets answer records
   text_is certificate answer is asked = (Ok certificate, (Ok certificate, is, refl), asked)
 
 module _ {X : Type 0} (Is : Instance → Service → PriceCertificate → List Row → Result X StreamFault → Type 0)

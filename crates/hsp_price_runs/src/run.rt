@@ -53,11 +53,13 @@ fn ask_log<A: Asked, R: Read + Drop>(
 ) -> Result<A::Answer, StreamFault>
     ensures answer { IfOk result (λ answer. OfLog (R.remaining log) (AnswersRecords
         (A.Is asked.now service.entry.instance.now
-        (service_of service.entry.costs.now service.entry.instance.now) certificate.now) (Ok answer))) }
+        (service_of service.entry.costs.now service.entry.instance.now) certificate.now)
+        (Ok answer))) }
     ensures fault { IfErr result (λ fault. IsReadFault fault
         ⊎ OfLog (R.remaining log) (AnswersRecords
         (A.Is asked.now service.entry.instance.now
-        (service_of service.entry.costs.now service.entry.instance.now) certificate.now) (Err fault))) }
+        (service_of service.entry.costs.now service.entry.instance.now) certificate.now)
+        (Err fault))) }
 {
     let mut check = PriceCheck::new(alloc, service.instance, service.costs, certificate)?;
     pass_log(alloc, &mut check, log)?;

@@ -30,8 +30,8 @@ pub push_loads-requires-clause-loads : goal.push_loads-requires-clause-loads
 push_loads-requires-clause-loads c =
     let (costs, rows, is) = c.requires in
     let (own, same, are) =
-    (rw c.unwrap-loads.ensures at c.loads.ensures.loads) (service_of costs c.args.instance.now) (Plan c.args.plan.now) rows
-    is.passed in
+    (rw c.unwrap-loads.ensures at c.loads.ensures.loads) (service_of costs c.args.instance.now)
+    (Plan c.args.plan.now) rows is.passed in
     are.many
 
 pub push_loads-requires-clause-prices : goal.push_loads-requires-clause-prices

@@ -11,7 +11,8 @@ loop-number-preserved c = λ at plan rows is.
     let many = c.regions-number-end.ensures.rows at (Plan plan) rows is.passed in
     let inside : c.loop-number.number < length (regions_of rows) = omega (arith, many, c.loop-number-test.true) in
     line_next (region_line at plan rows) c.args.out.now.items c.loop-number.out.items _ (regions_of rows)
-    c.loop-number.number [] inside (c.loop-number.invariant at plan rows is) (c.in_ok-push_region.ensures at plan rows is)
+    c.loop-number.number [] inside (c.loop-number.invariant at plan rows is)
+    (c.in_ok-push_region.ensures at plan rows is)
 
 pub returns : goal.returns
 returns c = λ at plan rows is.

@@ -40,7 +40,8 @@ returns-in-Ok-clause-answer g c =
     IfOk-weaker c.ask_text.result (λ answer. OfLog log (AnswersText (Is it (service_of costs it)) octets (Ok answer)))
     (λ answer. OfLog log (AnswersRead Is inputs octets (Ok answer)))
     (λ answer.
-    log_more (AnswersText (Is it (service_of costs it)) octets (Ok answer)) (AnswersRead Is inputs octets (Ok answer)) log
+    log_more (AnswersText (Is it (service_of costs it)) octets (Ok answer))
+    (AnswersRead Is inputs octets (Ok answer)) log
     (λ records is. (it, read, (costs, rw c.deref.ensures.value at c.in-Ok.ensures, is)))) c.ask_text.ensures.answer
 
 pub returns-in-Ok-clause-fault : goal.returns-in-Ok-clause-fault
