@@ -30,11 +30,7 @@ fn add_class(loads: &mut [u128], class: &Class)
 /// # Errors
 ///
 /// An `AllocError` where memory runs out.
-pub fn class_loads(
-    alloc: Global,
-    classes: &[Class],
-    count: usize,
-) -> Result<Vec<u128>, AllocError>
+pub fn class_loads(alloc: Global, classes: &[Class], count: usize) -> Result<Vec<u128>, AllocError>
     requires { All (λ class. All (λ j. j < count) class.servers) classes.now }
     ensures { IfOk result (λ loads. AreClassLoads count classes.now loads.items) }
 {

@@ -38,11 +38,7 @@ fn least_pay(arcs: &[Arc], extras: &[u64]) -> u64
 /// # Errors
 ///
 /// An `AllocError` where memory runs out. Nothing is said of the list then.
-pub fn fill_least(
-    least: &mut Vec<Arc>,
-    arcs: &[Arc],
-    extras: &[u64],
-) -> Result<(), AllocError>
+pub fn fill_least(least: &mut Vec<Arc>, arcs: &[Arc], extras: &[u64]) -> Result<(), AllocError>
     requires within { AllByRecursion (IsWithin (length extras.now)) arcs.now }
     requires low { AreLow extras.now }
     ensures { OnOk result (least.new.items ≡ least_arcs (pay_by extras.now) arcs.now) }

@@ -43,7 +43,7 @@ impl<'a> Model for PriceDispatcher<'a> {
 
 impl<'a> PriceDispatcher<'a> {
     /// A front before its first query, by a certificate by prices for the service of an instance and costs. Each of
-    /// `front.fronts` fronts has its share of the plan: one front alone is `Front { fronts: 1, number: 0 }`. The rows
+    /// `front.fronts` fronts has its share of the plan: only one front is `Front { fronts: 1, number: 0 }`. The rows
     /// of the instance are not read.
     ///
     /// # Errors
