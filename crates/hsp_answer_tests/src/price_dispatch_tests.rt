@@ -60,7 +60,7 @@ fn made(alloc: Global, hosts: &[u8], prices: &[u8]) -> Option<Held> {
 }
 
 // The same, once more where memory ran out.
-fn held(rt: &impl Abort, alloc: Global, hosts: &[u8], prices: &[u8]) -> Held {
+fn hold(rt: &impl Abort, alloc: Global, hosts: &[u8], prices: &[u8]) -> Held {
     match made(alloc, hosts, prices) {
         Some(held) => held,
         None => made(alloc, hosts, prices).expect(rt, "the texts are right"),
@@ -154,7 +154,7 @@ fn ask_a_class(rt: &impl Abort, alloc: Global, dispatcher: &mut PriceDispatcher<
 #[test]
 fn a_class_goes_by_its_amounts_and_then_into_free_room(rt: HostRuntime) {
     let alloc = rt.alloc();
-    let held = held(&rt, alloc, b"", PLAN);
+    let held = hold(&rt, alloc, b"", PLAN);
     match start(alloc, &held, 1, 0) {
         Ok(mut dispatcher) => ask_a_class(&rt, alloc, &mut dispatcher),
         Err(fault) => is_same(&rt, Some(fault), None),
@@ -178,7 +178,7 @@ fn ask_too_much(rt: &impl Abort, alloc: Global, dispatcher: &mut PriceDispatcher
 #[test]
 fn room_that_is_held_goes_last(rt: HostRuntime) {
     let alloc = rt.alloc();
-    let held = held(&rt, alloc, b"", PLAN);
+    let held = hold(&rt, alloc, b"", PLAN);
     match start(alloc, &held, 1, 0) {
         Ok(mut dispatcher) => ask_too_much(&rt, alloc, &mut dispatcher),
         Err(fault) => is_same(&rt, Some(fault), None),
@@ -199,7 +199,7 @@ fn ask_a_host(rt: &impl Abort, alloc: Global, dispatcher: &mut PriceDispatcher<'
 #[test]
 fn a_host_may_fill_before_its_servers(rt: HostRuntime) {
     let alloc = rt.alloc();
-    let held = held(&rt, alloc, HOST, HOSTED_PLAN);
+    let held = hold(&rt, alloc, HOST, HOSTED_PLAN);
     match start(alloc, &held, 1, 0) {
         Ok(mut dispatcher) => ask_a_host(&rt, alloc, &mut dispatcher),
         Err(fault) => is_same(&rt, Some(fault), None),
@@ -228,7 +228,7 @@ fn ask_the_second(rt: &impl Abort, alloc: Global, dispatcher: &mut PriceDispatch
 #[test]
 fn fronts_have_their_shares(rt: HostRuntime) {
     let alloc = rt.alloc();
-    let held = held(&rt, alloc, b"", PLAN);
+    let held = hold(&rt, alloc, b"", PLAN);
     match start(alloc, &held, 2, 0) {
         Ok(mut dispatcher) => ask_the_first(&rt, alloc, &mut dispatcher),
         Err(fault) => is_same(&rt, Some(fault), None),
@@ -241,7 +241,7 @@ fn fronts_have_their_shares(rt: HostRuntime) {
 
 // A dispatcher by this certificate has this fault.
 fn has_fault(rt: &impl Abort, alloc: Global, prices: &[u8], wanted: StartFault) {
-    let held = held(rt, alloc, b"", prices);
+    let held = hold(rt, alloc, b"", prices);
     let fault = match start(alloc, &held, 1, 0) {
         Ok(_dispatcher) => None,
         Err(fault) => Some(fault),

@@ -53,7 +53,7 @@ limit_low (host ∷ hosts) all zero = all.0
 limit_low (host ∷ hosts) all (suc h) = limit_low hosts all.1 h
 
 -- a number or nothing is at most the number
-none_or : (t : Bool) (n : ℕ) → (if t then n else 0) ≤ n
+pub none_or : (t : Bool) (n : ℕ) → (if t then n else 0) ≤ n
 none_or true n = omega arith
 none_or false n = omega arith
 

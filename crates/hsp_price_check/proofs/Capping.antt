@@ -20,3 +20,7 @@ kept_more a b = omega arith
 -- what is kept of a sum within a small bound is the sum
 pub kept_within : (n m : ℕ) → m < 2 ^ 64 → n ≤ m → capped n ≡ n
 kept_within n m small within = grind (arith, small, within)
+
+-- and a sum that is kept within the bound is within it
+pub within_kept : (n m : ℕ) → m < 2 ^ 64 → capped n ≤ m → n ≤ m
+within_kept n m small within = grind (arith, small, within)

@@ -17,7 +17,7 @@ use Rattle.hsp_price_check.specs.Passed.{capped}
 use Rattle.hsp_price_check.proofs.Capping.{term_added, term_skipped}
 
 -- one list with nothing left has no pair left
-none_left : {A B : Type 0} (xs : List A) (ys : List B) → (length xs ≡ 0) ⊎ (length ys ≡ 0) → zip xs ys ≡ []
+pub none_left : {A B : Type 0} (xs : List A) (ys : List B) → (length xs ≡ 0) ⊎ (length ys ≡ 0) → zip xs ys ≡ []
 none_left [] ys none = refl
 none_left (x ∷ xs) [] none = refl
 none_left (x ∷ xs) (y ∷ ys) (inl none) = absurd (omega arith)

@@ -19,15 +19,11 @@ use Rattle.hsp_classes.proofs.Bounds.{capacity_low}
 use Rattle.hsp_price_check.specs.Passed.{capped}
 use Rattle.hsp_price_check.specs.PlanPass.{IsPlanPass}
 use Rattle.hsp_price_check.specs.declared.plan_pass.PlanPass.{PlanPass}
-use Rattle.hsp_price_check.proofs.Capping.{kept_within}
+use Rattle.hsp_price_check.proofs.Capping.{kept_within, within_kept}
 
 -- a sum that is kept as a small number is that number
 pub exact : (n m : ℕ) → m < 2 ^ 64 → capped n ≡ m → n ≡ m
 exact n m small is = grind (arith, small, is)
-
--- and a sum that is kept within the bound is within it
-pub within_kept : (n m : ℕ) → m < 2 ^ 64 → capped n ≤ m → n ≤ m
-within_kept n m small within = grind (arith, small, within)
 
 module _ (at : Service) (plan : Best) (rows : List Row) (pass : PlanPass) (is : IsPlanPass at plan rows pass) where
   abbrev capacities : List ℕ

@@ -1,7 +1,7 @@
 pub mod Capping
 mod LeastPays
 mod ClassPlaces
-mod ClassSums
+pub mod ClassSums
 pub mod ServiceHosts
 mod SetCapacity
 mod Positions

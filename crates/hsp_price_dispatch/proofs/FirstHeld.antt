@@ -26,7 +26,8 @@ use Rattle.hsp_price_dispatch.specs.declared.cells.Cell.{Cell}
 use Rattle.hsp_price_dispatch.specs.declared.starting.Accepted.{Accepted}
 use Rattle.hsp_price_dispatch.proofs.Begun.{cells_in}
 use Rattle.hsp_price_dispatch.proofs.Fronts.{sends_there}
-use Rattle.hsp_price_dispatch.proofs.Starts.{capacity_small, kept_within}
+use Rattle.hsp_price_check.proofs.Capping.{kept_within}
+use Rattle.hsp_price_dispatch.proofs.Starts.{capacity_small}
 use Rattle.hsp_price_dispatch.proofs.Sums.{all_sends, host_left, host_load_is, left_is, load_is, shares_low}
 
 -- nothing is left at servers where no cell is

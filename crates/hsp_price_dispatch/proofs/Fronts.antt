@@ -17,7 +17,8 @@ use Rattle.hsp_dispatch.proofs.FrontCounts.{more_elsewhere, more_here}
 use Rattle.hsp_dispatch.proofs.FrontShares.{shares_add_up}
 use Rattle.hsp_price_dispatch.specs.Choosing.{answer_by, left_by}
 use Rattle.hsp_price_dispatch.specs.Holding.{Held, host_room_at, left_where, room_at}
-use Rattle.hsp_price_dispatch.specs.Laws.{AnswersAlone, AreBegun, EndsInTheSame, GoesByItsEntries, NeverExceedsTogether}
+use Rattle.hsp_price_dispatch.specs.Laws.{AnswersByItsOwn, AreBegun}
+use Rattle.hsp_price_dispatch.specs.Laws.{EndsInTheSame, GoesByItsEntries, NeverExceedsTogether}
 use Rattle.hsp_price_dispatch.specs.Laws.{RoomsAddUp, answers_at, answers_to, count_at, count_on, event_answer}
 use Rattle.hsp_price_dispatch.specs.Laws.{left_after}
 use Rattle.hsp_price_dispatch.specs.Starting.{Fits, capacity_at, limit_at}
@@ -61,7 +62,7 @@ module _ (begun : ℕ → Held) (front : ℕ) where
       ]
 
 -- so each front answers as if there were no other
-pub answers_alone : AnswersAlone
+pub answers_alone : AnswersByItsOwn
 answers_alone begun front events = at_front begun front [] events
 
 -- by its own entries alone

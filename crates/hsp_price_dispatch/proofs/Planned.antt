@@ -36,7 +36,7 @@ use Rattle.hsp_price_dispatch.specs.Choosing.{places_of, row_of}
 use Rattle.hsp_price_dispatch.specs.Holding.{Held, cell_at, has_room_at, held_at, host_held_at, host_passes}
 use Rattle.hsp_price_dispatch.specs.Holding.{host_room_at, is_free, left_where, no_cell, one_given, room_at}
 use Rattle.hsp_price_dispatch.specs.Holding.{with_given, with_query_at}
-use Rattle.hsp_price_dispatch.specs.Planned.{alone_where, asked_at, goes_alone, has_place, is_assigned, is_number}
+use Rattle.hsp_price_dispatch.specs.Planned.{only_least_where, asked_at, has_only, has_place, is_assigned, is_number}
 use Rattle.hsp_price_dispatch.specs.Planned.{AreWithinPlan, IsServedByPlan, is_placed}
 use Rattle.hsp_price_dispatch.specs.Laws.{answers_to, count_at, left_after}
 use Rattle.hsp_price_dispatch.specs.Starting.{Fits, IsBegun, capacity_at, cell_of, cells_of, limit_at}
@@ -188,10 +188,10 @@ pub record IsReady (own : Held) (entries : List Entry) (slack host_slack class_s
       ≡ asked_at own.service own.plan k entries + class_slack k
   pub all_cells : length own.cells ≡ first_cell own.plan.classes (length own.plan.classes)
   pub rooms : (j : ℕ) → room_at own j
-      ≡ held_at own j + (alone_where own.service own.plan (λ i. i == j) entries + slack j)
+      ≡ held_at own j + (only_least_where own.service own.plan (λ i. i == j) entries + slack j)
   pub host_rooms : (h : ℕ) → host_room_at own h
       ≡ host_held_at own h
-      + (alone_where own.service own.plan (λ i. is_on (host_at own.service i) h) entries + host_slack h)
+      + (only_least_where own.service own.plan (λ i. is_on (host_at own.service i) h) entries + host_slack h)
 
 module _ (own : Held) (entry : Entry) (entries : List Entry) (slack host_slack class_slack : ℕ → ℕ)
     (is : IsReady own (entry ∷ entries) slack host_slack class_slack) where
@@ -204,13 +204,13 @@ module _ (own : Held) (entry : Entry) (entries : List Entry) (slack host_slack c
   abbrev class : Option ℕ
   class = class_number own.plan entry.region least
 
-  -- one query more that goes alone or not
+  -- one query more, with only one least server or not
   alone_split : (test : ℕ → Bool)
-      → alone_where own.service own.plan test (entry ∷ entries)
-      ≡ goes_alone test (only_arc least) + alone_where own.service own.plan test entries
+      → only_least_where own.service own.plan test (entry ∷ entries)
+      ≡ has_only test (only_arc least) + only_least_where own.service own.plan test entries
   alone_split test =
       sum_by-cons
-      (λ (e : Entry). goes_alone test (only_arc (least_of own.service own.plan (row_of e)))) entry entries
+      (λ (e : Entry). has_only test (only_arc (least_of own.service own.plan (row_of e)))) entry entries
 
   -- one query more of a class or not
   asked_split : (k : ℕ)
@@ -223,8 +223,8 @@ module _ (own : Held) (entry : Entry) (entries : List Entry) (slack host_slack c
 
   module _ (arc : Arc) (one : least ≡ arc ∷ []) where
     -- the one least arc is counted
-    alone_one : (test : ℕ → Bool) → goes_alone test (only_arc least) ≡ one_if (test arc.server)
-    alone_one test = ap (λ (list : List Arc). goes_alone test (only_arc list)) one
+    alone_one : (test : ℕ → Bool) → has_only test (only_arc least) ≡ one_if (test arc.server)
+    alone_one test = ap (λ (list : List Arc). has_only test (only_arc list)) one
 
     -- its host has free room, if there is one
     host_free : (o : Option ℕ) → host_at own.service arc.server ≡ o
@@ -391,8 +391,8 @@ module _ (own : Held) (entry : Entry) (entries : List Entry) (slack host_slack c
         choice_some own entry.region arcs least nonempty
         ∙ sym (full_first by (assigned own entry.region least) (elsewhere own arcs) first_by)
 
-    -- a query of a class doesn't go alone
-    not_alone : (test : ℕ → Bool) (list : List Arc) → 2 ≤ length list → goes_alone test (only_arc list) ≡ 0
+    -- a query of a class has several least servers
+    not_alone : (test : ℕ → Bool) (list : List Arc) → 2 ≤ length list → has_only test (only_arc list) ≡ 0
     not_alone test [] l = absurd (omega arith)
     not_alone test (a ∷ []) l = absurd (omega arith)
     not_alone test (a ∷ b ∷ more) l = refl
@@ -684,7 +684,7 @@ module _ (own : Held) (entries : List Entry) (fits_text : is_best own.plan ≡ t
   abbrev slack : ℕ → ℕ
   slack j =
       capacity_at own.service j
-      - (load_at own.service own.plan [] j + alone_where own.service own.plan (λ i. i == j) entries)
+      - (load_at own.service own.plan [] j + only_least_where own.service own.plan (λ i. i == j) entries)
 
   abbrev class_slack : ℕ → ℕ
   class_slack k = sum (class_at own.plan k).amounts - asked_at own.service own.plan k entries
@@ -693,7 +693,7 @@ module _ (own : Held) (entries : List Entry) (fits_text : is_best own.plan ≡ t
   host_slack h =
       limit_at own.service h
       - (host_load_at own.service own.plan [] h
-      + alone_where own.service own.plan (λ i. is_on (host_at own.service i) h) entries)
+      + only_least_where own.service own.plan (λ i. is_on (host_at own.service i) h) entries)
 
   -- at a server
   held_server : (j : ℕ) → held_at own j ≡ load_at own.service own.plan [] j
@@ -707,7 +707,7 @@ module _ (own : Held) (entries : List Entry) (fits_text : is_best own.plan ≡ t
 
   -- the room of a server at first
   rooms_start : (j : ℕ) → room_at own j
-      ≡ held_at own j + (alone_where own.service own.plan (λ i. i == j) entries + slack j)
+      ≡ held_at own j + (only_least_where own.service own.plan (λ i. i == j) entries + slack j)
   rooms_start j = elim (cases_lt j (length own.service.servers)) [
     | inl inside ↦
         let free = capacity_at own.service j - load_at own.service own.plan [] j in
@@ -723,7 +723,7 @@ module _ (own : Held) (entries : List Entry) (fits_text : is_best own.plan ≡ t
   -- and that of a host
   host_rooms_start : (h : ℕ) → host_room_at own h
       ≡ host_held_at own h
-      + (alone_where own.service own.plan (λ i. is_on (host_at own.service i) h) entries + host_slack h)
+      + (only_least_where own.service own.plan (λ i. is_on (host_at own.service i) h) entries + host_slack h)
   host_rooms_start h = elim (cases_lt h (length own.service.hosts)) [
     | inl inside ↦
         let free = limit_at own.service h - host_load_at own.service own.plan [] h in
@@ -765,11 +765,11 @@ module _ (own : Held) (entries : List Entry) (fits_text : is_best own.plan ≡ t
   -- and all of it is assigned
   served : All (λ answer. is_assigned answer ≡ true) (answers_to own entries)
       × ((j : ℕ) → count_at j (answers_to own entries)
-      ≤ alone_where own.service own.plan (λ i. i == j) entries + load_at own.service own.plan [] j)
+      ≤ only_least_where own.service own.plan (λ i. i == j) entries + load_at own.service own.plan [] j)
       × (((k : ℕ) → k < length classes
       → asked_at own.service own.plan k entries ≡ sum (class_at own.plan k).amounts)
       → (j : ℕ) → count_at j (answers_to own entries)
-      ≡ alone_where own.service own.plan (λ i. i == j) entries + load_at own.service own.plan [] j)
+      ≡ only_least_where own.service own.plan (λ i. i == j) entries + load_at own.service own.plan [] j)
   served =
       let all = all_go own entries slack host_slack class_slack ready_start in (
         all.0,

@@ -20,32 +20,17 @@ use Rattle.hsp_classes.specs.Shown.{IsService}
 use Rattle.hsp_classes.specs.Sums.{class_load, host_load_at, load_at}
 use Rattle.hsp_classes.specs.Verdict.{PlanMeets}
 use Rattle.hsp_classes.specs.declared.verdict.PriceReason.TheVariants.{Load}
+use Rattle.hsp_classes.proofs.Bounds.{capacity_low}
 use Rattle.hsp_price_check.specs.Classes.{AreClassLoads}
 use Rattle.hsp_price_check.specs.Passed.{capped}
 use Rattle.hsp_price_check.specs.PlanPass.{AreNumbersOf}
 use Rattle.hsp_price_check.specs.declared.numbers.ServiceNumbers.{ServiceNumbers}
+use Rattle.hsp_price_check.proofs.Capping.{kept_within, within_kept}
 use Rattle.hsp_price_dispatch.specs.Holding.{left_where}
 use Rattle.hsp_price_dispatch.specs.Starting.{capacity_at}
 use Rattle.hsp_price_dispatch.specs.declared.cells.Cell.{Cell}
 
--- ---- sums that are kept
-
--- what is kept of a sum within a small bound is the sum
-pub kept_within : (n m : ℕ) → m < 2 ^ 64 → n ≤ m → capped n ≡ n
-kept_within n m small within = grind (arith, small, within)
-
--- and a sum that is kept within the bound is within it
-pub within_kept : (n m : ℕ) → m < 2 ^ 64 → capped n ≤ m → n ≤ m
-within_kept n m small within = grind (arith, small, within)
-
--- the capacity of a server is within its limit
-capacity_low : (sites : _) (hosts : ℕ) (servers : List Server) → AllByRecursion (IsServer sites hosts) servers → (j : ℕ)
-    → slice_index (map (λ server. server.capacity) servers) j ≤ GREATEST_CAPACITY
-capacity_low sites hosts [] all j = omega arith
-capacity_low sites hosts (s ∷ servers) all zero = all.0.capacity
-capacity_low sites hosts (s ∷ servers) all (suc j) = capacity_low sites hosts servers all.1 j
-
--- so it is small
+-- the capacity of a server is small
 pub capacity_small : (at : Service) → IsService at → (j : ℕ) → capacity_at at j < 2 ^ 64
 capacity_small at is j =
     let low = capacity_low at.sites (length at.hosts) at.servers is.servers.each j in omega (arith, low)

@@ -22,13 +22,6 @@ use Rattle.hsp_price_dispatch.specs.declared.cells.Cell.{Cell}
 
 -- ---- lists
 
--- one list with nothing left has no pair left
-pub none_left : {A B : Type 0} (xs : List A) (ys : List B) → (length xs ≡ 0) ⊎ (length ys ≡ 0) → zip xs ys ≡ []
-none_left [] ys none = refl
-none_left (x ∷ xs) [] none = refl
-none_left (x ∷ xs) (y ∷ ys) (inl none) = absurd (omega arith)
-none_left (x ∷ xs) (y ∷ ys) (inr none) = absurd (omega arith)
-
 -- a sum over lists joined end to end
 pub sum_joined : {A B : Type 0} (g : B → ℕ) (f : A → List B) (xs : List A)
     → sum_by g (flat_map f xs) ≡ sum_by (λ x. sum_by g (f x)) xs

@@ -149,9 +149,9 @@ answers_at front (event ∷ events) (answer ∷ given) =
 abbrev pub left_at : (ℕ → Held) → ℕ → List Event → Held
 left_at begun front events = left_after (begun front) (entries_at front events)
 
--- the answers at a front are those to its own entries alone
-abbrev pub AnswersAlone : Type 0
-AnswersAlone =
+-- the answers at a front are those to its own entries only
+abbrev pub AnswersByItsOwn : Type 0
+AnswersByItsOwn =
     (begun : ℕ → Held) (front : ℕ) (events : List Event)
     → answers_at front events (event_answers begun events) ≡ answers_to (begun front) (entries_at front events)
 

@@ -30,13 +30,13 @@ is_placed at plan entry =
     let least = least_of at plan (row_of entry) in has_place least (class_number plan entry.region least)
 
 -- how many queries have only one least arc, and by it a server that passes a test
-abbrev pub goes_alone : (ℕ → Bool) → Option Arc → ℕ
-goes_alone test None = 0
-goes_alone test (Some arc) = if test arc.server then 1 else 0
+abbrev pub has_only : (ℕ → Bool) → Option Arc → ℕ
+has_only test None = 0
+has_only test (Some arc) = if test arc.server then 1 else 0
 
-abbrev pub alone_where : Service → Best → (ℕ → Bool) → List Entry → ℕ
-alone_where at plan test entries =
-    sum_by (λ entry. goes_alone test (only_arc (least_of at plan (row_of entry)))) entries
+abbrev pub only_least_where : Service → Best → (ℕ → Bool) → List Entry → ℕ
+only_least_where at plan test entries =
+    sum_by (λ entry. has_only test (only_arc (least_of at plan (row_of entry)))) entries
 
 -- how many are of a class
 abbrev pub is_number : ℕ → Option ℕ → Bool
@@ -52,8 +52,8 @@ asked_at at plan k entries =
 pub record AreWithinPlan (at : Service) (plan : Best) (entries : List Entry) : Type 0 where
   pub placed : All (λ entry. is_placed at plan entry ≡ true) entries
   pub classes : (k : ℕ) → k < length plan.classes → asked_at at plan k entries ≤ sum (class_at plan k).amounts
-  pub servers : (j : ℕ) → alone_where at plan (λ i. i == j) entries + load_at at plan [] j ≤ capacity_at at j
-  pub hosts : (h : ℕ) → alone_where at plan (λ i. is_on (host_at at i) h) entries + host_load_at at plan [] h
+  pub servers : (j : ℕ) → only_least_where at plan (λ i. i == j) entries + load_at at plan [] j ≤ capacity_at at j
+  pub hosts : (h : ℕ) → only_least_where at plan (λ i. is_on (host_at at i) h) entries + host_load_at at plan [] h
       ≤ limit_at at h
 
 abbrev pub is_assigned : PriceAnswer → Bool
@@ -71,7 +71,7 @@ IsServedByPlan =
     → Fits at plan → IsBegun at plan 1 0 own → AreWithinPlan at plan entries
     → All (λ answer. is_assigned answer ≡ true) (answers_to own entries)
     × ((j : ℕ) → count_at j (answers_to own entries)
-    ≤ alone_where at plan (λ i. i == j) entries + load_at at plan [] j)
+    ≤ only_least_where at plan (λ i. i == j) entries + load_at at plan [] j)
     × (((k : ℕ) → k < length plan.classes → asked_at at plan k entries ≡ sum (class_at plan k).amounts)
     → (j : ℕ) → count_at j (answers_to own entries)
-    ≡ alone_where at plan (λ i. i == j) entries + load_at at plan [] j)
+    ≡ only_least_where at plan (λ i. i == j) entries + load_at at plan [] j)

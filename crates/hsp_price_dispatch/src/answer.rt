@@ -1,4 +1,4 @@
-// What is answered to a query, and what it is answered by.
+// What a front answers to a query, and by what.
 
 ghost use Rattle.std.specs.Prelude.{◌≡◌};
 ghost use Rattle.hsp_price_dispatch.specs.Choosing.{answer_of};
@@ -10,22 +10,23 @@ use hsp_instance::Arc;
 pub enum PriceAnswer {
     /// The query goes over one of the arcs over which it pays least.
     Assigned(Arc),
-    /// The query goes over another arc, as no room is left at those.
+    /// No least server has an amount left for the query, or free room. The query goes over this arc, which may be a
+    /// least one where only held room is left.
     Diverted(Arc),
-    /// No room is left at any server that the query may go to.
+    /// The server of each of the query's arcs, or its host, has no room left.
     Full,
     /// The query's region has no cost at any site.
     Unknown,
 }
 
-/// What a query is answered by.
+/// By what a front answers a query.
 #[derive(Clone, Copy)]
 pub(crate) enum Choice {
     /// The amount of the cell with this number. The query goes over the arc.
     OfClass(usize, Arc),
     /// Room beside the amounts of classes, over an arc of least pay.
     Free(Arc),
-    /// Room at another server, over this arc.
+    /// Room over this arc: free room, or room that is held for others.
     Diverted(Arc),
     /// There is no room.
     Full,

@@ -19,8 +19,8 @@ use hsp_tables::Costs;
 use std::alloc::{AllocError, Global};
 use std::marker::Model;
 
-/// A front that answers queries for any handle by a certificate by prices: by its share of the amounts of the
-/// certificate's classes, and by its share of the room that servers and hosts have beside these.
+/// A front that answers queries for any handle by a certificate by prices. It has a share of each amount of a class,
+/// and of the room that servers and hosts have beside these.
 #[derive(Drop)]
 pub struct PriceDispatcher<'a> {
     arcs: RowArcs<'a>,
@@ -43,7 +43,7 @@ impl<'a> Model for PriceDispatcher<'a> {
 
 impl<'a> PriceDispatcher<'a> {
     /// A front before its first query, by a certificate by prices for the service of an instance and costs. Each of
-    /// `front.fronts` fronts has its share of the plan: only one front is `Front { fronts: 1, number: 0 }`. The rows
+    /// `front.fronts` fronts has its share of the plan: a single front is `Front { fronts: 1, number: 0 }`. The rows
     /// of the instance are not read.
     ///
     /// # Errors

@@ -1,6 +1,6 @@
 // What holds of every plan and of every list of queries.
 
-ghost use Rattle.hsp_price_dispatch.specs.Laws.{AnswersAlone, EndsInTheSame, GivesTheGreatestPart, GoesByItsEntries};
+ghost use Rattle.hsp_price_dispatch.specs.Laws.{AnswersByItsOwn, EndsInTheSame, GivesTheGreatestPart, GoesByItsEntries};
 ghost use Rattle.hsp_price_dispatch.specs.Laws.{GoesOverItsArcs};
 ghost use Rattle.hsp_price_dispatch.specs.Laws.{IsFullWithoutRoom, LeastAreArcs, NeverExceeds, NeverExceedsTogether};
 ghost use Rattle.hsp_price_dispatch.specs.Laws.{RoomsAddUp, TakesHostRoom, TakesRoom};
@@ -28,8 +28,8 @@ pub fn goes_over_its_arcs()
     ensures least { LeastAreArcs }
 {}
 
-/// Of the places of a class that can give, none has a greater part of its amount left than the one that a query goes
-/// to.
+/// Of places none of which has more left than its share, the one that is found has the greatest part left of those that
+/// can give.
 pub fn gives_the_greatest_part()
     ensures { GivesTheGreatestPart }
 {}
@@ -40,8 +40,8 @@ pub fn full_without_room()
 {}
 
 /// Each front answers by what it began with and by its own earlier entries, as if there were no other.
-pub fn fronts_alone()
-    ensures { AnswersAlone }
+pub fn fronts_by_their_own()
+    ensures { AnswersByItsOwn }
 {}
 
 /// Two lists of events that have the same entries at a front have the same answers there, and leave the same there.
@@ -49,8 +49,9 @@ pub fn front_apart()
     ensures { GoesByItsEntries }
 {}
 
-/// Where queries ask one front for no more than the plan has, each is assigned, and no server gets more than the plan
-/// brings there. Where each class is asked for exactly its amounts, each server gets just that.
+/// Where each query of one front has one least server or a class, and none asks for more than the plan has, each is
+/// assigned. No server gets more than its amounts and the queries that have it as only least server. It gets just that
+/// where each class is asked for exactly its amounts.
 pub fn served_by_plan()
     ensures { IsServedByPlan }
 {}

@@ -13,15 +13,10 @@ use Rattle.hsp_classes.specs.Sums.{class_cost, load_at, row_cost}
 use Rattle.hsp_classes.specs.Verdict.{IsVerdict}
 use Rattle.hsp_classes.specs.declared.verdict.PriceReason.TheVariants.{Cost, Load}
 use Rattle.hsp_classes.specs.declared.verdict.PriceVerdict.TheVariants.{Yes}
-use Rattle.hsp_classes.proofs.Bounds.{capacity_low, demand_low}
+use Rattle.hsp_classes.proofs.Bounds.{capacity_low, demand_low, none_or}
 use Rattle.hsp_price_check.specs.Passed.{capped}
 use Rattle.hsp_price_check.specs.Regions.{cost_in, region_cost, region_demand}
 use Rattle.hsp_price_check.proofs.Capping.{kept_within}
-
--- a number or nothing is at most the number
-part_low : (t : Bool) (n : ℕ) → (if t then n else 0) ≤ n
-part_low true n = omega arith
-part_low false n = omega arith
 
 module _ (at : Service) (plan : Best) (rows : List Row) (is : IsService at) (fits : is_best plan ≡ true)
     (valid : IsVerdict at rows (Plan plan) Yes) where
@@ -45,7 +40,7 @@ module _ (at : Service) (plan : Best) (rows : List Row) (is : IsService at) (fit
         arith,
         demand_low at rows plan is fits valid,
         sum_by-le-sum_by (λ (row : Row). if bytes_eq region row.region then row.count else 0) (λ row. row.count) rows
-            (λ row. part_low (bytes_eq region row.region) row.count),
+            (λ row. none_or (bytes_eq region row.region) row.count),
       ))
 
   -- what it costs
@@ -57,7 +52,7 @@ module _ (at : Service) (plan : Best) (rows : List Row) (is : IsService at) (fit
         leb-true plan.cost 10000000000000000 (and_parts _ _ fits).0,
         valid Cost,
         sum_by-le-sum_by (λ (row : Row). if bytes_eq region row.region then row_cost at plan row else 0)
-            (row_cost at plan) rows (λ row. part_low (bytes_eq region row.region) (row_cost at plan row)),
+            (row_cost at plan) rows (λ row. none_or (bytes_eq region row.region) (row_cost at plan row)),
         sum_by-le-sum_by (cost_in at region) (class_cost at) plan.classes
-            (λ class. part_low (bytes_eq region class.region) (class_cost at class)),
+            (λ class. none_or (bytes_eq region class.region) (class_cost at class)),
       ))

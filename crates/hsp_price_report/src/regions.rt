@@ -58,7 +58,7 @@ fn push_total(
     plan: &PricedPlan,
     check: &PriceCheck<'_>,
 ) -> Result<(), AllocError>
-    requires { IsOfSome check.now }
+    requires { (at : Service) × (rows : List Row) × IsValidPass at plan.now rows check.now }
     ensures { OnOk result ((at : Service) (rows : List Row)
         → IsValidPass at plan.now rows check.now
         → out.new.items ≡ out.old.items ++ total_line plan.now rows) }
@@ -81,7 +81,7 @@ pub fn price_region_report(
     plan: &PricedPlan,
     check: &PriceCheck<'_>,
 ) -> Result<Vec<u8>, AllocError>
-    requires { IsOfSome check.now }
+    requires { (at : Service) × (rows : List Row) × IsValidPass at plan.now rows check.now }
     ensures { IfOk result (λ text. (at : Service) (rows : List Row)
         → IsValidPass at plan.now rows check.now
         → text.items ≡ region_report at plan.now rows) }

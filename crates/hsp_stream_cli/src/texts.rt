@@ -26,7 +26,8 @@ hsplan-stream check --settings F [--values F] --costs F --capacity F --log F
 
 hsplan-stream report --settings F [--values F] --costs F --capacity F --log F
                      --prices F --kind load|region
-    prints a line for each server or region by such a certificate, and the sums.
+    prints a line for each server or region by a certificate by prices, and last
+    the bound or the sums.
 
 hsplan-stream faults --demand F | --costs F | --capacity F | --log F
     prints every faulty row of a table or a log: its row, line, field and fault.

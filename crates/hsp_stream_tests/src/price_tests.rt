@@ -12,8 +12,10 @@ use hsp_faults::Fault;
 use hsp_instance::Instance;
 use hsp_names::HandleRef;
 use hsp_price_check::PriceCheck;
-use hsp_price_runs::{PriceReport, PriceReportKind, price_check_run, price_report_run};
-use hsp_price_runs::{price_verdict_line, price_verdict_status};
+use hsp_price_runs::{
+    PriceReport, PriceReportKind, price_check_run, price_report_run, price_verdict_line,
+    price_verdict_status,
+};
 use hsp_price_text::{PriceCertificate, read_prices};
 use hsp_runs::{Inputs, costs_in, instance_in};
 use hsp_stream::{RowFault, StreamFault};

@@ -2,7 +2,7 @@ use Rattle.std.proofs.Common.{◌≡◌, ◌∙◌, ◌++◌, [], ap, map, sym, 
 use Rattle.std.specs.List.{zip}
 use Rattle.std.proofs.lemmas.List.{append-nil}
 use Rattle.hsp_price_dispatch.specs.Starting.{cell_of}
-use Rattle.hsp_price_dispatch.proofs.Sums.{none_left}
+use Rattle.hsp_price_check.proofs.ClassSums.{none_left}
 use Rattle.hsp_price_dispatch.proofs.cells.push_cells.Goals as goal
 
 pub returns : goal.returns

@@ -1,5 +1,10 @@
 use Rattle.std.proofs.lemmas.Result.{IfOk-weaker}
+use Rattle.hsp_price_check.specs.Classes.{service_of}
 use Rattle.hsp_price_runs.proofs.report.PriceReportKind.text.Goals as goal
+
+pub price_region_report-requires : goal.price_region_report-requires
+price_region_report-requires c =
+    let (costs, rows, is) = c.requires in (service_of costs c.args.instance.now, rows, is)
 
 pub returns-in-Region : goal.returns-in-Region
 returns-in-Region c =
