@@ -141,9 +141,9 @@ def judge_changed(program: Runner, drawn: tuple[Case, bytes], where: Where) -> N
 
 
 @st.composite
-def tables(draw: Draw, service: Service) -> list[Row]:
+def tables(draw: Draw, service: Service, most_of: st.SearchStrategy[int] = MOST) -> list[Row]:
     """Rows, of which nearly all that ask for something have a site."""
-    most, pairs = draw(MOST), draw(PAIRS)
+    most, pairs = draw(most_of), draw(PAIRS)
     has_sites = {region: bool(service.sites_of(region)) or draw(TEN) == 0 for region in REGIONS}
     return [(region, handle, at_random(draw, most) * has_sites[region]) for region, handle in pairs]
 
@@ -159,10 +159,12 @@ def loads_of(draw: Draw, service: Service, rows: Sequence[Row]) -> list[int]:
     return loads
 
 
-def bounds_of(draw: Draw, service: Service, loads: Sequence[int], is_short: bool = False) -> Bounds:
+def bounds_of(
+    draw: Draw, service: Service, loads: Sequence[int], is_short: bool = False, slack: st.SearchStrategy[int] = SLACK
+) -> Bounds:
     """Bounds with some room beside the loads, or with less than them."""
     taken = [*loads, *price_verdicts.on_hosts(service, loads)]
-    room = [load // 2 if is_short and draw(OFTEN) else load + draw(SLACK) for load in taken]
+    room = [load // 2 if is_short and draw(OFTEN) else load + draw(slack) for load in taken]
     return Bounds(room[: len(loads)], room[len(loads) :])
 
 
@@ -176,17 +178,19 @@ def planned(draw: Draw) -> tuple[Case, st.DataObject]:
 
 
 @st.composite
-def priced(draw: Draw) -> tuple[Case, bytes, st.DataObject]:
+def priced(
+    draw: Draw, most_of: st.SearchStrategy[int] = MOST, slack: st.SearchStrategy[int] = SLACK
+) -> tuple[Case, bytes, st.DataObject]:
     """A certificate of drawn prices that rows go by. Servers with a price are mostly full."""
     service = draw(services())
-    rows, servers = draw(tables(service)), [draw(PRICE) for _ in prices.hosts_of(service)]
+    rows, servers = draw(tables(service, most_of)), [draw(PRICE) for _ in prices.hosts_of(service)]
     hosts = [draw(PRICE) for _ in range(service.hosts)]
     sent = dealt(draw, service, rows, prices.extras(service, servers, hosts))
     claim = price_verdicts.read(prices.text_of(0, servers, hosts, sent))
     assert isinstance(claim, price_verdicts.Claim), claim
     found = price_verdicts.brought(service, rows, claim)
     cost = found.cost + price_verdicts.of_classes(service, claim, found.loads)
-    bounds = bounds_of(draw, service, found.loads)
+    bounds = bounds_of(draw, service, found.loads, slack=slack)
     if draw(OFTEN):
         full = [*found.loads, *price_verdicts.on_hosts(service, found.loads)]
         given = zip(full, [*bounds.capacities, *bounds.limits], servers + hosts)
