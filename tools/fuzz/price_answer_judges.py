@@ -7,13 +7,13 @@ assigned. No server and no host gets too much, by a few fronts together either."
 from __future__ import annotations
 
 from collections import Counter
-from collections.abc import Iterable
+from collections.abc import Iterable, Mapping
 from typing import NamedTuple
 
-from draws import BOOLEAN, END, OFTEN, Draw, Entry, Log, Where, at_random, logs, pick
+from draws import BOOLEAN, END, OFTEN, Draw, Entry, Log, Where, at_random, changed, logs, pick
 from hypothesis import strategies as st
 from price_judges import NAME, Case, another, priced, short
-from runner import ALL, Answer, Kind, Runner, answered, same
+from runner import ALL, Answer, Kind, Runner, answered, ends_plainly, same
 
 from lib import cases, price_answers, price_verdicts
 from lib.oracle import Service
@@ -21,6 +21,7 @@ from lib.price_verdicts import Bounds
 
 WORDS = "answer --settings settings.toml --costs costs.csv --capacity capacity.csv --prices plan.prices --log log.csv"
 FEW_FRONTS = 4
+FILES = pick(["settings.toml", "costs.csv", "capacity.csv", "plan.prices", "log.csv", "log.csv", "log.csv"])
 FRONTS, REPEATS = pick([0, 0, 1, 2, 3, 4, 17, 64]), pick([1, 1, 2, 4, 9])
 SMALL, ROOM = pick([3, 12, 12, 40]), pick([0, 1, 4, 30])
 # What is printed where no front can begin with the plan, by the word of the reason, and by a shortage.
@@ -36,11 +37,17 @@ class Asked(NamedTuple):
     fronts: int = 0
     front: int = 0
 
-    def answer(self, program: Runner, log: bytes | None = None, piece: int = ALL, at: int = ALL) -> Answer:
-        words = WORDS + (f" --fronts {self.fronts} --front {self.front}" if self.fronts else "")
-        files = {**self.case.files(), "plan.prices": self.text, "log.csv": self.log.text if log is None else log}
+    def words(self) -> bytes:
+        return self.case.words(WORDS + (f" --fronts {self.fronts} --front {self.front}" if self.fronts else ""))
+
+    def files(self) -> dict[str, bytes]:
+        files = {**self.case.files(), "plan.prices": self.text, "log.csv": self.log.text}
         del files["demand.csv"]
-        return answered(program, self.case.words(words), files, piece=piece, noted=at)
+        return files
+
+    def answer(self, program: Runner, texts: Mapping[str, bytes] = {}, piece: int = ALL, at: int = ALL) -> Answer:
+        """The answer where these texts stand in place of files."""
+        return answered(program, self.words(), {**self.files(), **texts}, piece=piece, noted=at)
 
 
 def wanted_of(asked: Asked) -> cases.Ended:
@@ -69,7 +76,7 @@ def judge(program: Runner, asked: Asked, where: Where) -> Answer:
     same("in pieces", answer, pieces)
     if pieces.noted:
         given, printed = pieces.noted
-        before = asked.answer(program, log[: log[:given].rfind(b"\n") + 1])
+        before = asked.answer(program, {"log.csv": log[: log[:given].rfind(b"\n") + 1]})
         assert pieces.printed[:printed] == before.printed, f"what had come: {pieces}"
     return answer
 
@@ -138,6 +145,33 @@ def judge_planned(program: Runner, asked: Asked, where: Where) -> None:
     assert loads_of(service, [answer]) == planned.loads, f"loads: {answer}, wanted {planned.loads} of {asked}"
 
 
+def judge_words(program: Runner, drawn: tuple[Asked, object], where: Where) -> None:
+    """Options in another order are the same words, as arguments and on standard input."""
+    asked, _ = drawn
+    command, *options = asked.words().split(b" --")
+    other = b" --".join([command, *where.ordered(options)])
+    answer = asked.answer(program)
+    same("options in another order", answer, answered(program, other, asked.files()))
+    same("options as arguments", answer, answered(program, other, asked.files(), by_words=True))
+
+
+def judge_changed(program: Runner, drawn: tuple[Asked, str, bytes], where: Where) -> None:
+    """Judges the answers where one of the files has another text. The sums are those of the lines, and a log in pieces
+    has the same answers. By another log too no server gets too much, and what stands behind a log changes no line."""
+    asked, name, text = drawn
+    answer = asked.answer(program, {name: text})
+    same("in pieces", answer, asked.answer(program, {name: text}, where.piece))
+    if answer.fault:
+        return
+    sums = price_answers.sums_of(answer.printed.decode().splitlines())
+    assert answer.reported.decode() == sums, f"sums: {answer}"
+    if name == "log.csv":
+        judge_loads(asked, [answer])
+        if ends_plainly(text) and b"\xef" not in text:
+            more = asked.answer(program, {name: where.continued(text)})
+            assert more.printed.startswith(answer.printed), f"a longer log: {more}"
+
+
 # ---- what is drawn
 
 
@@ -159,8 +193,18 @@ def planned(draw: Draw) -> Asked:
     return Asked(case, text, Log(entries, has_bodies=True, end=draw(END), last=draw(BOOLEAN)))
 
 
+@st.composite
+def with_change(draw: Draw) -> tuple[Asked, str, bytes]:
+    """A log that is answered, and another text of one of the files."""
+    asked, _ = draw(asked_of(priced(SMALL, ROOM)))
+    name = draw(FILES)
+    return asked, name, draw(changed(st.just(asked.files()[name])))
+
+
 KINDS: dict[str, Kind] = {
     "answers_asked": Kind(asked_of(priced(SMALL, ROOM)), judge_asked, NAME),
     "answers_planned": Kind(planned(), judge_planned, NAME),
     "answers_short": Kind(asked_of(short()), judge_asked, NAME),
+    "answers_words": Kind(asked_of(priced(SMALL, ROOM)), judge_words, NAME),
+    "answers_changed": Kind(with_change(), judge_changed, NAME),
 }
