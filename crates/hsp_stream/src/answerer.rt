@@ -57,7 +57,7 @@ impl<D: QueryDispatcher> Answerer<D> {
     /// A responder that has taken no row.
     pub fn new(alloc: Global, dispatcher: D) -> Answerer<D>
         ensures { result
-            ≡ record { form = None; dispatcher = dispatcher.entry; refused = 0 } }
+            ≡ record { form = None; dispatcher = dispatcher; refused = 0 } }
     {
         Answerer {
             alloc,
