@@ -211,11 +211,17 @@ class Sums:
         self.fullest = max(self.fullest, *(100 * load / capacity[it] for it, load in loads.items()))
         self.above += sum(max(0, load - capacity[it]) for it, load in loads.items())
 
+    def part(self, *words: str) -> str:
+        """How many answers have one of these words, and what part of all that is."""
+        number = sum(self.words[it] for it in words)
+        every = sum(self.words[it] for it in ("assigned", "spent", "diverted", "full", "unknown", "refused"))
+        return f"{number:,} ({100 * number / every:.1f}%)"
+
     def line(self, fronts: int, way: str, best: float) -> str:
-        words, cost = self.words, self.cost / self.served()
+        cost = self.cost / self.served()
         return (
-            f"| {fronts} | {way} | {words['assigned']:,} | {words['spent'] + words['diverted']:,} "
-            f"| {words['full']:,} | {self.fullest:.1f}% | {self.above:,} | {100 * (cost / best - 1):+.1f}% |"
+            f"| {fronts} | {way} | {self.part('assigned')} | {self.part('spent', 'diverted')} | {self.part('full')} "
+            f"| {self.fullest:.1f}% | {self.above:,} | {100 * (cost / best - 1):+.1f}% |"
         )
 
 
