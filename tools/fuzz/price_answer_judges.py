@@ -130,7 +130,8 @@ def halved(case: Case) -> Case:
 
 
 def judge_planned(program: Runner, asked: Asked, where: Where) -> None:
-    """Judges the answers to what was planned, in any order: each query that has a site is assigned, at the least cost."""
+    """Judges the answers to what was planned, in any order. Each query that has a site is assigned, and the loads are
+    those of the plan."""
     ordered = asked.log._replace(entries=where.ordered(asked.log.entries))
     answer = judge(program, asked._replace(log=ordered), where)
     rows, service = asked.case.rows, asked.case.service

@@ -3,8 +3,8 @@
 
     tools/measure/answers.py [--rows N] [--turns N] [--program FILE] [--folder FOLDER] [--cases NAME,..]
 
-Nothing is solved: tools/measure/prices_peer.cpp draws prices and a log, and makes a certificate for it. Each row of the
-log is one query, in a drawn order: of a handle that is new in nearly each row, or of 20,000 pairs. One log asks for
+Nothing is solved: tools/measure/prices_peer.cpp draws prices and a log, and makes a certificate for it. Each row of
+the log is one query, in a drawn order: of a handle that is new in nearly each row, or of 20,000 pairs. One log asks for
 three times what is planned.
 
 By turns with the program runs that peer, the same steps in plain C++, over the same files. Both have to print the same

@@ -4,14 +4,14 @@
     tools/measure/day.py [--seed N] [--hours N] [--fronts 1,4,64] [--program FILE] [--hsplan FILE] [--model]
 
 A row's count is that of the example times a curve of its region's local time (0.35 in the night, 1 at 15 h), times a
-log-normal factor of mean 1 for each row and hour. All counts are scaled: before the factors are drawn, the busiest hour
-asks for the part PEAK of what the example asks for. The queries of an hour come in random order, and fronts take them
-in turn. Each hour is answered in these ways:
+log-normal factor of mean 1 for each row and hour. All counts are scaled: before the factors are drawn, the busiest
+hour asks for the part PEAK of what the example asks for. The queries of an hour come in random order, and fronts take
+them in turn. Each hour is answered in these ways:
 
 - plan: `answer --plan`, and who is answered `spent` gets no server;
 - cheapest: the same, and who is answered `spent` asks the cheapest site of its region;
-- prices: `answer --prices`. The certificate is made of the same plan, and `check --prices` has to say yes to it for the
-  demand of the hour before. With --model the answers are those of tools/lib/price_answers.py, which no program gives.
+- prices: `answer --prices`. The certificate is made of the same plan, and `check --prices` has to say yes to it for
+  the demand of the hour before. With --model the answers are those of tools/lib/price_answers.py.
 
 A line of the table has the sums of the day. The fullest server is that of the worst hour. Queries above capacity are
 added up over servers and hours. Costs are those of a query that has a server, beside those of a query by the best plan
