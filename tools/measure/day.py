@@ -152,6 +152,7 @@ def table_of(rows: Iterable[oracle.Row]) -> bytes:
 
 
 def planned(scene: Scene, rows: list[oracle.Row]) -> Hour:
+    """Plans a demand. The certificate by prices of the plan is checked."""
     scene.put("demand.csv", table_of(rows))
     plan = scene.run(scene.hsplan, f"plan {INPUTS} --demand demand.csv")
     text = prices.of_plan(scene.service, rows, plan.encode())
@@ -233,7 +234,9 @@ def answers_in_turn(answering: Answering, lines: Sequence[str], fronts: int) -> 
     found: Counter[tuple[str, str]] = Counter()
     for front in range(fronts):
         own = lines[front::fronts]
-        found.update(zip(own, answering(own, fronts, front)))
+        answers = answering(own, fronts, front)
+        assert len(answers) == len(own), f"{len(answers)} answers to {len(own)} queries"
+        found.update(zip(own, answers))
     return found
 
 
@@ -303,7 +306,7 @@ def answer_day(scene: Scene, given: argparse.Namespace, draw: random.Random, day
 
 
 def measure(scene: Scene, given: argparse.Namespace) -> bool:
-    """Prints the table of the day, and what three times a plan comes to."""
+    """Prints the table of the day, and what three times a plan comes to. Returns whether prices keep to capacities."""
     draw = random.Random(given.seed)
     day: Day = {(fronts, way): Sums() for fronts in given.fronts for way in WAYS}
     hours = answer_day(scene, given, draw, day)
@@ -311,7 +314,8 @@ def measure(scene: Scene, given: argparse.Namespace) -> bool:
     best = sum(hour.cost for hour in hours) / queries
     print(f"{len(hours)} hours, {queries:,} queries, {best:.2f} a query by the best plan of each hour\n\n{HEAD}")
     print("\n".join(sums.line(fronts, way, best) for (fronts, way), sums in day.items()) + "\n")
-    return ask_too_much(scene, given, max(hours, key=Hour.queries), draw)
+    is_kept = not any(sums.above for (_, way), sums in day.items() if way == "prices")
+    return ask_too_much(scene, given, max(hours, key=Hour.queries), draw) and is_kept
 
 
 def main() -> int:
