@@ -12,8 +12,8 @@ Of every answer holds: two runs agree; the line on standard error is one of the 
 it; the program gives back all its memory; time and memory are within a bound that is linear in the octets of the
 input. The rest stands with each judge: of hsplan in tools/fuzz/judges.py, of hsplan-stream in stream_judges.py beside
 it, where the answers to written logs are those of tools/lib/oracle.py, in price_judges.py, where the verdicts on
-certificates by prices are those of tools/lib/price_verdicts.py, and in price_answer_judges.py, where the answers by them
-are those of tools/lib/price_answers.py. The gate doesn't run this script.
+certificates by prices are those of tools/lib/price_verdicts.py, and in price_answer_judges.py, where the answers by
+them are those of tools/lib/price_answers.py. The gate doesn't run this script.
 """
 from __future__ import annotations
 

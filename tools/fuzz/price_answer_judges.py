@@ -130,7 +130,8 @@ def halved(case: Case) -> Case:
 
 
 def judge_planned(program: Runner, asked: Asked, where: Where) -> None:
-    """Judges the answers to what was planned, in any order: each query that has a site is assigned, at the least cost."""
+    """Judges the answers to what was planned, in any order. Each query that has a site is assigned, and the loads are
+    those of the plan."""
     ordered = asked.log._replace(entries=where.ordered(asked.log.entries))
     answer = judge(program, asked._replace(log=ordered), where)
     rows, service = asked.case.rows, asked.case.service
@@ -150,7 +151,8 @@ def judge_words(program: Runner, drawn: tuple[Asked, object], where: Where) -> N
     asked, _ = drawn
     command, *options = asked.words().split(b" --")
     other = b" --".join([command, *where.ordered(options)])
-    answer = asked.answer(program)
+    answer, wanted = asked.answer(program), wanted_of(asked)
+    assert answer.said == wanted, f"answers: {answer.said}, wanted {wanted} of {asked}"
     same("options in another order", answer, answered(program, other, asked.files()))
     same("options as arguments", answer, answered(program, other, asked.files(), by_words=True))
 
@@ -161,6 +163,7 @@ def judge_changed(program: Runner, drawn: tuple[Asked, str, bytes], where: Where
     asked, name, text = drawn
     answer = asked.answer(program, {name: text})
     same("in pieces", answer, asked.answer(program, {name: text}, where.piece))
+    assert answer.fault != b"Usage", f"words: {answer}"
     if answer.fault:
         return
     sums = price_answers.sums_of(answer.printed.decode().splitlines())

@@ -1,5 +1,5 @@
-"""Judges the verdicts of `hsplan-stream check` on certificates by prices, and the reports by them. Each verdict is that of
-tools/lib/price_verdicts.py, and each report that of tools/lib/price_reports.py.
+"""Judges the verdicts of `hsplan-stream check` on certificates by prices, and the reports by them. Each verdict is that
+of tools/lib/price_verdicts.py, and each report that of tools/lib/price_reports.py.
 
 A certificate is of what `hsplan plan` prints of a table, or of prices or servers that are drawn. Then it is judged
 again with something changed: its text, the rows, a bound or the service."""

@@ -24,9 +24,8 @@ def share(number: int, fronts: int, front: int) -> int:
 def amounts_at(claim: Claim, servers: int) -> list[int]:
     """The amounts of all classes at each server."""
     found = [0] * servers
-    for own in claim.classes:
-        for server, amount in zip(own.servers, own.amounts):
-            found[server] += amount
+    for server, amount in (sent for own in claim.classes for sent in zip(own.servers, own.amounts)):
+        found[server] += amount
     return found
 
 

@@ -13,8 +13,8 @@ MOST_CLASSES, NEARLY_ALL_NEW = 1_048_576, 1_000_000_000
 
 class Case(NamedTuple):
     """A service that is drawn: so many sites with so many servers, from the fewest to the most a site, regions, the
-    greatest cost and price. For each row that is asked for its log has so many rows, with counts up to the greatest and
-    so many handles."""
+    greatest cost and price. For each row that is asked for its log has so many rows, with counts up to the greatest
+    and so many handles."""
 
     sites: int
     servers: int

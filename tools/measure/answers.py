@@ -3,8 +3,8 @@
 
     tools/measure/answers.py [--rows N] [--turns N] [--program FILE] [--folder FOLDER] [--cases NAME,..]
 
-Nothing is solved: tools/measure/prices_peer.cpp draws prices and a log, and makes a certificate for it. Each row of the
-log is one query, in a drawn order: of a handle that is new in nearly each row, or of 20,000 pairs. One log asks for
+Nothing is solved: tools/measure/prices_peer.cpp draws prices and a log, and makes a certificate for it. Each row of
+the log is one query, in a drawn order: of a handle that is new in nearly each row, or of 20,000 pairs. One log asks for
 three times what is planned.
 
 By turns with the program runs that peer, the same steps in plain C++, over the same files. Both have to print the same
@@ -52,6 +52,8 @@ CASES = {
 }
 SMALL = Asked(TWELVE._replace(handles=700), 3)
 SMALL_ROWS = 3_000
+# The fronts that answer the small log, each with the number of fronts.
+FRONTS = ((1, 0), (3, 0), (3, 1), (3, 2))
 
 
 def make(folder: str, asked: Asked, peer: str, rows: int) -> None:
@@ -65,12 +67,6 @@ def make(folder: str, asked: Asked, peer: str, rows: int) -> None:
 # ---- against the model
 
 
-def words_of(program: str, is_peer: bool, fronts: int = 1, front: int = 0) -> list[str]:
-    if is_peer:
-        return [program, *PEER.split(), LOG, str(fronts), str(front)]
-    return [program, *ANSWER.split(), LOG, *f"--fronts {fronts} --front {front}".split()]
-
-
 def modelled(folder: str, asked: Asked, fronts: int, front: int) -> tuple[str, str]:
     """What the model answers to the log of a case, and the sums."""
     capacities = [int(line.rsplit(b",", 1)[1]) for line in lines_of(folder, "capacity.csv")[1:]]
@@ -81,17 +77,20 @@ def modelled(folder: str, asked: Asked, fronts: int, front: int) -> tuple[str, s
     return "".join(f"{line}\n" for line in lines), price_answers.sums_of(lines)
 
 
-def compare(folder: str, peer: str, program: str) -> None:
-    """Ends the script where the peer, or the program if there is one, answers a small log otherwise than the model."""
-    make(folder, SMALL, peer, SMALL_ROWS)
-    for fronts, front in ((1, 0), (3, 0), (3, 1), (3, 2)):
-        wanted = modelled(folder, SMALL, fronts, front)
-        for it in (peer, program) if program else (peer,):
-            words = words_of(it, it == peer, fronts, front)
-            ended = subprocess.run(words, cwd=folder, capture_output=True, text=True)
-            if (ended.stdout, ended.stderr) != wanted:
-                sys.exit(f"{it} answers otherwise than the model, as the front {front} of {fronts}: {ended.stderr}")
-        print(f"as the model, the front {front} of {fronts}: {wanted[1].strip()}")
+def compare(folder: str, runs: dict[str, list[str]], wanted: tuple[str, str]) -> None:
+    """Ends the script where a run answers a small log otherwise than the model."""
+    for name, words in runs.items():
+        ended = subprocess.run(words, cwd=folder, capture_output=True, text=True)
+        if (ended.stdout, ended.stderr) != wanted:
+            sys.exit(f"{name} answers otherwise than the model: {' '.join(words)}: {ended.stderr}")
+    print(f"{', '.join(runs)}: as the model: {wanted[1].strip()}")
+
+
+def runs_of(program: str, peer: str, fronts: int = 1, front: int = 0) -> dict[str, list[str]]:
+    """The runs that are measured, by their names: that of the program, if there is one, and that of the peer."""
+    words = [program, *ANSWER.split(), LOG, *f"--fronts {fronts} --front {front}".split()]
+    own = {"hsplan-stream": words} if program else {}
+    return {**own, "peer": [peer, *PEER.split(), LOG, str(fronts), str(front)]}
 
 
 def has_answers(folder: str, program: str) -> bool:
@@ -146,6 +145,31 @@ def ask(folder: str, program: str) -> None:
     print(talks.line_of(talks.seconds_each(words, folder, [(it[0], it[1]) for it in rows]), len(rows)))
 
 
+def compare_all(folder: str, given: str, peer: str) -> str:
+    """Compares the peer and the program with the model. Returns the program's path, or nothing where it doesn't answer
+    by prices."""
+    make(folder, SMALL, peer, SMALL_ROWS)
+    program = os.path.abspath(given)
+    if not os.access(program, os.X_OK) or not has_answers(folder, program):
+        print(f"note: {program} doesn't answer by prices, and is not measured")
+        program = ""
+    for fronts, front in FRONTS:
+        compare(folder, runs_of(program, peer, fronts, front), modelled(folder, SMALL, fronts, front))
+    return program
+
+
+def measure_all(given: argparse.Namespace, room: str) -> None:
+    """Compares with the model, then measures each case."""
+    peer, preloaded = price_cases.peer_in(room), preload.built("report_memory", room)
+    program = compare_all(os.path.join(room, "small"), given.program, peer)
+    for name in given.cases.split(","):
+        folder = os.path.join(os.path.abspath(given.folder or room), name)
+        make(folder, CASES[name], peer, given.rows)
+        measure(folder, runs_of(program, peer), given.turns, preloaded)
+        if program:
+            ask(folder, program)
+
+
 def main() -> int:
     words = argparse.ArgumentParser(description="Measures how many rows a second are answered by prices.")
     words.add_argument("--rows", type=int, default=1_000_000)
@@ -157,21 +181,7 @@ def main() -> int:
     if hasattr(os, "sched_setaffinity"):
         os.sched_setaffinity(0, {max(os.sched_getaffinity(0))})
     with tempfile.TemporaryDirectory() as room:
-        top, peer, preloaded = given.folder or room, price_cases.peer_in(room), preload.built("report_memory", room)
-        small, program = os.path.join(room, "small"), os.path.abspath(given.program)
-        make(small, SMALL, peer, SMALL_ROWS)
-        if not os.access(program, os.X_OK) or not has_answers(small, program):
-            print(f"note: {program} doesn't answer by prices, and is not measured")
-            program = ""
-        compare(small, peer, program)
-        runs = {"hsplan-stream": words_of(program, False)} if program else {}
-        runs["peer"] = words_of(peer, True)
-        for name in given.cases.split(","):
-            folder = os.path.join(os.path.abspath(top), name)
-            make(folder, CASES[name], peer, given.rows)
-            measure(folder, runs, given.turns, preloaded)
-            if program:
-                ask(folder, program)
+        measure_all(given, room)
     return 0
 
 

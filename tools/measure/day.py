@@ -4,14 +4,14 @@
     tools/measure/day.py [--seed N] [--hours N] [--fronts 1,4,64] [--program FILE] [--hsplan FILE] [--model]
 
 A row's count is that of the example times a curve of its region's local time (0.35 in the night, 1 at 15 h), times a
-log-normal factor of mean 1 for each row and hour. All counts are scaled: before the factors are drawn, the busiest hour
-asks for the part PEAK of what the example asks for. The queries of an hour come in random order, and fronts take them
-in turn. Each hour is answered in these ways:
+log-normal factor of mean 1 for each row and hour. All counts are scaled: before the factors are drawn, the busiest
+hour asks for the part PEAK of what the example asks for. The queries of an hour come in random order, and fronts take
+them in turn. Each hour is answered in these ways:
 
 - plan: `answer --plan`, and who is answered `spent` gets no server;
 - cheapest: the same, and who is answered `spent` asks the cheapest site of its region;
-- prices: `answer --prices`. The certificate is made of the same plan, and `check --prices` has to say yes to it for the
-  demand of the hour before. With --model the answers are those of tools/lib/price_answers.py, which no program gives.
+- prices: `answer --prices`. The certificate is made of the same plan, and `check --prices` has to say yes to it for
+  the demand of the hour before. With --model the answers are those of tools/lib/price_answers.py.
 
 A line of the table has the sums of the day. The fullest server is that of the worst hour. Queries above capacity are
 added up over servers and hours. Costs are those of a query that has a server, beside those of a query by the best plan
@@ -136,23 +136,31 @@ def queries_of(rows: Iterable[oracle.Row], draw: random.Random, times: int = 1) 
 
 @dataclass
 class Hour:
-    """The plan of an hour's demand, its certificate by prices, and what the plan costs."""
+    """An hour's demand with its plan, the certificate by prices of the plan, and what the plan costs."""
 
+    rows: list[oracle.Row]
     plan: str
     prices: bytes
     cost: int
-    queries: int
+
+    def queries(self) -> int:
+        return sum(row[2] for row in self.rows)
+
+
+def table_of(rows: Iterable[oracle.Row]) -> bytes:
+    return oracle.csv_of("region,handle,count", rows)
 
 
 def planned(scene: Scene, rows: list[oracle.Row]) -> Hour:
-    scene.put("demand.csv", oracle.csv_of("region,handle,count", rows))
+    """Plans a demand. The certificate by prices of the plan is checked."""
+    scene.put("demand.csv", table_of(rows))
     plan = scene.run(scene.hsplan, f"plan {INPUTS} --demand demand.csv")
     text = prices.of_plan(scene.service, rows, plan.encode())
     scene.put("plan.prices", text)
     verdict = scene.run(scene.stream, f"check {INPUTS} --log demand.csv --prices plan.prices")
     if verdict != "yes\n":
         sys.exit(f"{verdict} to a certificate by prices that was made of a plan")
-    return Hour(plan, text, prices.numbers_of(plan.encode(), "cost")[0][0], sum(row[2] for row in rows))
+    return Hour(rows, plan, text, prices.numbers_of(plan.encode(), "cost")[0][0])
 
 
 def by_program(scene: Scene, words: str) -> Answering:
@@ -204,11 +212,17 @@ class Sums:
         self.fullest = max(self.fullest, *(100 * load / capacity[it] for it, load in loads.items()))
         self.above += sum(max(0, load - capacity[it]) for it, load in loads.items())
 
+    def part(self, *words: str) -> str:
+        """How many answers have one of these words, and what part of all that is."""
+        number = sum(self.words[it] for it in words)
+        every = sum(self.words[it] for it in ("assigned", "spent", "diverted", "full", "unknown", "refused"))
+        return f"{number:,} ({100 * number / every:.1f}%)"
+
     def line(self, fronts: int, way: str, best: float) -> str:
-        words, cost = self.words, self.cost / self.served()
+        cost = self.cost / self.served()
         return (
-            f"| {fronts} | {way} | {words['assigned']:,} | {words['spent'] + words['diverted']:,} "
-            f"| {words['full']:,} | {self.fullest:.1f}% | {self.above:,} | {100 * (cost / best - 1):+.1f}% |"
+            f"| {fronts} | {way} | {self.part('assigned')} | {self.part('spent', 'diverted')} | {self.part('full')} "
+            f"| {self.fullest:.1f}% | {self.above:,} | {100 * (cost / best - 1):+.1f}% |"
         )
 
 
@@ -220,7 +234,9 @@ def answers_in_turn(answering: Answering, lines: Sequence[str], fronts: int) -> 
     found: Counter[tuple[str, str]] = Counter()
     for front in range(fronts):
         own = lines[front::fronts]
-        found.update(zip(own, answering(own, fronts, front)))
+        answers = answering(own, fronts, front)
+        assert len(answers) == len(own), f"{len(answers)} answers to {len(own)} queries"
+        found.update(zip(own, answers))
     return found
 
 
@@ -254,17 +270,16 @@ def answer_hour(scene: Scene, lines: Sequence[str], answering: dict[str, Answeri
 
 def answering_by(scene: Scene, hour: Hour, is_model: bool) -> dict[str, Answering]:
     """How an hour's plan is answered by, in each way. The files of the plan are put into the folder."""
-    scene.put("plan.txt", hour.plan.encode())
-    scene.put("plan.prices", hour.prices)
+    files = {"demand.csv": table_of(hour.rows), "plan.txt": hour.plan.encode(), "plan.prices": hour.prices}
+    oracle.put_files(scene.folder, files)
     given = by_model(scene, hour.prices) if is_model else by_program(scene, "--prices plan.prices")
     return {"plan": by_program(scene, "--demand demand.csv --plan plan.txt"), "prices": given}
 
 
-def ask_too_much(scene: Scene, given: argparse.Namespace, rows: list[oracle.Row], draw: random.Random) -> bool:
+def ask_too_much(scene: Scene, given: argparse.Namespace, hour: Hour, draw: random.Random) -> bool:
     """Asks for three times a plan. Prints what becomes of it, and returns whether no server gets too much."""
-    hour, is_kept = planned(scene, rows), True
-    answering = answering_by(scene, hour, given.model)["prices"]
-    lines = queries_of(rows, draw, 3)
+    answering, is_kept = answering_by(scene, hour, given.model)["prices"], True
+    lines = queries_of(hour.rows, draw, 3)
     for fronts in given.fronts:
         sums = Sums()
         count(scene, answers_in_turn(answering, lines, fronts), sums)
@@ -277,27 +292,30 @@ def ask_too_much(scene: Scene, given: argparse.Namespace, rows: list[oracle.Row]
     return is_kept
 
 
-def measure(scene: Scene, given: argparse.Namespace) -> bool:
-    """Prints the table of the day, and what three times a plan comes to."""
-    draw, scale = random.Random(given.seed), scale_of(scene.demand)
-    day: Day = {(fronts, way): Sums() for fronts in given.fronts for way in WAYS}
-    before = drawn(scene.demand, -1, scale, draw)
-    last, best, asked = planned(scene, before), 0, 0
-    busiest = before
+def answer_day(scene: Scene, given: argparse.Namespace, draw: random.Random, day: Day) -> list[Hour]:
+    """Answers the hours of a day, and returns the plans that suit the hours themselves."""
+    scale, found = scale_of(scene.demand), []
+    last = planned(scene, drawn(scene.demand, -1, scale, draw))
     for hour in range(given.hours):
-        rows = drawn(scene.demand, hour, scale, draw)
-        now = planned(scene, rows)
-        scene.put("demand.csv", oracle.csv_of("region,handle,count", before))
-        answer_hour(scene, queries_of(rows, draw), answering_by(scene, last, given.model), day)
-        best, asked = best + now.cost, asked + now.queries
-        busiest = max(busiest, rows, key=lambda own: sum(row[2] for row in own))
-        last, before = now, rows
-        print(f"hour {hour}: {now.queries:,} queries, best plan {now.cost:,}", file=sys.stderr, flush=True)
-    print(f"{given.hours} hours, {asked:,} queries, {best / asked:.2f} a query by the best plan of each hour\n\n{HEAD}")
-    for (fronts, way), sums in day.items():
-        print(sums.line(fronts, way, best / asked))
-    print()
-    return ask_too_much(scene, given, busiest, draw)
+        now = planned(scene, drawn(scene.demand, hour, scale, draw))
+        answer_hour(scene, queries_of(now.rows, draw), answering_by(scene, last, given.model), day)
+        found.append(now)
+        last = now
+        print(f"hour {hour}: {now.queries():,} queries, best plan {now.cost:,}", file=sys.stderr, flush=True)
+    return found
+
+
+def measure(scene: Scene, given: argparse.Namespace) -> bool:
+    """Prints the table of the day, and what three times a plan comes to. Returns whether prices keep to capacities."""
+    draw = random.Random(given.seed)
+    day: Day = {(fronts, way): Sums() for fronts in given.fronts for way in WAYS}
+    hours = answer_day(scene, given, draw, day)
+    queries = sum(hour.queries() for hour in hours)
+    best = sum(hour.cost for hour in hours) / queries
+    print(f"{len(hours)} hours, {queries:,} queries, {best:.2f} a query by the best plan of each hour\n\n{HEAD}")
+    print("\n".join(sums.line(fronts, way, best) for (fronts, way), sums in day.items()) + "\n")
+    is_kept = not any(sums.above for (_, way), sums in day.items() if way == "prices")
+    return ask_too_much(scene, given, max(hours, key=Hour.queries), draw) and is_kept
 
 
 def main() -> int:

@@ -1,5 +1,5 @@
-// The number that a hash option makes of octets: the last four octets of the MD5 digest of the octets in upper case, as a
-// signed number without its sign (RFC 3652, section 3.1.3).
+// The number that a hash option makes of octets: the last four octets of the MD5 digest of the octets in upper case, as
+// a signed number without its sign (RFC 3652, section 3.1.3).
 #pragma once
 
 #include <openssl/md5.h>
