@@ -1,5 +1,5 @@
 -- What a run that answers the rows of a log shows of inputs and a certificate.
-use Rattle.std.proofs.Common.{◌≡◌, ◌≢◌, ◌∙◌, ◌*◌, ◌<◌, ◌≤◌, ◌⊎◌, inl, inr, ℕ, List, Result, Ok, Err, IfErr, refl, ap}
+use Rattle.std.proofs.Common.{◌≡◌, ◌≢◌, ◌∙◌, ◌*◌, ◌<◌, ◌≤◌, ◌⊎◌, inl, inr, ℕ, List, Ok, Err, IfErr, refl, ap}
 use Rattle.std.proofs.Common.{subst, sym, arith}
 use Rattle.std.proofs.Math.Nat.{mul-le-mul_left}
 use Rattle.hsp_tables.specs.Costs.{CostEntry}
@@ -27,17 +27,14 @@ use Rattle.hsp_headline.proofs.PageRead.{hold, stated_well}
 use Rattle.hsp_runs.specs.Accepted.{IsAcceptedOf}
 use Rattle.hsp_runs.specs.Instance.{ReadsCosts}
 use Rattle.hsp_runs.specs.declared.accepted.Accepted.{Accepted}
-use Rattle.hsp_talk.specs.Talk.{Event}
 use Rattle.hsp_stream.specs.AnswerRun.{AnswersAs, AnswersWhere, EndsLog, Refuses, Run, RunOf}
 use Rattle.hsp_stream.specs.AnswersShown.{IsOfTalk, IsRefused, IsTalkOf, ShowsTalkBy, ShowsTalkOf}
 use Rattle.hsp_stream.specs.Faults.{fault_of_input}
 use Rattle.hsp_stream.specs.KindAnswers.{entries_in, entry_for}
 use Rattle.hsp_stream.specs.Words.{IsPortion, portion_at}
 use Rattle.hsp_stream.specs.declared.fault.RowFault.{RowFault}
-use Rattle.hsp_stream.specs.declared.fault.RowFault.TheVariants.{Header, ReadFailed, WriteFailed}
 use Rattle.hsp_stream.specs.declared.fault.StreamFault.{StreamFault}
 use Rattle.hsp_stream.specs.declared.fault.StreamFault.TheVariants.{Input, Log, OutOfMemory}
-use Rattle.hsp_stream.specs.declared.given.StreamSums.{StreamSums}
 use Rattle.hsp_stream.specs.declared.portions.PortionWords.{PortionWords}
 use Rattle.hsp_stream.proofs.OwnHash.{goes_by_own_hash}
 use Rattle.hsp_stream.proofs.PageCosts.{costs_of_page}

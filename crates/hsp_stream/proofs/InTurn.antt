@@ -1,12 +1,16 @@
 -- Rows that are answered in turn.
-use Rattle.std.proofs.Common.{◌≡◌, ◌+◌, ◌∙◌, ℕ, List, [], ◌∷◌, ap, cond, count_by, Option, None, arith, refl, sym}
-use Rattle.hsp_dispatch.specs.Dispatch.{Entry}
+use Rattle.std.proofs.Common.{◌≡◌, ◌+◌, ◌∙◌, ℕ, List, [], ◌∷◌, ap, cond, count_by, Option, None, arith, refl, subst, sym}
+use Rattle.std.proofs.lemmas.List.Sums.{sum_by-cons}
 use Rattle.hsp_dispatch.specs.declared.form.Form.{Form}
 use Rattle.hsp_tally.specs.Tally.{capped}
 use Rattle.hsp_talk.specs.Talk.{AreTaken}
 use Rattle.hsp_stream.specs.Answering.{Answering, AreGiven, AreInTurn, GivesLine, TakesQuery, TakesRow, lines_in}
 use Rattle.hsp_stream.specs.Asking.{AreAsked, Asked, AsksAt, is_refused, queries_in}
 use Rattle.hsp_stream.specs.Asking.Asked.{bad, nothing, query}
+
+-- nothing and more
+from_none : (n : ℕ) → 0 + n ≡ n
+from_none n = omega arith
 
 -- a sum is capped once or twice alike
 capped_more : (n more : ℕ) → capped (capped (n + 1) + more) ≡ capped (n + (1 + more))
@@ -51,7 +55,9 @@ module _ {D : Type 0} (Takes : TakesQuery D) where
     lines_are = rw (is, more.lines_are) refl;
     refused_are =
         more.refused_are ∙ ap (λ (n : ℕ). capped (n + count_by is_refused more.asked)) count
-        ∙ capped_more first.refused (count_by is_refused more.asked);
+        ∙ capped_more first.refused (count_by is_refused more.asked)
+        ∙ ap (λ (n : ℕ). capped (first.refused + n))
+        (sym (sum_by-cons (λ (a : Asked). cond (is_refused a) 1 0) (bad refusal) more.asked));
   }
 
   -- rows that were taken were answered
@@ -88,8 +94,10 @@ module _ {D : Type 0} (Takes : TakesQuery D) where
       record {
         asked = all.asked;
         given = all.given;
-        asks = rw form at all.asks;
+        asks = subst (λ (f : Option Form). AreAsked f rows all.asked last.form) form all.asks;
         taken = all.taken;
         lines_are = all.lines_are;
-        refused_are = rw none at all.refused_are;
+        refused_are =
+            all.refused_are ∙ ap (λ (n : ℕ). capped (n + count_by is_refused all.asked)) none
+            ∙ ap capped (from_none (count_by is_refused all.asked));
       }

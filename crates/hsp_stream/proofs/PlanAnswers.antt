@@ -1,7 +1,8 @@
 -- Rows whose queries are answered by the rows of their kinds.
 use Rattle.std.proofs.Common.{◌≡◌, ◌≢◌, ◌+◌, ◌∙◌, ◌++◌, Bool, ℕ, List, [], ◌∷◌, length, map, Option, None, Some}
-use Rattle.std.proofs.Common.{count_by, arith, refl, sym, ap, cond}
+use Rattle.std.proofs.Common.{count_by, arith, refl, ap, cond}
 use Rattle.std.specs.List.{slice_get}
+use Rattle.std.proofs.lemmas.List.Sums.{sum_by-cons}
 use Rattle.hsp_tables.specs.Costs.{CostEntry}
 use Rattle.hsp_instance.specs.Instance.{Instance, Server}
 use Rattle.hsp_check.specs.Plan.{Plan}
@@ -10,6 +11,7 @@ use Rattle.hsp_dispatch.specs.Dispatch.{is_unknown, rest}
 use Rattle.hsp_dispatch.specs.Lines.{line_of, served_by}
 use Rattle.hsp_dispatch.specs.Shares.{Held, left_of}
 use Rattle.hsp_dispatch.specs.declared.answer.Answer.{Answer}
+use Rattle.hsp_dispatch.specs.declared.answer.Answer.TheVariants.{Spent, Unknown}
 use Rattle.hsp_dispatch.specs.declared.form.Form.{Form}
 use Rattle.hsp_dispatch.proofs.Lists.{none_from}
 use Rattle.hsp_dispatch.proofs.OverCalls.{same_answers}
@@ -34,11 +36,33 @@ with_answers sums all = record {
   refused = sums.refused;
 }
 
+-- an answer before others counts where it is of the kind
+counted_first : (kind : Answer → Bool) (answer : Answer) (more : List Answer)
+    → count_by kind (answer ∷ more) ≡ cond (kind answer) 1 0 + count_by kind more
+counted_first kind answer more = sum_by-cons (λ (a : Answer). cond (kind a) 1 0) answer more
+
+-- counting an answer before others
+counted_all : (sums : StreamSums) (answer : Answer) (more : List Answer)
+    → with_answers sums (answer ∷ more)
+    ≡ record {
+      assigned = capped (sums.assigned + (cond (is_assigned answer) 1 0 + count_by is_assigned more));
+      spent = capped (sums.spent + (cond (is_spent answer) 1 0 + count_by is_spent more));
+      unknown = capped (sums.unknown + (cond (is_unknown answer) 1 0 + count_by is_unknown more));
+      refused = sums.refused;
+    }
+counted_all sums answer more =
+    rw (
+      counted_first is_assigned answer more,
+      counted_first is_spent answer more,
+      counted_first is_unknown answer more,
+    )
+    refl
+
 -- a query that is served is assigned
 served : (sums : StreamSums) (server : Option Server) (number : ℕ) (more : List Answer) → server ≢ None
     → with_answers (with_given sums (given.Server number)) more ≡ with_answers sums (served_by server ∷ more)
 served sums None number more there = absurd (there refl)
-served sums (Some server) number more there = grind arith
+served sums (Some server) number more there = rw (counted_all sums (served_by (Some server)) more) (grind arith)
 
 -- counting how a query is answered counts its answer
 given_sums : (it : Instance) (sums : StreamSums) (how : Given) (more : List Answer) → IsAmong (length it.servers) how
@@ -46,8 +70,8 @@ given_sums : (it : Instance) (sums : StreamSums) (how : Given) (more : List Answ
 given_sums it sums (given.Server number) more among =
     let past = none_from it.servers number in
     served sums (slice_get it.servers number) number more (λ none. absurd (omega (arith, past none, among)))
-given_sums it sums given.Spent more among = grind arith
-given_sums it sums given.Unknown more among = grind arith
+given_sums it sums given.Spent more among = rw (counted_all sums Spent more) (grind arith)
+given_sums it sums given.Unknown more among = rw (counted_all sums Unknown more) (grind arith)
 
 -- sums that are kept, with one answer more are kept too
 kept_more : (it : Instance) (sums : StreamSums) (how : Given) → sums ≡ with_answers sums []
@@ -98,6 +122,15 @@ by_kinds x first last before (entry ∷ entries) (line ∷ given) kept left (nex
           ∙ ap (λ (a : Answer). with_answers first.sums (a ∷ later)) answer,
     )
 
+-- the sums of all answers, from none on
+sums_first : (all : List Answer) (refused : ℕ)
+    → with_refused (with_answers none_said all) refused ≡ sums_of all refused
+sums_first all refused =
+    let assigned : 0 + count_by is_assigned all ≡ count_by is_assigned all = omega arith in
+    let spent : 0 + count_by is_spent all ≡ count_by is_spent all = omega arith in
+    let unknown : 0 + count_by is_unknown all ≡ count_by is_unknown all = omega arith in
+    rw (assigned, spent, unknown) refl
+
 -- rows whose queries are answered in turn, from a plan on, are answered by that plan
 pub turn_is_plan : (costs : List CostEntry) (held : Held) (y : Plan) → IsSame (left_of held) y
     → (form : Option Form) (sums : StreamSums) (rows lines : List (List ℕ))
@@ -121,6 +154,7 @@ turn_is_plan costs held y same form sums rows lines (last, refused, turn, counte
           ∙ ap (lines_in turn.asked) (all.0 ∙ ap (map (line_of it)) alike);
       sums_are =
           counted ∙ ap (λ (own : StreamSums). with_refused own refused) all.1
+          ∙ sums_first (answers it (left_of held) entries) refused
           ∙ ap (λ (given : List Answer). sums_of given refused) alike
           ∙ ap (sums_of (answers it y entries)) turn.refused_are;
     }

@@ -1,5 +1,5 @@
 -- Talks at a responder that answers rows.
-use Rattle.std.proofs.Common.{◌≡◌, ◌≢◌, ℕ, List, [], Option, None, Some, Result, Ok, Err, IfErr, refl}
+use Rattle.std.proofs.Common.{◌≡◌, ◌≢◌, ℕ, List, Option, None, Some, Result, Ok, Err, IfErr, refl}
 use Rattle.hsp_dispatch.specs.declared.form.Form.{Form}
 use Rattle.hsp_talk.specs.Known.{Known, Went}
 use Rattle.hsp_talk.specs.Talk.{Event, HeldToTheEnd, StoppedBy, Took}
@@ -26,7 +26,7 @@ module _ {D S : Type 0} (Takes : TakesQuery D) (sums_of : D → ℕ → S) (firs
   sums_at last = sums_of last.dispatcher last.refused
 
   -- what was taken was answered
-  so_far : (last : Answering D) (events : List Event) (stated : Option Form) (sums : S) → last.form ≡ stated
+  abbrev so_far : (last : Answering D) (events : List Event) (stated : Option Form) (sums : S) → last.form ≡ stated
       → sums ≡ sums_at last → Took (TakesRow Takes) first last events
       → Answered (InTurn Takes sums_of first.dispatcher) stated sums events
   so_far last events stated sums is same took = record {
@@ -89,7 +89,7 @@ module _ {S : Type 0} (By Other : AnswersRows S)
     (same : (form : Option Form) (sums : S) (rows lines : List (List ℕ)) → By form sums rows lines
     → Other form sums rows lines) where
   -- rows answered in one way were answered in another
-  some_same : (form : Option Form) (sums : S) (events : List Event) → Answered By form sums events
+  abbrev some_same : (form : Option Form) (sums : S) (events : List Event) → Answered By form sums events
       → Answered Other form sums events
   some_same form sums events so = record {
     rows = so.rows;

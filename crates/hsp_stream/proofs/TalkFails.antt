@@ -22,9 +22,9 @@ kept B (inl a) = inl a
 kept B (inr none) = absurd none
 
 -- a talk that stopped handed on all, or a write failed
-pub stop_hands : {S : Type 0} (old new : Known) (why : Stop NoHeader) → IsHandedOn old new ⊎ HasFailedWrite {X = Unit {0}} (Err why)
+pub stop_hands : (S : Type 0) (old new : Known) (why : Stop NoHeader) → IsHandedOn old new ⊎ HasFailedWrite {X = Unit {0}} (Err why)
     → IsHandedOn old new ⊎ IsFailedWrite {X = S} (Err (fault_of why))
-stop_hands old new stop.ReadFailed handed = kept ⊥ handed
-stop_hands old new stop.WriteFailed handed = handed
-stop_hands old new stop.OutOfMemory handed = kept ⊥ handed
-stop_hands old new (stop.Fault none) handed = kept ⊥ handed
+stop_hands S old new stop.ReadFailed handed = kept ⊥ handed
+stop_hands S old new stop.WriteFailed handed = handed
+stop_hands S old new stop.OutOfMemory handed = kept ⊥ handed
+stop_hands S old new (stop.Fault none) handed = kept ⊥ handed

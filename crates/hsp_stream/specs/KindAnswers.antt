@@ -11,7 +11,7 @@ use Rattle.hsp_dispatch.specs.Shares.{Held, answer_by, left_of}
 use Rattle.hsp_dispatch.specs.declared.form.Form.{Form}
 use Rattle.hsp_stream.specs.Answering.{lines_in, refused_in}
 use Rattle.hsp_stream.specs.Asking.{AreAsked, Asked, queries_in}
-use Rattle.hsp_stream.specs.Saying.{IsAmong, answer_of, given_line, sums_of, with_given, with_refused}
+use Rattle.hsp_stream.specs.Saying.{IsAmong, answer_of, sums_of, with_given, with_refused}
 use Rattle.hsp_stream.specs.declared.given.Given.{Given}
 use Rattle.hsp_stream.specs.declared.given.StreamSums.{StreamSums}
 

@@ -26,7 +26,7 @@ returns-in-Err-clause-answered g c =
 pub returns-in-Err-clause-handed : goal.returns-in-Err-clause-handed
 returns-in-Err-clause-handed g c =
     rw c.fault_of.ensures
-    (stop_hands (g.P.Peer.known c.args.peer.now) (g.P.Peer.known c.talk.new.peer) c.in-Err.stop
+    (stop_hands g.row.D-Sums.Denot (g.P.Peer.known c.args.peer.now) (g.P.Peer.known c.talk.new.peer) c.in-Err.stop
     c.in-Err.ensures.handed)
 
 pub returns-in-Err-clause-may_stop : goal.returns-in-Err-clause-may_stop
