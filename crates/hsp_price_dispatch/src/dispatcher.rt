@@ -10,7 +10,7 @@ use crate::answer::PriceAnswer;
 use crate::choosing::{Index, Scratch, choose};
 use crate::fault::StartFault;
 use crate::holding::Holding;
-use crate::starting::{accept, begin, index_of};
+use crate::starting::{ServiceRef, accept, begin, index_of};
 use hsp_dispatch::front_share::Front;
 use hsp_instance::{Arc, Instance, RowArcs};
 use hsp_names::HandleRef;
@@ -68,7 +68,8 @@ impl<'a> PriceDispatcher<'a> {
         let _rows = costs.len();
         let accepted = accept(alloc, instance, plan)?;
         let index = index_of(alloc, plan, &accepted.numbers)?;
-        let holding = begin(alloc, instance, costs, plan, accepted, front)?;
+        let service = ServiceRef { instance, costs };
+        let holding = begin(alloc, service, plan, accepted, front)?;
         Ok(PriceDispatcher {
             arcs: RowArcs::new(alloc, instance.sites(), costs),
             holding,
