@@ -13,3 +13,4 @@ pub mod FirstHeld
 pub mod ClassParts
 pub mod Planned
 pub mod Greatest
+pub mod SeenArcs
