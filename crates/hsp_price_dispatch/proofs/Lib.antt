@@ -14,3 +14,5 @@ pub mod ClassParts
 pub mod Planned
 pub mod Greatest
 pub mod SeenArcs
+pub mod Choices
+pub mod Diverting
