@@ -145,7 +145,7 @@ fn rooms_of(
     Ok(Rooms { left, held })
 }
 
-/// The service of an instance, by its costs.
+/// An instance and costs, whose service a front serves.
 #[derive(Clone, Copy)]
 pub(crate) struct ServiceRef<'a> {
     pub(crate) instance: &'a Instance,
@@ -164,7 +164,8 @@ pub(crate) fn begin<'a>(
     requires accepted { IsAccepted (service_of service.costs.now service.instance.now) plan.now
         accepted }
     ensures { IfOk result (IsBegun
-        (service_of service.entry.costs.now service.entry.instance.now) plan.now front.fronts front.number) }
+        (service_of service.entry.costs.now service.entry.instance.now) plan.now front.fronts
+        front.number) }
 {
     let numbers = accepted.numbers;
     let cells = cells_of_classes(alloc, plan.classes(), front)?;
