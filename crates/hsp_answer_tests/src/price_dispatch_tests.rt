@@ -89,6 +89,17 @@ fn start(alloc: Global, held: &Held, fronts: u32, number: u32) -> Started<'_> {
     }
 }
 
+// The same of a plan that fits.
+fn begun<'a>(
+    rt: &impl Abort,
+    alloc: Global,
+    held: &'a Held,
+    fronts: u32,
+    number: u32,
+) -> PriceDispatcher<'a> {
+    start(alloc, held, fronts, number).expect(rt, "the plan fits")
+}
+
 // ---- queries
 
 #[derive(Clone, Copy)]
@@ -155,10 +166,8 @@ fn ask_a_class(rt: &impl Abort, alloc: Global, dispatcher: &mut PriceDispatcher<
 fn a_class_goes_by_its_amounts_and_then_into_free_room(rt: HostRuntime) {
     let alloc = rt.alloc();
     let held = hold(&rt, alloc, b"", PLAN);
-    match start(alloc, &held, 1, 0) {
-        Ok(mut dispatcher) => ask_a_class(&rt, alloc, &mut dispatcher),
-        Err(fault) => is_same(&rt, Some(fault), None),
-    }
+    let mut dispatcher = begun(&rt, alloc, &held, 1, 0);
+    ask_a_class(&rt, alloc, &mut dispatcher);
 }
 
 // Room that is held for a class goes last. What the class has lost so, it gets no more.
@@ -179,10 +188,8 @@ fn ask_too_much(rt: &impl Abort, alloc: Global, dispatcher: &mut PriceDispatcher
 fn room_that_is_held_goes_last(rt: HostRuntime) {
     let alloc = rt.alloc();
     let held = hold(&rt, alloc, b"", PLAN);
-    match start(alloc, &held, 1, 0) {
-        Ok(mut dispatcher) => ask_too_much(&rt, alloc, &mut dispatcher),
-        Err(fault) => is_same(&rt, Some(fault), None),
-    }
+    let mut dispatcher = begun(&rt, alloc, &held, 1, 0);
+    ask_too_much(&rt, alloc, &mut dispatcher);
 }
 
 // The host has room for 7 beside the class, and its server 0 for 10.
@@ -200,10 +207,8 @@ fn ask_a_host(rt: &impl Abort, alloc: Global, dispatcher: &mut PriceDispatcher<'
 fn a_host_may_fill_before_its_servers(rt: HostRuntime) {
     let alloc = rt.alloc();
     let held = hold(&rt, alloc, HOST, HOSTED_PLAN);
-    match start(alloc, &held, 1, 0) {
-        Ok(mut dispatcher) => ask_a_host(&rt, alloc, &mut dispatcher),
-        Err(fault) => is_same(&rt, Some(fault), None),
-    }
+    let mut dispatcher = begun(&rt, alloc, &held, 1, 0);
+    ask_a_host(&rt, alloc, &mut dispatcher);
 }
 
 // The first of two fronts has one query of each amount, and 3 of the free room of the server 1.
@@ -229,14 +234,99 @@ fn ask_the_second(rt: &impl Abort, alloc: Global, dispatcher: &mut PriceDispatch
 fn fronts_have_their_shares(rt: HostRuntime) {
     let alloc = rt.alloc();
     let held = hold(&rt, alloc, b"", PLAN);
-    match start(alloc, &held, 2, 0) {
-        Ok(mut dispatcher) => ask_the_first(&rt, alloc, &mut dispatcher),
-        Err(fault) => is_same(&rt, Some(fault), None),
-    }
-    match start(alloc, &held, 2, 1) {
-        Ok(mut dispatcher) => ask_the_second(&rt, alloc, &mut dispatcher),
-        Err(fault) => is_same(&rt, Some(fault), None),
-    }
+    let mut first = begun(&rt, alloc, &held, 2, 0);
+    ask_the_first(&rt, alloc, &mut first);
+    let mut second = begun(&rt, alloc, &held, 2, 1);
+    ask_the_second(&rt, alloc, &mut second);
+}
+
+// Handles that may go to the servers 1 and 4, and handles that may go to 1 and 2.
+#[derive(Clone, Copy)]
+struct Asked {
+    one: &'static [u8],
+    other_one: &'static [u8],
+    three: &'static [u8],
+    other_three: &'static [u8],
+    last_three: &'static [u8],
+}
+
+// Each is asked twice or three times.
+const SAME: Asked = Asked {
+    one: b"10/1",
+    other_one: b"10/1",
+    three: b"10/3",
+    other_three: b"10/3",
+    last_three: b"10/3",
+};
+
+// No region asks for one twice.
+const OTHERS: Asked = Asked {
+    one: b"10/1",
+    other_one: b"10/7",
+    three: b"10/3",
+    other_three: b"10/5",
+    last_three: b"10/21",
+};
+
+fn query(region: &'static [u8], handle: &'static [u8]) -> Query {
+    Query { region, handle }
+}
+
+// From r2 the second amount has the greater part left after the first query. From r1 only the server 1 is least for
+// each. From r9 nothing has a cost.
+fn ask_in_turn(rt: &impl Abort, alloc: Global, dispatcher: &mut PriceDispatcher<'_>, asked: Asked) {
+    let near = PriceAnswer::Assigned(arc(0, 1, 2));
+    let far = PriceAnswer::Assigned(arc(1, 2, 3));
+    let least = PriceAnswer::Assigned(arc(0, 1, 1));
+    let unknown = PriceAnswer::Unknown;
+    get(rt, alloc, dispatcher, query(b"r2", asked.three), (1, near));
+    get(rt, alloc, dispatcher, query(b"r1", asked.one), (1, least));
+    get(
+        rt,
+        alloc,
+        dispatcher,
+        query(b"r2", asked.other_three),
+        (1, far),
+    );
+    get(
+        rt,
+        alloc,
+        dispatcher,
+        query(b"r1", asked.other_one),
+        (1, least),
+    );
+    get(rt, alloc, dispatcher, query(b"r1", asked.three), (1, least));
+    get(
+        rt,
+        alloc,
+        dispatcher,
+        query(b"r9", asked.three),
+        (1, unknown),
+    );
+    get(
+        rt,
+        alloc,
+        dispatcher,
+        query(b"r2", asked.last_three),
+        (1, far),
+    );
+    get(
+        rt,
+        alloc,
+        dispatcher,
+        query(b"r9", asked.other_three),
+        (1, unknown),
+    );
+}
+
+#[test]
+fn handles_that_are_asked_again_have_the_answers_of_new_ones(rt: HostRuntime) {
+    let alloc = rt.alloc();
+    let held = hold(&rt, alloc, b"", PLAN);
+    let mut again = begun(&rt, alloc, &held, 1, 0);
+    ask_in_turn(&rt, alloc, &mut again, SAME);
+    let mut fresh = begun(&rt, alloc, &held, 1, 0);
+    ask_in_turn(&rt, alloc, &mut fresh, OTHERS);
 }
 
 // A dispatcher by this certificate has this fault.

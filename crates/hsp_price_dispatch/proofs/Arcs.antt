@@ -12,10 +12,12 @@ use Rattle.hsp_classes.specs.Least.{arcs_of, host_at, is_least, least_arcs, leas
 use Rattle.hsp_price_dispatch.specs.Choosing.{answer_of, assigned, at_first, choice_among, choice_for}
 use Rattle.hsp_price_dispatch.specs.Choosing.{diverted, elsewhere, or_full, row_of}
 use Rattle.hsp_price_dispatch.specs.Holding.{Held, has_room, host_passes, host_room_at, is_free, room_at}
-use Rattle.hsp_price_dispatch.specs.Laws.{GoesOverItsArcs, HasNoRoom, IsFullWithoutRoom, LeastAreArcs}
+use Rattle.hsp_price_dispatch.specs.Laws.{GoesOverItsArcs, HasNoRoom, IsFullWithoutRoom, IsUnknownWithoutCost}
+use Rattle.hsp_price_dispatch.specs.Laws.{LeastAreArcs}
 use Rattle.hsp_price_dispatch.specs.declared.answer.Choice.{Choice}
 use Rattle.hsp_price_dispatch.specs.declared.answer.Choice.TheVariants as choice
-use Rattle.hsp_price_dispatch.specs.declared.answer.PriceAnswer.TheVariants.{Assigned, Diverted, Full}
+use Rattle.hsp_price_dispatch.specs.declared.answer.PriceAnswer.TheVariants.{Assigned, Diverted, Full, Unknown}
+use Rattle.hsp_price_dispatch.proofs.Choices.{is_unknown, second_absent, there_or_full}
 use Rattle.hsp_price_dispatch.proofs.Chosen.{IsGood, OnChoice, is_good, on_any}
 use Rattle.hsp_price_dispatch.proofs.RoomTaken.{AnyArc}
 
@@ -112,7 +114,7 @@ kept : (test : Arc → Bool) (xs : List Arc) (arc : Arc) → Contains xs arc →
 kept test xs arc there e none = true≢false (sym e ∙ kept_at test xs there.0 arc there.1 there.2 none)
 
 -- so some arcs have a least one
-no_least : (pay : Arc → ℕ) (arcs : List Arc) → least_arcs pay arcs ≡ [] → arcs ≡ []
+pub no_least : (pay : Arc → ℕ) (arcs : List Arc) → least_arcs pay arcs ≡ [] → arcs ≡ []
 no_least pay [] none = refl
 no_least pay (x ∷ xs) none =
     let least = some_least pay x xs in
@@ -122,7 +124,7 @@ no_least pay (x ∷ xs) none =
     absurd (kept (is_least pay (x ∷ xs)) (x ∷ xs) least.0 least.1 passes none)
 
 -- where a filter keeps nothing each fails
-all_fail : (test : Arc → Bool) (xs : List Arc) → filter test xs ≡ [] → All (λ x. test x ≡ false) xs
+pub all_fail : (test : Arc → Bool) (xs : List Arc) → filter test xs ≡ [] → All (λ x. test x ≡ false) xs
 all_fail test xs none k d l =
     false_from_ne_true (test (get_or xs k d))
     (λ e. kept test xs (get_or xs k d) (All-contains_itself xs k d l) e none)
@@ -151,14 +153,9 @@ no_room own arc e =
     ]
 
 -- the first of no arcs
-first_none : (by : Arc → Choice) (arcs : List Arc) → at_first by arcs ≡ None → arcs ≡ []
+pub first_none : (by : Arc → Choice) (arcs : List Arc) → at_first by arcs ≡ None → arcs ≡ []
 first_none by [] e = refl
 first_none by (arc ∷ arcs) e = absurd (cc (e))
-
--- where neither is there the second is not
-second_none : (a b : Option Choice) → or_else a b ≡ None → b ≡ None
-second_none None b e = e
-second_none (Some by) b e = absurd (cc (e))
 
 -- what is answered by Full goes nowhere
 goes_nowhere : (own : Held) (o : Option Choice) → OnChoice own AnyArc AnyArc o → or_full o ≡ choice.Full → o ≡ None
@@ -175,9 +172,9 @@ full_among own region (arc ∷ arcs) least e k d l =
     let none : or_else (assigned own region least) (elsewhere own all) ≡ None =
     goes_nowhere own (or_else (assigned own region least) (elsewhere own all))
     (on_any own AnyArc AnyArc region all least (λ k d l. tt) (λ k d l. tt)) e in
-    let other : elsewhere own all ≡ None = second_none (assigned own region least) (elsewhere own all) none in
+    let other : elsewhere own all ≡ None = second_absent (assigned own region least) (elsewhere own all) none in
     let roomy : diverted own (has_room own) all ≡ None =
-    second_none (diverted own (is_free own) all) (diverted own (has_room own) all) other in
+    second_absent (diverted own (is_free own) all) (diverted own (has_room own) all) other in
     let nothing : filter (has_room own) all ≡ [] =
     no_least pay (filter (has_room own) all)
     (first_none choice.Diverted (least_arcs pay (filter (has_room own) all)) roomy) in
@@ -196,3 +193,27 @@ pub full_without_room : IsFullWithoutRoom
 full_without_room own entry e =
     full_among own entry.region (arcs_of own.service (row_of entry)) (least_of own.service own.plan (row_of entry))
     (is_full (choice_for own entry) e)
+
+-- ---- where a query has no arc
+
+-- what is answered by Unknown has no arc
+unknown_among : (own : Held) (region : List ℕ) (arcs least : List Arc)
+    → choice_among own region arcs least ≡ choice.Unknown → arcs ≡ []
+unknown_among own region [] least e = refl
+unknown_among own region (arc ∷ arcs) least e =
+    let o = or_else (assigned own region least) (elsewhere own (arc ∷ arcs)) in
+    elim (there_or_full o choice.Unknown e) [
+      | inl there ↦
+          absurd (subst (OnChoice own AnyArc AnyArc) there
+          (on_any own AnyArc AnyArc region (arc ∷ arcs) least (λ k d l. tt) (λ k d l. tt)))
+      | inr full ↦ absurd (cc (full))
+    ]
+
+-- so Unknown is answered just where there is no arc
+pub unknown_without_cost : IsUnknownWithoutCost
+unknown_without_cost own entry =
+    let arcs = arcs_of own.service (row_of entry) in
+    let least = least_of own.service own.plan (row_of entry) in (
+      (λ e. unknown_among own entry.region arcs least (is_unknown (choice_for own entry) e)),
+      (λ none. subst (λ list. answer_of (choice_among own entry.region list least) ≡ Unknown) (sym none) refl),
+    )

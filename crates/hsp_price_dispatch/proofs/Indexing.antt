@@ -10,21 +10,24 @@ use Rattle.std.proofs.lemmas.Slice.Eq.{bytes_eq-Decides}
 use Rattle.std.proofs.lemmas.List.Elements.{All-from_recursion}
 use Rattle.std.proofs.lemmas.List.Quantifiers.{position-Some}
 use Rattle.hsp_check.specs.Prices.{at_host}
-use Rattle.hsp_instance.specs.Building.{or_else}
-use Rattle.hsp_instance.specs.Instance.{Server}
-use Rattle.hsp_instance.specs.RowArcs.{IsWithin}
+use Rattle.hsp_tables.specs.Costs.{CostEntry}
+use Rattle.hsp_instance.specs.Building.{arcs_from, or_else}
+use Rattle.hsp_instance.specs.Instance.{Row, Server, Site}
+use Rattle.hsp_instance.specs.RowArcs.{AreArcsOf, ArcsInTurn, IsWithin, row_named}
 use Rattle.hsp_instance.specs.declared.arc.Arc.{Arc}
+use Rattle.hsp_instance.proofs.ArcsWithin.{arcs_within}
+use Rattle.hsp_kinds.specs.Rows.{Service}
 use Rattle.hsp_price_text.specs.Claim.{Best}
-use Rattle.hsp_classes.specs.Least.{host_at, is_least, least_arcs, pay_over, price_at, servers_of}
+use Rattle.hsp_classes.specs.Least.{arcs_of, host_at, is_least, least_arcs, pay_over, price_at, servers_of}
 use Rattle.hsp_classes.proofs.Lists.{all_kept}
 use Rattle.hsp_price_check.specs.ClassNumbers.{is_named}
 use Rattle.hsp_price_check.specs.Extras.{pay_by}
 use Rattle.hsp_price_check.specs.Passed.{class_at, no_class}
-use Rattle.hsp_price_dispatch.specs.Choosing.{LeadsWithin, answer_of}
-use Rattle.hsp_price_dispatch.specs.Choosing.{assigned, choice_among, class_number, elsewhere, first_cell, or_full}
+use Rattle.hsp_price_dispatch.specs.Choosing.{LeadsWithin, answer_of, assigned, choice_among, choice_for}
+use Rattle.hsp_price_dispatch.specs.Choosing.{class_number, elsewhere, first_cell, or_full}
 use Rattle.hsp_price_dispatch.specs.Holding.{Held, cell_at, one_given}
 use Rattle.hsp_price_dispatch.specs.Choosing.{left_with}
-use Rattle.hsp_price_dispatch.specs.Standing.{IsIndexOf}
+use Rattle.hsp_price_dispatch.specs.Standing.{IsIndexOf, IsOfService}
 use Rattle.hsp_price_dispatch.specs.Taking.{CanTake}
 use Rattle.hsp_price_dispatch.specs.declared.answer.Choice.{Choice}
 use Rattle.hsp_price_dispatch.specs.declared.answer.Choice.TheVariants.{OfClass, Free, Diverted, Full, Unknown}
@@ -177,6 +180,28 @@ can_take_choice own region arcs within =
     can_take own (choice_among own region arcs (least_arcs pay arcs))
     (is_good own (IsThere own) (IsThere own) region arcs (least_arcs pay arcs) (there arcs within)
     (there (least_arcs pay arcs) (all_kept (IsWithin (length own.service.servers)) (is_least pay arcs) arcs within)))
+
+-- the arcs of a row lead to servers that are there
+pub row_within : (at : Service) (arcs : ArcsInTurn) → IsOfService at arcs → (row : Row)
+    → AllByRecursion (IsWithin (length at.servers)) (arcs_of at row)
+row_within at arcs is row =
+    arcs_within at.costs is.costs.keyed.each row (length at.servers) 0 0 at.sites is.service.sites.each
+    (omega (arith, is.service.servers.count))
+
+-- arcs that are found for a query are its own
+pub found_arcs : (at : Service) (own : ArcsInTurn) → IsOfService at own → (region handle : List ℕ) (arcs : List Arc)
+    → AreArcsOf own.costs own.sites region handle arcs → arcs ≡ arcs_of at (row_named region handle 1)
+found_arcs at own is region handle arcs found =
+    let row = row_named region handle 1 in
+    found 1 ∙ ap (λ (costs : List CostEntry). arcs_from costs row 0 0 own.sites) is.costs_are
+    ∙ ap (λ (sites : List Site). arcs_from at.costs row 0 0 sites) is.sites_are
+
+-- what is chosen by a query's arcs is what it is answered by
+pub chosen_for : (own : Held) (region handle : List ℕ) (arcs : List Arc) (by : Choice)
+    → arcs ≡ arcs_of own.service (row_named region handle 1)
+    → by ≡ choice_among own region arcs (least_arcs (pay_over own.service own.plan) arcs)
+    → by ≡ choice_for own (record { region = region; handle = handle })
+chosen_for own region handle arcs by same is = rw same at is
 
 -- ---- one choice or the other
 

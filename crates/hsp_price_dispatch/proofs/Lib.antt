@@ -13,3 +13,6 @@ pub mod FirstHeld
 pub mod ClassParts
 pub mod Planned
 pub mod Greatest
+pub mod SeenArcs
+pub mod Choices
+pub mod Diverting

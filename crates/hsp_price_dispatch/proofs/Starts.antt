@@ -1,15 +1,13 @@
 -- What a front begins with: sums that are kept exactly, and rooms.
-use Rattle.std.proofs.Common.{◌≡◌, ◌≢◌, ◌<◌, ◌≤◌, ◌+◌, ◌^◌, ◌==◌, ◌∙◌, ℕ, zero, suc, List, [], ◌∷◌, length, map}
+use Rattle.std.proofs.Common.{◌≡◌, ◌≢◌, ◌<◌, ◌≤◌, ◌+◌, ◌^◌, ◌==◌, ◌∙◌, ℕ, List, [], length}
 use Rattle.std.proofs.Common.{ap, arith, get_or, if◌then◌else◌, inl, inr, refl, slice_index, slice_set, sym}
 use Rattle.std.proofs.Common.{sum_by, take, eq-eqb, ne_eqb, get_or-set_other, get_or-set_same, zero-add}
-use Rattle.std.specs.List.{AllByRecursion}
 use Rattle.std.proofs.lemmas.Bool.{cases_eq}
 use Rattle.std.proofs.lemmas.List.{length-map}
 use Rattle.std.proofs.lemmas.List.Sums.{sum_by_more}
-use Rattle.hsp_text.specs.declared.limits.TheConstants.{GREATEST_CAPACITY}
 use Rattle.hsp_transport.specs.Sums.{sum_below}
 use Rattle.hsp_transport.proofs.Summing.{sum_below_same}
-use Rattle.hsp_instance.specs.Instance.{Host, IsServer, Server}
+use Rattle.hsp_instance.specs.Instance.{Host, Server}
 use Rattle.hsp_check.specs.ArcFlows.{host_in}
 use Rattle.hsp_check.specs.Lists.{AreHosted, AreWithin}
 use Rattle.hsp_check.specs.Plan.{is_on}

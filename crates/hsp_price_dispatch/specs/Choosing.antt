@@ -11,13 +11,16 @@ use Rattle.hsp_classes.specs.Least.{arcs_of, least_arcs, least_of, pay_over, ser
 use Rattle.hsp_classes.specs.Sums.{sends}
 use Rattle.hsp_dispatch.specs.Dispatch.{Entry}
 use Rattle.hsp_price_check.specs.ClassNumbers.{is_named}
-use Rattle.hsp_price_dispatch.specs.Holding.{Held, cell_at, has_room, is_free, with_given, with_query_at}
+use Rattle.hsp_price_dispatch.specs.Holding.{Held, cell_at, has_room, has_room_at, is_free, is_free_at, with_given}
+use Rattle.hsp_price_dispatch.specs.Holding.{with_query_at}
 use Rattle.hsp_price_dispatch.specs.declared.answer.Choice.{Choice}
 use Rattle.hsp_price_dispatch.specs.declared.answer.Choice.TheVariants as choice
 use Rattle.hsp_price_dispatch.specs.declared.answer.PriceAnswer.{PriceAnswer}
 use Rattle.hsp_price_dispatch.specs.declared.answer.PriceAnswer.TheVariants as answer
 use Rattle.hsp_price_dispatch.specs.declared.cells.Cell.{Cell}
 use Rattle.hsp_price_dispatch.specs.declared.choosing.Place.{Place}
+use Rattle.hsp_price_dispatch.specs.declared.choosing.Wanted.{Wanted}
+use Rattle.hsp_price_dispatch.specs.declared.choosing.Wanted.TheVariants as wanted
 
 -- ---- by a class
 
@@ -89,6 +92,14 @@ at_first by (arc ∷ arcs) = Some (by arc)
 -- over the first of the least arcs with free room
 abbrev pub by_room : Held → List Arc → Option Choice
 by_room own least = at_first choice.Free (filter (is_free own) least)
+
+-- room of a kind is left at a server, and at that of an arc
+abbrev pub has_wanted_at : Held → Wanted → ℕ → Bool
+has_wanted_at own wanted.Free j = is_free_at own j
+has_wanted_at own wanted.Any j = has_room_at own j
+
+abbrev pub has_wanted : Held → Wanted → Arc → Bool
+has_wanted own kind arc = has_wanted_at own kind arc.server
 
 -- over the first arc of least pay, of those that pass a test
 abbrev pub diverted : Held → (Arc → Bool) → List Arc → Option Choice

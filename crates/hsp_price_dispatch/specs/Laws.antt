@@ -8,12 +8,14 @@ use Rattle.hsp_check.specs.Plan.{is_on}
 use Rattle.hsp_transport.specs.Sums.{sum_below}
 use Rattle.hsp_kinds.specs.Rows.{Service}
 use Rattle.hsp_price_text.specs.Claim.{Best}
-use Rattle.hsp_classes.specs.Least.{arcs_of, host_at, least_of}
+use Rattle.hsp_classes.specs.Least.{arcs_of, host_at, least_of, pay_over}
 use Rattle.hsp_dispatch.specs.Dispatch.{Entry, each_after}
 use Rattle.hsp_dispatch.specs.Fronts.{Event, entries_at}
-use Rattle.hsp_price_dispatch.specs.Choosing.{answer_by, can_give, fullest, left_by, row_of}
-use Rattle.hsp_price_dispatch.specs.Holding.{Held, host_room_at, room_at}
+use Rattle.hsp_price_dispatch.specs.Choosing.{answer_by, can_give, choice_for, class_number, fullest, left_by}
+use Rattle.hsp_price_dispatch.specs.Choosing.{places_of, row_of}
+use Rattle.hsp_price_dispatch.specs.Holding.{Held, cell_at, has_room, host_room_at, is_free, room_at}
 use Rattle.hsp_price_dispatch.specs.Starting.{Fits, IsBegun, capacity_at, limit_at}
+use Rattle.hsp_price_dispatch.specs.declared.answer.Choice.TheVariants.{OfClass}
 use Rattle.hsp_price_dispatch.specs.declared.answer.PriceAnswer.{PriceAnswer}
 use Rattle.hsp_price_dispatch.specs.declared.choosing.Place.{Place}
 use Rattle.hsp_price_dispatch.specs.declared.answer.PriceAnswer.TheVariants.{Assigned, Diverted, Full, Unknown}
@@ -113,6 +115,62 @@ GivesTheGreatestPart =
     → fullest own places ≡ Some place
     → All (λ other. can_give own other ≡ true
     → other.cell.left * place.cell.share ≤ place.cell.left * other.cell.share) places
+
+-- the arc with its cell, which has the number n
+abbrev pub place_numbered : Held → ℕ → Arc → Place
+place_numbered own n arc = record { arc = arc; number = n; cell = cell_at own.cells n }
+
+-- it is one of places, and of those that can give none has a greater part of its amount left
+pub record HasGreatestPart (own : Held) (places : List Place) (place : Place) : Type 0 where
+  pub among : Contains places place
+  pub greatest : All (λ other. can_give own other ≡ true
+      → other.cell.left * place.cell.share ≤ place.cell.left * other.cell.share) places
+
+-- At a front that began with a plan, a query that gets of an amount, whatever was asked before, gets of the greatest
+-- part that is left of the amounts of its class.
+abbrev pub AnswersByTheGreatestPart : Type 0
+AnswersByTheGreatestPart =
+    (at : Service) (plan : Best) (fronts front : ℕ) (begun : Held) (entries : List Entry) (entry : Entry)
+    (n : ℕ) (arc : Arc) → IsBegun at plan fronts front begun
+    → let own = left_after begun entries in
+    let least = least_of own.service own.plan (row_of entry) in
+    choice_for own entry ≡ OfClass n arc
+    → (k : ℕ) × (class_number own.plan entry.region least ≡ Some k)
+    × HasGreatestPart own (places_of own k least) (place_numbered own n arc)
+
+-- ---- diverted
+
+-- no least server has an amount left for a query, or free room
+pub record NoLeastGives (own : Held) (entry : Entry) (least : List Arc) : Type 0 where
+  pub amounts : (k : ℕ) → class_number own.plan entry.region least ≡ Some k
+      → All (λ place. can_give own place ≡ false) (places_of own k least)
+  pub rooms : All (λ arc. is_free own arc ≡ false) least
+
+-- an arc is one of some, it passes a test, and none that passes it pays less
+pub record PaysLeastOf (own : Held) (test : Arc → Bool) (arcs : List Arc) (arc : Arc) : Type 0 where
+  pub among : Contains arcs arc
+  pub passes : test arc ≡ true
+  pub least : All (λ other. test other ≡ true
+      → pay_over own.service own.plan arc ≤ pay_over own.service own.plan other) arcs
+
+-- A query is diverted only where no least server has anything for it. It goes over a free arc that pays least of the
+-- free ones. Where none is free, it goes over one that pays least of those with room.
+abbrev pub IsDivertedLeast : Type 0
+IsDivertedLeast =
+    (own : Held) (entry : Entry) (arc : Arc) → answer_by own entry ≡ Diverted arc
+    → let arcs = arcs_of own.service (row_of entry) in
+    NoLeastGives own entry (least_of own.service own.plan (row_of entry))
+    × (PaysLeastOf own (is_free own) arcs arc
+    ⊎ (All (λ other. is_free own other ≡ false) arcs × PaysLeastOf own (has_room own) arcs arc))
+
+-- ---- unknown
+
+-- a query is answered by Unknown just where it has no arc: its region has no cost at any site
+abbrev pub IsUnknownWithoutCost : Type 0
+IsUnknownWithoutCost =
+    (own : Held) (entry : Entry)
+    → (answer_by own entry ≡ Unknown → arcs_of own.service (row_of entry) ≡ [])
+    × (arcs_of own.service (row_of entry) ≡ [] → answer_by own entry ≡ Unknown)
 
 -- ---- full
 

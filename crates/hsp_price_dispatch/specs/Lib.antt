@@ -5,3 +5,4 @@ pub mod Starting
 pub mod Standing
 pub mod Laws
 pub mod Planned
+pub mod SeenArcs

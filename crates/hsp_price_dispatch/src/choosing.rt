@@ -8,9 +8,8 @@ ghost use Rattle.hsp_price_check.specs.Extras.{pay_by};
 ghost use Rattle.hsp_price_check.specs.LeastPay.{AreLow};
 ghost use Rattle.hsp_price_dispatch.specs.Choosing.{assigned, at_first, by_class, by_place};
 ghost use Rattle.hsp_price_dispatch.specs.Choosing.{by_room, can_give, choice_among};
-ghost use Rattle.hsp_price_dispatch.specs.Choosing.{class_number, elsewhere, fuller, fullest, is_fuller, place_at};
-ghost use Rattle.hsp_price_dispatch.specs.Choosing.{places_from};
-ghost use Rattle.hsp_price_dispatch.specs.Holding.{has_room, is_free};
+ghost use Rattle.hsp_price_dispatch.specs.Choosing.{class_number, elsewhere, fuller, fullest, has_wanted};
+ghost use Rattle.hsp_price_dispatch.specs.Choosing.{has_wanted_at, is_fuller, place_at, places_from};
 ghost use Rattle.hsp_price_dispatch.specs.Standing.{IsIndexOf};
 ghost use Rattle.hsp_price_dispatch.specs.declared.answer.Choice.TheVariants.{Diverted as over};
 
@@ -44,6 +43,15 @@ pub(crate) struct Scratch {
     pub(crate) least: Vec<Arc>,
     pub(crate) passing: Vec<Arc>,
     pub(crate) servers: Vec<u32>,
+}
+
+/// The room that a query is diverted to.
+#[derive(Clone, Copy)]
+pub(crate) enum Wanted {
+    /// Room that is held for no class.
+    Free,
+    /// Any room.
+    Any,
 }
 
 // Whether a greater part is left of the first amount than of the second.
@@ -159,28 +167,30 @@ fn by_room(holding: &Holding<'_>, least: &[Arc]) -> Option<Choice>
     None
 }
 
-// Writes the arcs to servers with free room over what the list had.
-fn fill_free(passing: &mut Vec<Arc>, holding: &Holding<'_>, arcs: &[Arc]) -> Result<(), AllocError>
-    requires { AllByRecursion (IsWithin (length holding.now.service.servers)) arcs.now }
-    ensures { OnOk result (passing.new.items ≡ filter (is_free holding.now) arcs.now) }
+// Whether a server has such room.
+fn has_wanted(holding: &Holding<'_>, wanted: Wanted, server: u32) -> bool
+    requires { server < length holding.now.service.servers }
+    ensures { result ≡ has_wanted_at holding.now wanted server }
 {
-    passing.clear();
-    for arc in arcs {
-        if holding.is_free(arc.server) {
-            passing.push(*arc)?;
-        }
+    match wanted {
+        Wanted::Free => holding.is_free(server),
+        Wanted::Any => holding.has_room(server),
     }
-    Ok(())
 }
 
-// Writes the arcs to servers with room over what the list had.
-fn fill_roomy(passing: &mut Vec<Arc>, holding: &Holding<'_>, arcs: &[Arc]) -> Result<(), AllocError>
+// Writes the arcs to servers with such room over what the list had.
+fn fill_passing(
+    passing: &mut Vec<Arc>,
+    holding: &Holding<'_>,
+    wanted: Wanted,
+    arcs: &[Arc],
+) -> Result<(), AllocError>
     requires { AllByRecursion (IsWithin (length holding.now.service.servers)) arcs.now }
-    ensures { OnOk result (passing.new.items ≡ filter (has_room holding.now) arcs.now) }
+    ensures { OnOk result (passing.new.items ≡ filter (has_wanted holding.now wanted) arcs.now) }
 {
     passing.clear();
     for arc in arcs {
-        if holding.has_room(arc.server) {
+        if has_wanted(holding, wanted, arc.server) {
             passing.push(*arc)?;
         }
     }
@@ -211,12 +221,12 @@ fn elsewhere(
     requires within { AllByRecursion (IsWithin (length holding.now.service.servers)) arcs.now }
     ensures { IfOk result (λ by. by ≡ elsewhere holding.now arcs.now) }
 {
-    fill_free(&mut scratch.passing, holding, arcs)?;
+    fill_passing(&mut scratch.passing, holding, Wanted::Free, arcs)?;
     let free = divert(&mut scratch.least, &scratch.passing, &index.extras)?;
     if let Some(choice) = free {
         return Ok(Some(choice));
     }
-    fill_roomy(&mut scratch.passing, holding, arcs)?;
+    fill_passing(&mut scratch.passing, holding, Wanted::Any, arcs)?;
     divert(&mut scratch.least, &scratch.passing, &index.extras)
 }
 

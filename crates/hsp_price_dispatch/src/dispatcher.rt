@@ -3,16 +3,18 @@
 ghost use Rattle.std.specs.Prelude.{◌≡◌, ◌≤◌, ◌<◌, IfErr, IfOk, OnErr, OnOk, length};
 ghost use Rattle.hsp_dispatch.specs.Shares.{query};
 ghost use Rattle.hsp_price_check.specs.Classes.{service_of};
-ghost use Rattle.hsp_price_dispatch.specs.Choosing.{LeadsWithin, answer_by, left_by};
+ghost use Rattle.hsp_price_dispatch.specs.Choosing.{LeadsWithin, answer_by, choice_for, left_by};
 ghost use Rattle.hsp_price_dispatch.specs.Starting.{Fits, IsBegun, Stands};
+ghost use Rattle.hsp_price_dispatch.specs.Taking.{CanTake};
 
-use crate::answer::PriceAnswer;
+use crate::answer::{Choice, PriceAnswer};
 use crate::choosing::{Index, Scratch, choose};
 use crate::fault::StartFault;
 use crate::holding::Holding;
-use crate::starting::{accept, begin, index_of};
+use crate::seen_arcs::SeenArcs;
+use crate::starting::{ServiceRef, accept, begin, index_of};
 use hsp_dispatch::front_share::Front;
-use hsp_instance::{Arc, Instance, RowArcs};
+use hsp_instance::{Instance, RowArcs};
 use hsp_names::HandleRef;
 use hsp_price_text::PricedPlan;
 use hsp_tables::Costs;
@@ -21,9 +23,13 @@ use std::marker::Model;
 
 /// A front that answers queries for any handle by a certificate by prices. It has a share of each amount of a class,
 /// and of the room that servers and hosts have beside these.
+///
+/// It remembers where at most 65,536 queries may go, those whose region and handle have at most 256 octets together. So
+/// it hashes none of these handles again.
 #[derive(Drop)]
 pub struct PriceDispatcher<'a> {
     arcs: RowArcs<'a>,
+    seen: SeenArcs,
     holding: Holding<'a>,
     index: Index,
     scratch: Scratch,
@@ -31,6 +37,7 @@ pub struct PriceDispatcher<'a> {
 
 impl<'a> Model for PriceDispatcher<'a> {
     ghost use Rattle.hsp_price_dispatch.specs.Holding.{Held};
+    ghost use Rattle.hsp_price_dispatch.specs.SeenArcs.{HaveTheirArcs};
     ghost use Rattle.hsp_price_dispatch.specs.Standing.{IsIndexOf, IsOfService};
 
     ghost Value = { Held };
@@ -38,7 +45,8 @@ impl<'a> Model for PriceDispatcher<'a> {
     ghost view = { λ d. d.holding };
 
     ghost invariant = { λ d. IsIndexOf d.holding d.index
-        × IsOfService d.holding.service d.arcs };
+        × IsOfService d.holding.service d.arcs
+        × HaveTheirArcs d.holding.service d.seen };
 }
 
 impl<'a> PriceDispatcher<'a> {
@@ -68,9 +76,11 @@ impl<'a> PriceDispatcher<'a> {
         let _rows = costs.len();
         let accepted = accept(alloc, instance, plan)?;
         let index = index_of(alloc, plan, &accepted.numbers)?;
-        let holding = begin(alloc, instance, costs, plan, accepted, front)?;
+        let service = ServiceRef { instance, costs };
+        let holding = begin(alloc, service, plan, accepted, front)?;
         Ok(PriceDispatcher {
             arcs: RowArcs::new(alloc, instance.sites(), costs),
+            seen: SeenArcs::new(alloc),
             holding,
             index,
             scratch: Scratch {
@@ -79,6 +89,42 @@ impl<'a> PriceDispatcher<'a> {
                 servers: Vec::new(alloc),
             },
         })
+    }
+
+    // What a query for a handle from a region is answered by, where no arcs of it were seen. Its arcs are remembered.
+    fn choose_new(
+        &mut self,
+        alloc: Global,
+        region: &[u8],
+        handle: HandleRef<'_>,
+    ) -> Result<Choice, AllocError>
+        ensures choice { IfOk result
+            (λ choice. choice ≡ choice_for self.old (query region.now handle.entry)) }
+        ensures can { IfOk result (CanTake self.old) }
+        ensures same { self.new ≡ self.old }
+    {
+        self.arcs.find(alloc, region, handle)?;
+        let arcs = self.arcs.arcs();
+        self.seen.remember(alloc, region, handle.bytes(), arcs)?;
+        choose(&self.holding, &self.index, &mut self.scratch, region, arcs)
+    }
+
+    // What a query for a handle from a region is answered by.
+    fn choose_for(
+        &mut self,
+        alloc: Global,
+        region: &[u8],
+        handle: HandleRef<'_>,
+    ) -> Result<Choice, AllocError>
+        ensures choice { IfOk result
+            (λ choice. choice ≡ choice_for self.old (query region.now handle.entry)) }
+        ensures can { IfOk result (CanTake self.old) }
+        ensures same { self.new ≡ self.old }
+    {
+        if let Some(arcs) = self.seen.find(region, handle.bytes()) {
+            return choose(&self.holding, &self.index, &mut self.scratch, region, arcs);
+        }
+        self.choose_new(alloc, region, handle)
     }
 
     /// Answers a query for a handle from a region, and takes it from what the front has left. The region is a name.
@@ -99,14 +145,7 @@ impl<'a> PriceDispatcher<'a> {
         ensures within { IfOk result (LeadsWithin (length self.old.service.servers)) }
         ensures service { self.new.service ≡ self.old.service }
     {
-        self.arcs.find(alloc, region, handle)?;
-        let choice = choose(
-            &self.holding,
-            &self.index,
-            &mut self.scratch,
-            region,
-            self.arcs.arcs(),
-        )?;
+        let choice = self.choose_for(alloc, region, handle)?;
         self.holding.take(choice);
         Ok(choice.answer())
     }

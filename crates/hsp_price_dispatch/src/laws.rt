@@ -1,9 +1,9 @@
 // What holds of every plan and of every list of queries.
 
-ghost use Rattle.hsp_price_dispatch.specs.Laws.{AnswersByItsOwn, EndsInTheSame, GivesTheGreatestPart, GoesByItsEntries};
-ghost use Rattle.hsp_price_dispatch.specs.Laws.{GoesOverItsArcs};
-ghost use Rattle.hsp_price_dispatch.specs.Laws.{IsFullWithoutRoom, LeastAreArcs, NeverExceeds, NeverExceedsTogether};
-ghost use Rattle.hsp_price_dispatch.specs.Laws.{RoomsAddUp, TakesHostRoom, TakesRoom};
+ghost use Rattle.hsp_price_dispatch.specs.Laws.{AnswersByItsOwn, AnswersByTheGreatestPart, EndsInTheSame};
+ghost use Rattle.hsp_price_dispatch.specs.Laws.{GivesTheGreatestPart, GoesByItsEntries, GoesOverItsArcs};
+ghost use Rattle.hsp_price_dispatch.specs.Laws.{IsDivertedLeast, IsFullWithoutRoom, IsUnknownWithoutCost, LeastAreArcs};
+ghost use Rattle.hsp_price_dispatch.specs.Laws.{NeverExceeds, NeverExceedsTogether, RoomsAddUp, TakesHostRoom, TakesRoom};
 ghost use Rattle.hsp_price_dispatch.specs.Planned.{IsServedByPlan};
 
 /// Each query that goes to a server takes one of its room and of its host's. So no server and no host gets more than
@@ -29,9 +29,22 @@ pub fn goes_over_its_arcs()
 {}
 
 /// Of places none of which has more left than its share, the one that is found has the greatest part left of those that
-/// can give.
+/// can give. So a query that gets of an amount of a class gets of the one of which the greatest part is left, whatever
+/// its front was asked before.
 pub fn gives_the_greatest_part()
-    ensures { GivesTheGreatestPart }
+    ensures gives { GivesTheGreatestPart }
+    ensures answers { AnswersByTheGreatestPart }
+{}
+
+/// A query is diverted only where no least server has an amount left for it, or free room. It goes over a free arc that
+/// pays least of the free ones, and where none is free over an arc with room that pays least of those.
+pub fn diverted_least()
+    ensures { IsDivertedLeast }
+{}
+
+/// A query is answered by `Unknown` just where its region has no cost at any site.
+pub fn unknown_without_cost()
+    ensures { IsUnknownWithoutCost }
 {}
 
 /// A query is answered by `Full` only where the server of each of its arcs, or its host, has no room left.

@@ -11,6 +11,7 @@ mod fault;
 mod holding;
 pub mod laws;
 mod rooms;
+mod seen_arcs;
 mod starting;
 
 pub use answer::PriceAnswer;

@@ -145,19 +145,27 @@ fn rooms_of(
     Ok(Rooms { left, held })
 }
 
+/// An instance and costs, whose service a front serves.
+#[derive(Clone, Copy)]
+pub(crate) struct ServiceRef<'a> {
+    pub(crate) instance: &'a Instance,
+    pub(crate) costs: &'a Costs,
+}
+
 /// What a front holds at the beginning.
 pub(crate) fn begin<'a>(
     alloc: Global,
-    instance: &'a Instance,
-    costs: &'a Costs,
+    service: ServiceRef<'a>,
     plan: &'a PricedPlan,
     accepted: Accepted,
     front: Front,
 ) -> Result<Holding<'a>, AllocError>
     requires some { 0 < front.fronts }
-    requires accepted { IsAccepted (service_of costs.now instance.now) plan.now accepted }
-    ensures { IfOk result
-        (IsBegun (service_of costs.now instance.now) plan.now front.fronts front.number) }
+    requires accepted { IsAccepted (service_of service.costs.now service.instance.now) plan.now
+        accepted }
+    ensures { IfOk result (IsBegun
+        (service_of service.entry.costs.now service.entry.instance.now) plan.now front.fronts
+        front.number) }
 {
     let numbers = accepted.numbers;
     let cells = cells_of_classes(alloc, plan.classes(), front)?;
@@ -172,8 +180,8 @@ pub(crate) fn begin<'a>(
         front,
     )?;
     Ok(Holding {
-        instance,
-        costs,
+        instance: service.instance,
+        costs: service.costs,
         plan,
         server_hosts: numbers.server_hosts,
         cells,

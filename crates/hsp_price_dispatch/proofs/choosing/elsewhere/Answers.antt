@@ -11,14 +11,14 @@ use Rattle.hsp_price_dispatch.proofs.choosing.elsewhere.Goals as goal
 pub divert-requires-clause-within : goal.divert-requires-clause-within
 divert-requires-clause-within c =
     let own = c.args.holding.now in
-    rw (c.deref-2.ensures.value, c.deref.ensures.value, c.in_ok-fill_free.ensures)
+    rw (c.deref-2.ensures.value, c.deref.ensures.value, c.in_ok-fill_passing.ensures)
     (within_extras own c.args.index.now c.requires.index (filter (is_free own) c.args.arcs.now)
     (kept_within (length own.service.servers) (is_free own) c.args.arcs.now c.requires.within))
 
 pub divert-requires-2-clause-within : goal.divert-requires-2-clause-within
 divert-requires-2-clause-within c =
     let own = c.args.holding.now in
-    rw (c.deref-4.ensures.value, c.deref-3.ensures.value, c.in_ok-fill_roomy.ensures)
+    rw (c.deref-4.ensures.value, c.deref-3.ensures.value, c.in_ok-fill_passing-2.ensures)
     (within_extras own c.args.index.now c.requires.index (filter (has_room own) c.args.arcs.now)
     (kept_within (length own.service.servers) (has_room own) c.args.arcs.now c.requires.within))
 
@@ -29,7 +29,7 @@ returns-in-Some c =
     or_first c.in-Some.choice (diverted own (is_free own) c.args.arcs.now) (diverted own (has_room own) c.args.arcs.now)
     (sym c.in-Some.is ∙ c.in_ok-free.ensures
     ∙ ap₂ (λ extras arcs. at_first Diverted (least_arcs (pay_by extras) arcs)) c.deref-2.ensures.value
-    (c.deref.ensures.value ∙ c.in_ok-fill_free.ensures)
+    (c.deref.ensures.value ∙ c.in_ok-fill_passing.ensures)
     ∙ ap (at_first Diverted) (least_is own c.args.index.now c.requires.index list))
 
 pub returns : goal.returns
@@ -42,10 +42,10 @@ returns c =
     or_second (diverted own (is_free own) c.args.arcs.now) (diverted own (has_room own) c.args.arcs.now) by
     (sym c.in_default.is ∙ c.in_ok-free.ensures
     ∙ ap₂ (λ extras arcs. at_first Diverted (least_arcs (pay_by extras) arcs)) c.deref-2.ensures.value
-    (c.deref.ensures.value ∙ c.in_ok-fill_free.ensures)
+    (c.deref.ensures.value ∙ c.in_ok-fill_passing.ensures)
     ∙ ap (at_first Diverted) (least_is own c.args.index.now c.requires.index list))
     (is
     ∙ ap₂ (λ extras arcs. at_first Diverted (least_arcs (pay_by extras) arcs)) c.deref-4.ensures.value
-    (c.deref-3.ensures.value ∙ c.in_ok-fill_roomy.ensures)
+    (c.deref-3.ensures.value ∙ c.in_ok-fill_passing-2.ensures)
     ∙ ap (at_first Diverted) (least_is own c.args.index.now c.requires.index roomy)))
     c.divert-2.ensures

@@ -11,7 +11,7 @@ use Rattle.hsp_price_dispatch.proofs.starting.begin.Goals as goal
 
 pub held_at_servers-requires : goal.held_at_servers-requires
 held_at_servers-requires c =
-    let at = service_of c.args.costs.now c.args.instance.now in
+    let at = service_of c.args.service.costs.now c.args.service.instance.now in
     let plan = c.args.plan.now in
     let fronts = c.args.front.fronts in
     let front = c.args.front.number in
@@ -27,7 +27,7 @@ held_at_servers-requires c =
 
 pub add_hosts-requires-clause-small : goal.add_hosts-requires-clause-small
 add_hosts-requires-clause-small c =
-    let at = service_of c.args.costs.now c.args.instance.now in
+    let at = service_of c.args.service.costs.now c.args.service.instance.now in
     let plan = c.args.plan.now in
     let fronts = c.args.front.fronts in
     let front = c.args.front.number in
@@ -49,7 +49,7 @@ add_hosts-requires-clause-small c =
 
 pub rooms_of-requires-clause-low : goal.rooms_of-requires-clause-low
 rooms_of-requires-clause-low c =
-    let at = service_of c.args.costs.now c.args.instance.now in
+    let at = service_of c.args.service.costs.now c.args.service.instance.now in
     let plan = c.args.plan.now in
     let fronts = c.args.front.fronts in
     let front = c.args.front.number in
@@ -73,7 +73,7 @@ rooms_of-requires-clause-low c =
 
 pub rooms_of-requires-2-clause-within : goal.rooms_of-requires-2-clause-within
 rooms_of-requires-2-clause-within c =
-    let at = service_of c.args.costs.now c.args.instance.now in
+    let at = service_of c.args.service.costs.now c.args.service.instance.now in
     let plan = c.args.plan.now in
     let fronts = c.args.front.fronts in
     let front = c.args.front.number in
@@ -90,7 +90,7 @@ rooms_of-requires-2-clause-within c =
 
 pub rooms_of-requires-2-clause-low : goal.rooms_of-requires-2-clause-low
 rooms_of-requires-2-clause-low c =
-    let at = service_of c.args.costs.now c.args.instance.now in
+    let at = service_of c.args.service.costs.now c.args.service.instance.now in
     let plan = c.args.plan.now in
     let fronts = c.args.front.fronts in
     let front = c.args.front.number in
@@ -121,7 +121,7 @@ rooms_of-requires-2-clause-low c =
 
 pub invariant_of-result : goal.invariant_of-result
 invariant_of-result c =
-    let at = service_of c.args.costs.now c.args.instance.now in
+    let at = service_of c.args.service.costs.now c.args.service.instance.now in
     let plan = c.args.plan.now in
     let fronts = c.args.front.fronts in
     let front = c.args.front.number in
@@ -155,7 +155,7 @@ invariant_of-result c =
 
 pub returns : goal.returns
 returns c =
-    let at = service_of c.args.costs.now c.args.instance.now in
+    let at = service_of c.args.service.costs.now c.args.service.instance.now in
     let plan = c.args.plan.now in
     let fronts = c.args.front.fronts in
     let front = c.args.front.number in

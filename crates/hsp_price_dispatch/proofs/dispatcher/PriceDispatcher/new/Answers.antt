@@ -52,6 +52,7 @@ invariant_of-result c =
           is.within is.fits.shape.0 (rw is.numbers.server_hosts at c.in_ok-index.ensures.extras)
           c.in_ok-index.ensures.classes c.in_ok-index.ensures.firsts_many c.in_ok-index.ensures.firsts,
       rw begun.service of_service,
+      rw c.new-2.ensures tt,
     )
 
 pub returns-clause-fits : goal.returns-clause-fits
