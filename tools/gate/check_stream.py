@@ -40,6 +40,7 @@ sys.path.insert(0, str(Path(__file__).resolve().parents[1]))
 
 from lib import examples, failing, preload, programs
 from lib import oracle, price_answers, prices
+from lib.price_verdicts import Bounds
 
 
 FILES = "--settings settings.toml --costs costs.csv"
@@ -242,12 +243,13 @@ def check_price_answers(it: Programs, draw: random.Random) -> list[str]:
         it.put("capacity.csv", oracle.csv_of("site,server_id,capacity", rows))
         text = prices.of_plan(service, table, it.plan())
         it.put("plan.prices", text)
+        plan = price_answers.read_plan(service, Bounds(capacities, list(limits)), text)
         asked = [row[:2] for row in table for _ in range(3 * row[2])] + [("mars", "10/1"), ("eu", "10.3/new")]
         draw.shuffle(asked)
         given: list[str] = []
         for front in range(fronts):
             words = f"{ANSWER_BY_PRICES} --fronts {fronts} --front {front}"
-            own = price_answers.Front(service, text, capacities, limits, fronts, front)
+            own = price_answers.Front(plan, fronts, front)
             log = [row for row in asked[front::fronts] if "\r" not in row[1]]
             wanted = [own.answer(*row) for row in log]
             printed = "".join(f"{line}\n" for line in wanted).encode()

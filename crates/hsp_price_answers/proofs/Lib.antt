@@ -1,0 +1,5 @@
+mod Lines
+mod PriceTurns
+mod FrontWords
+mod Rooms
+mod PricesShown
