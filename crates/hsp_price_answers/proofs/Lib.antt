@@ -3,3 +3,4 @@ mod PriceTurns
 mod FrontWords
 mod Rooms
 mod PricesShown
+mod Always

@@ -1,5 +1,5 @@
 -- What a run that answers by prices shows of a certificate.
-use Rattle.std.specs.Prelude.{◌≡◌, ◌<◌, ◌≤◌, ◌⊎◌, ℕ, List, length, option_map}
+use Rattle.std.specs.Prelude.{◌≡◌, ◌<◌, ◌≤◌, ◌⊎◌, ℕ, IfErr, List, Result, length, option_map}
 use Rattle.std.specs.List.{Contains}
 use Rattle.hsp_text.specs.declared.limits.TheConstants.{MOST_FRONTS}
 use Rattle.hsp_tables.specs.Costs.{CostEntry}
@@ -20,13 +20,15 @@ use Rattle.hsp_price_dispatch.specs.declared.answer.PriceAnswer.TheVariants.{Ass
 use Rattle.hsp_headline.specs.Headline.{AreCosts, Defines}
 use Rattle.hsp_headline.specs.declared.inputs.Inputs.{Inputs}
 use Rattle.hsp_price_check.specs.Classes.{service_of}
-use Rattle.hsp_stream.specs.AnswersShown.{IsRefused, SpellsOr}
+use Rattle.hsp_stream.specs.AnswersShown.{IsOfTalk, IsRefused, SpellsOr}
 use Rattle.hsp_stream.specs.AnswerTalk.{EndsBy}
 use Rattle.hsp_stream.specs.Asking.{Asked, queries_in}
+use Rattle.hsp_stream.specs.declared.fault.StreamFault.{StreamFault}
 use Rattle.hsp_talk.specs.Known.{Went}
 use Rattle.hsp_price_answers.specs.PriceAnswerRun.{PriceRun}
 use Rattle.hsp_price_answers.specs.PriceAnswers.{ByPrices}
 use Rattle.hsp_price_answers.specs.declared.front_words.FrontChoice.{FrontChoice}
+use Rattle.hsp_price_answers.specs.declared.sums.PriceSums.{PriceSums}
 
 -- The words spell a front: one of one, and its number 0, where they don't spell others.
 pub record SpellsFront (words : FrontChoice) (front : Front) : Type 0 where
@@ -68,3 +70,19 @@ ShowsPricesBy front inputs octets run =
 abbrev pub ShowsPrices : FrontChoice → Inputs → List ℕ → PriceRun → Type 0
 ShowsPrices words inputs octets run =
     IsRefused run ⊎ ((front : Front) × SpellsFront words front × ShowsPricesBy front inputs octets run)
+
+-- ---- what the run always answers
+
+-- Where the inputs define an instance, and the octets are the text of a plan by prices that fits its service, memory
+-- runs out, a read or a write fails, or the log has no header; there are no other faults.
+abbrev pub AnswersAlways : Inputs → List ℕ → Result PriceSums StreamFault → Type 0
+AnswersAlways inputs octets answer =
+    (it : Instance) (plan : Best) → Defines inputs it → IsCertificate (certificate.Plan plan)
+    → octets ≡ text_of (certificate.Plan plan)
+    → ((costs : List CostEntry) → AreCosts it.sites inputs.costs.items costs → Fits (service_of costs it) plan)
+    → IfErr answer IsOfTalk
+
+-- the same where moreover words spell a front
+abbrev pub AnswersAlwaysAt : FrontChoice → Inputs → List ℕ → Result PriceSums StreamFault → Type 0
+AnswersAlwaysAt words inputs octets answer =
+    (front : Front) → SpellsFront words front → AnswersAlways inputs octets answer

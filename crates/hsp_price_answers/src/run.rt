@@ -7,7 +7,8 @@ ghost use Rattle.hsp_stream.specs.TalkFaults.{IsBeforeLog, IsFailedWrite, MaySto
 ghost use Rattle.hsp_talk.specs.Known.{IsHandedOn};
 ghost use Rattle.hsp_price_answers.specs.PriceAnswerRun.{AnswersClaim, AnswersFront, AnswersPlan, AnswersText};
 ghost use Rattle.hsp_price_answers.specs.PriceAnswerRun.{IsPriceAnswered, fault_of_start};
-ghost use Rattle.hsp_price_answers.specs.PricesShown.{ShowsPrices, ShowsPricesBy};
+ghost use Rattle.hsp_price_answers.specs.PricesShown.{AnswersAlways, AnswersAlwaysAt, ShowsPrices};
+ghost use Rattle.hsp_price_answers.specs.PricesShown.{ShowsPricesBy};
 
 use crate::dispatcher::PriceAnswers;
 use crate::front_words::{FrontChoice, front_spelled};
@@ -131,6 +132,7 @@ fn answer_inputs<P: Peer>(
         (run_of (P.known peer.old) (P.known peer.new) result) (Ok front) }
     ensures shows { ShowsPricesBy front inputs.now prices.now
         (run_of (P.known peer.old) (P.known peer.new) result) }
+    ensures always { AnswersAlways inputs.now prices.now result }
     ensures untouched { IfErr result (λ e. IsBeforeLog e → peer.new ≡ peer.old) }
     ensures handed { IsHandedOn (P.known peer.old) (P.known peer.new) ⊎ IsFailedWrite result }
     ensures may_stop { IfErr result (MayStopBy (P.may_read_fail peer.old) P.may_send_fail
@@ -179,6 +181,8 @@ pub fn price_answer_run<P: Peer>(
     // server gets more than it takes, and no host.
     ensures shows { ShowsPrices front.now inputs.now prices.now
         (run_of (P.known peer.old) (P.known peer.new) result) }
+    // By every plan that fits the log is answered, up to a fault of its own at most, unless memory runs out.
+    ensures always { AnswersAlwaysAt front.now inputs.now prices.now result }
     // Where the fault comes before the log, the peer is as it was, also one of which nothing is known.
     ensures untouched { IfErr result (λ e. IsBeforeLog e → peer.new ≡ peer.old) }
     // No octet of an answer waits in a buffer of the peer, unless a write failed.
