@@ -7,6 +7,7 @@ use Rattle.hsp_kinds.specs.Rows.{Service}
 use Rattle.hsp_price_text.specs.Certificate.{IsCertificate}
 use Rattle.hsp_price_text.specs.Claim.{Best}
 use Rattle.hsp_price_text.specs.Drafts.{reader}
+use Rattle.hsp_price_text.specs.Language.{Agrees}
 use Rattle.hsp_price_text.specs.Reading.{Means}
 use Rattle.hsp_price_text.specs.Text.{prices, text_of}
 use Rattle.hsp_price_text.specs.declared.certificate.PriceCertificate.{PriceCertificate}
@@ -61,16 +62,20 @@ module _ (front : Front) (it : Instance) (at : Service) (octets : List ℕ) (run
   -- they have no fault
   no_fault : (e : CertFault) → e ≢ cert_fault.OutOfMemory → Means octets (Err e) → ⊥
   no_fault cert_fault.OutOfMemory other meant = other refl
-  no_fault (cert_fault.BadLine n) other meant = cc (one_answer prices reader takes octets _ _ means meant)
-  no_fault cert_fault.Ended other meant = cc (one_answer prices reader takes octets _ _ means meant)
-  no_fault (cert_fault.AfterEnd n) other meant = cc (one_answer prices reader takes octets _ _ means meant)
+  no_fault (cert_fault.BadLine n) other meant =
+      cc (one_answer prices reader takes octets (Ok (Plan plan)) (Err (cert_fault.BadLine n)) means meant)
+  no_fault cert_fault.Ended other meant =
+      cc (one_answer prices reader takes octets (Ok (Plan plan)) (Err cert_fault.Ended) means meant)
+  no_fault (cert_fault.AfterEnd n) other meant =
+      cc (one_answer prices reader takes octets (Ok (Plan plan)) (Err (cert_fault.AfterEnd n)) means meant)
 
   -- so it ends by the octets
   pub text_always : AnswersText front it at octets run → IfErr run.answer IsOfTalk
   text_always (inl none) = memory_always run none
   text_always (inr (Ok certificate, read, answered)) =
       let both : ◌≡◌ {A = Result PriceCertificate CertFault} (Ok certificate) (Ok (Plan plan)) =
-      one_answer prices reader takes octets _ _ (certificate_means octets certificate read) means in
+      one_answer prices reader takes octets (Ok certificate) (Ok (Plan plan)) (certificate_means octets certificate read)
+      means in
       claim_always certificate (cc both) answered
   text_always (inr (Err fault, (Ok certificate, meant, memory, e), none)) = absurd (cc e)
   text_always (inr (Err fault, (Err bad, meant, memory, e), none)) =

@@ -1,5 +1,6 @@
 -- Rows whose queries are answered by prices, each by what the ones before it left.
-use Rattle.std.proofs.Common.{◌≡◌, ◌+◌, ◌∙◌, ℕ, List, [], ◌∷◌, Option, ap, arith, count_by, map, refl}
+use Rattle.std.proofs.Common.{◌≡◌, ◌+◌, ◌∙◌, Bool, ℕ, List, [], ◌∷◌, Option, ap, arith, cond, count_by, map, refl}
+use Rattle.std.proofs.lemmas.List.Sums.{sum_by-cons}
 use Rattle.hsp_instance.specs.Instance.{Instance}
 use Rattle.hsp_dispatch.specs.Dispatch.{Entry}
 use Rattle.hsp_dispatch.specs.Lines.{lines_of}
@@ -29,13 +30,37 @@ with_answers sums all = record {
   refused = sums.refused;
 }
 
+-- an answer before others counts where it is of the kind
+counted_one : (kind : PriceAnswer → Bool) (answer : PriceAnswer) (more : List PriceAnswer)
+    → count_by kind (answer ∷ more) ≡ cond (kind answer) 1 0 + count_by kind more
+counted_one kind answer more = sum_by-cons (λ (a : PriceAnswer). cond (kind a) 1 0) answer more
+
+-- sums with an answer before others
+counted_all : (sums : PriceSums) (answer : PriceAnswer) (more : List PriceAnswer)
+    → with_answers sums (answer ∷ more)
+    ≡ record {
+      assigned = capped (sums.assigned + (cond (is_assigned answer) 1 0 + count_by is_assigned more));
+      diverted = capped (sums.diverted + (cond (is_diverted answer) 1 0 + count_by is_diverted more));
+      full = capped (sums.full + (cond (is_full answer) 1 0 + count_by is_full more));
+      unknown = capped (sums.unknown + (cond (is_unknown answer) 1 0 + count_by is_unknown more));
+      refused = sums.refused;
+    }
+counted_all sums answer more =
+    rw (
+      counted_one is_assigned answer more,
+      counted_one is_diverted answer more,
+      counted_one is_full answer more,
+      counted_one is_unknown answer more,
+    )
+    refl
+
 -- counting an answer before others
 counted_first : (sums : PriceSums) (answer : PriceAnswer) (more : List PriceAnswer)
     → with_answers (with_answer sums answer) more ≡ with_answers sums (answer ∷ more)
-counted_first sums (Assigned arc) more = grind arith
-counted_first sums (Diverted arc) more = grind arith
-counted_first sums Full more = grind arith
-counted_first sums Unknown more = grind arith
+counted_first sums (Assigned arc) more = rw (counted_all sums (Assigned arc) more) (grind arith)
+counted_first sums (Diverted arc) more = rw (counted_all sums (Diverted arc) more) (grind arith)
+counted_first sums Full more = rw (counted_all sums Full more) (grind arith)
+counted_first sums Unknown more = rw (counted_all sums Unknown more) (grind arith)
 
 -- sums that are kept, with one answer more are kept too
 kept_more : (sums : PriceSums) (answer : PriceAnswer) → sums ≡ with_answers sums []
@@ -68,6 +93,16 @@ lines_are : (it : Instance) (answers : List PriceAnswer)
 lines_are it [] = refl
 lines_are it (answer ∷ more) = rw (line_is it answer, lines_are it more) refl
 
+-- the sums of all answers, from none on
+sums_first : (all : List PriceAnswer) (refused : ℕ)
+    → with_refused (with_answers no_sums all) refused ≡ sums_of all refused
+sums_first all refused =
+    let assigned : 0 + count_by is_assigned all ≡ count_by is_assigned all = omega arith in
+    let diverted : 0 + count_by is_diverted all ≡ count_by is_diverted all = omega arith in
+    let full : 0 + count_by is_full all ≡ count_by is_full all = omega arith in
+    let unknown : 0 + count_by is_unknown all ≡ count_by is_unknown all = omega arith in
+    rw (assigned, diverted, full, unknown) refl
+
 -- rows whose queries are answered in turn are answered by what the front began with
 pub turn_is_prices : (it : Instance) (own : Held) (form : Option Form) (sums : PriceSums) (rows lines : List (List ℕ))
     → InTurn TakesByPrices price_sums (record { own = own; lines = lines_of it; sums = no_sums }) form sums rows lines
@@ -81,6 +116,6 @@ turn_is_prices it own form sums rows lines (last, refused, turn, counted) =
       asks = turn.asks;
       lines_are = turn.lines_are ∙ ap (lines_in turn.asked) (all.0 ∙ lines_are it answers);
       sums_are =
-          counted ∙ ap (λ (held : PriceSums). with_refused held refused) all.1
+          counted ∙ ap (λ (held : PriceSums). with_refused held refused) all.1 ∙ sums_first answers refused
           ∙ ap (sums_of answers) turn.refused_are;
     }

@@ -71,7 +71,7 @@ impl<'a> PriceAnswers<'a> {
         instance: &Instance,
         dispatcher: PriceDispatcher<'a>,
     ) -> Result<PriceAnswers<'a>, AllocError>
-        requires { dispatcher.entry.service.servers ≡ instance.now.servers }
+        requires { dispatcher.service.servers ≡ instance.now.servers }
         ensures { IfOk result (λ answers. answers ≡ record {
           own = dispatcher.entry;
           lines = lines_of instance.now;
