@@ -27,7 +27,7 @@ _hsp_options() {
         "doctor -- report") echo "--settings --demand --costs --capacity --plan --kind --values" ;;
         "doctor -- kinds") echo "--settings --costs --log --values --unit --help" ;;
         "doctor -- places") echo "--settings --log --values --help" ;;
-        "doctor -- answer") echo "--settings --demand --costs --capacity --plan --log --values --unit --fronts --front --help" ;;
+        "doctor -- answer") echo "--settings --costs --capacity --log --values --demand --plan --prices --unit --fronts --front --help" ;;
         "doctor -- faults") echo "--demand --costs --capacity --log --help" ;;
     esac
 }
@@ -36,7 +36,7 @@ _hsp_options() {
 _hsp_values() {
     case $1 in
         "sites --capacity") echo - ;;
-        *" --regions" | *" --output" | *" -o" | *" --log" | *" --settings" | *" --values" | *" --costs" | *" --demand" | *" --capacity" | *" --tls-ca" | *" --tls-cert" | *" --tls-key" | *" --plan" | *" --chart") echo -f ;;
+        *" --regions" | *" --output" | *" -o" | *" --log" | *" --settings" | *" --values" | *" --costs" | *" --demand" | *" --capacity" | *" --tls-ca" | *" --tls-cert" | *" --tls-key" | *" --plan" | *" --chart" | *" --prices") echo -f ;;
         *" --into" | *" --before") echo -d ;;
         *" --format") echo "-W auto server proxy json csv" ;;
         *" --regex" | *" --client" | *" --handle" | *" --path" | *" --from" | *" --to" | *" --time" | *" --prefix" | *" --elsewhere" | *" --by" | *" --unit" | *" --keep" | *" --workers" | *" --scheduler" | *" --patience" | *" --fronts" | *" --name" | *" --title" | *" --server" | *" --points" | *" --step" | *" --servers" | *" --index" | *" --front") echo - ;;

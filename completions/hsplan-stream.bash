@@ -10,7 +10,7 @@ _hsplan_stream_options() {
     case $1 in
         "kinds") echo "--settings --costs --log --values --unit --help" ;;
         "places") echo "--settings --log --values --help" ;;
-        "answer") echo "--settings --demand --costs --capacity --plan --log --values --unit --fronts --front --help" ;;
+        "answer") echo "--settings --costs --capacity --log --values --demand --plan --prices --unit --fronts --front --help" ;;
         "check") echo "--settings --costs --capacity --log --prices --values --help" ;;
         "report") echo "--settings --costs --capacity --log --prices --kind --values --help" ;;
         "faults") echo "--demand --costs --capacity --log --help" ;;
@@ -20,7 +20,7 @@ _hsplan_stream_options() {
 # What stands behind an option of a command: words, files (-f), folders (-d), or what isn't known (-).
 _hsplan_stream_values() {
     case $1 in
-        *" --settings" | *" --costs" | *" --log" | *" --values" | *" --demand" | *" --capacity" | *" --plan" | *" --prices") echo -f ;;
+        *" --settings" | *" --costs" | *" --log" | *" --values" | *" --capacity" | *" --demand" | *" --plan" | *" --prices") echo -f ;;
         *" --unit" | *" --fronts" | *" --front") echo - ;;
         *" --kind") echo "-W load region" ;;
     esac

@@ -11,8 +11,9 @@ words and files in memory.
 Of every answer holds: two runs agree; the line on standard error is one of the program's own, and the status suits
 it; the program gives back all its memory; time and memory are within a bound that is linear in the octets of the
 input. The rest stands with each judge: of hsplan in tools/fuzz/judges.py, of hsplan-stream in stream_judges.py beside
-it, where the answers to written logs are those of tools/lib/oracle.py, and in price_judges.py, where the verdicts on
-certificates by prices are those of tools/lib/price_verdicts.py. The gate doesn't run this script.
+it, where the answers to written logs are those of tools/lib/oracle.py, in price_judges.py, where the verdicts on
+certificates by prices are those of tools/lib/price_verdicts.py, and in price_answer_judges.py, where the answers by
+them are those of tools/lib/price_answers.py. The gate doesn't run this script.
 """
 from __future__ import annotations
 
@@ -37,10 +38,11 @@ PROGRAMS = {"hsplan": "--program", "hsplan-stream": "--stream"}
 def kinds() -> dict[str, Any]:
     """All kinds of cases, by their names. Without Hypothesis none can be named."""
     import judges
+    import price_answer_judges
     import price_judges
     import stream_judges
 
-    return {**judges.KINDS, **stream_judges.KINDS, **price_judges.KINDS}
+    return {**judges.KINDS, **stream_judges.KINDS, **price_judges.KINDS, **price_answer_judges.KINDS}
 
 
 def judged(name: str, asked: argparse.Namespace, preloaded: str) -> tuple[int, str]:

@@ -1,4 +1,5 @@
-"""Judges the verdicts of `hsplan-stream check` on certificates by prices. Each is that of tools/lib/price_verdicts.py.
+"""Judges the verdicts of `hsplan-stream check` on certificates by prices, and the reports by them. Each verdict is that
+of tools/lib/price_verdicts.py, and each report that of tools/lib/price_reports.py.
 
 A certificate is of what `hsplan plan` prints of a table, or of prices or servers that are drawn. Then it is judged
 again with something changed: its text, the rows, a bound or the service."""
@@ -31,12 +32,14 @@ from draws import (
 from hypothesis import strategies as st
 from runner import Answer, Kind, Runner, answered, same
 
-from lib import cases, oracle, price_verdicts, prices
+from lib import cases, oracle, price_reports, price_verdicts, prices
 from lib.oracle import Row, Service, csv_of
 from lib.price_verdicts import Bounds
 
 NAME = "hsplan-stream"
-WORDS = "check --settings settings.toml --costs costs.csv --capacity capacity.csv --log log.csv --prices plan.prices"
+INPUTS = "--settings settings.toml --costs costs.csv --capacity capacity.csv --log log.csv --prices plan.prices"
+WORDS = f"check {INPUTS}"
+REPORTS = {kind: f"report {INPUTS} --kind {kind}" for kind in price_reports.KINDS}
 PAIRS = st.lists(st.tuples(REGION, ANY_HANDLE), min_size=1, max_size=40, unique=True)
 MOST, PRICE, SLACK = pick([1, 3, 20, 1000]), pick([0, 0, 1, 2, 5]), pick([0, 0, 0, 1, 5, 100])
 MORE = pick([1, 1, 1, 2, 30])
@@ -79,6 +82,26 @@ def wanted_of(case: Case, text: bytes) -> cases.Ended:
     return f"{said}\n".encode(), b"", 0 if said == "yes" else 3
 
 
+def reported_of(case: Case, text: bytes, kind: str) -> cases.Ended:
+    """What has to be reported by a certificate: by one that is refused what its check prints, and by a valid one of a
+    shortage nothing."""
+    checked, claim = wanted_of(case, text), price_verdicts.read(text)
+    if isinstance(claim, str) or checked[2]:
+        return checked
+    if claim.kind == b"SHORT":
+        return b"", f"{NAME}: WrongKind\n".encode(), 3
+    return price_reports.text_of(kind, case.service, case.bounds, case.rows, claim), b"", 0
+
+
+def judge_reports(program: Runner, case: Case, text: bytes, where: Where) -> None:
+    """Judges the reports by a certificate. The log in pieces has the same ones."""
+    files = {**case.files(), "plan.prices": text}
+    for kind, words in REPORTS.items():
+        answer, wanted = answered(program, case.words(words), files), reported_of(case, text, kind)
+        assert answer.said == wanted, f"report of {kind}: {answer.said}, wanted {wanted} of {text!r}"
+        same(f"report of {kind} in pieces", answer, answered(program, case.words(words), files, piece=where.piece))
+
+
 def judge(program: Runner, case: Case, text: bytes, where: Where) -> Answer:
     """Judges the answer to a certificate. The log in pieces, and its rows in another order, have the same one."""
     files = {**case.files(), "plan.prices": text}
@@ -88,6 +111,7 @@ def judge(program: Runner, case: Case, text: bytes, where: Where) -> Answer:
     ordered = case._replace(rows=where.ordered(case.rows), form=case.form._replace(blank=0))
     log = {**files, "log.csv": ordered.files()["log.csv"]}
     same("in another order", answer, answered(program, case.words(WORDS), log))
+    judge_reports(program, case, text, where)
     return answer
 
 
@@ -117,9 +141,9 @@ def judge_changed(program: Runner, drawn: tuple[Case, bytes], where: Where) -> N
 
 
 @st.composite
-def tables(draw: Draw, service: Service) -> list[Row]:
+def tables(draw: Draw, service: Service, most_of: st.SearchStrategy[int] = MOST) -> list[Row]:
     """Rows, of which nearly all that ask for something have a site."""
-    most, pairs = draw(MOST), draw(PAIRS)
+    most, pairs = draw(most_of), draw(PAIRS)
     has_sites = {region: bool(service.sites_of(region)) or draw(TEN) == 0 for region in REGIONS}
     return [(region, handle, at_random(draw, most) * has_sites[region]) for region, handle in pairs]
 
@@ -135,10 +159,12 @@ def loads_of(draw: Draw, service: Service, rows: Sequence[Row]) -> list[int]:
     return loads
 
 
-def bounds_of(draw: Draw, service: Service, loads: Sequence[int], is_short: bool = False) -> Bounds:
+def bounds_of(
+    draw: Draw, service: Service, loads: Sequence[int], is_short: bool = False, slack: st.SearchStrategy[int] = SLACK
+) -> Bounds:
     """Bounds with some room beside the loads, or with less than them."""
     taken = [*loads, *price_verdicts.on_hosts(service, loads)]
-    room = [load // 2 if is_short and draw(OFTEN) else load + draw(SLACK) for load in taken]
+    room = [load // 2 if is_short and draw(OFTEN) else load + draw(slack) for load in taken]
     return Bounds(room[: len(loads)], room[len(loads) :])
 
 
@@ -152,17 +178,19 @@ def planned(draw: Draw) -> tuple[Case, st.DataObject]:
 
 
 @st.composite
-def priced(draw: Draw) -> tuple[Case, bytes, st.DataObject]:
+def priced(
+    draw: Draw, most_of: st.SearchStrategy[int] = MOST, slack: st.SearchStrategy[int] = SLACK
+) -> tuple[Case, bytes, st.DataObject]:
     """A certificate of drawn prices that rows go by. Servers with a price are mostly full."""
     service = draw(services())
-    rows, servers = draw(tables(service)), [draw(PRICE) for _ in prices.hosts_of(service)]
+    rows, servers = draw(tables(service, most_of)), [draw(PRICE) for _ in prices.hosts_of(service)]
     hosts = [draw(PRICE) for _ in range(service.hosts)]
     sent = dealt(draw, service, rows, prices.extras(service, servers, hosts))
     claim = price_verdicts.read(prices.text_of(0, servers, hosts, sent))
     assert isinstance(claim, price_verdicts.Claim), claim
     found = price_verdicts.brought(service, rows, claim)
     cost = found.cost + price_verdicts.of_classes(service, claim, found.loads)
-    bounds = bounds_of(draw, service, found.loads)
+    bounds = bounds_of(draw, service, found.loads, slack=slack)
     if draw(OFTEN):
         full = [*found.loads, *price_verdicts.on_hosts(service, found.loads)]
         given = zip(full, [*bounds.capacities, *bounds.limits], servers + hosts)

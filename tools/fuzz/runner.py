@@ -35,7 +35,9 @@ OWN = {
     "hsplan-stream": """
 1 BadUnit|BadFront|log: (BadName|BadNumber|TooManyRegions|TooManyKinds) row #
 1 log: (CountTooLarge row # unit #|BadHandle row # @)
+3 check: NoSuchServer
 0 assigned # spent # unknown # refused #
+0 assigned # diverted # full # unknown # refused #
 """,
 }
 HANDLE = "(TooLong|NotUtf8|NoSlash|EmptySegment)"

@@ -47,6 +47,7 @@ CASES: list[tuple[str, list[str]]] = [
     ("hsplan-stream faults --pl", []),
     ("hsplan-stream kinds --cap", []),
     ("hsplan-stream check --pr", ["--prices"]),
+    ("hsplan-stream answer --pr", ["--prices"]),
     ("hsplan-stream check --pl", []),
     ("hsplan-stream report --ki", ["--kind"]),
     ("hsplan-stream report --kind ", ["load", "region"]),

@@ -8,6 +8,7 @@ tools/gate/check_program.py runs them. Here are tried:
 
 - the options that the help names;
 - random logs: the table of kinds with and without units, places, and answers by a plan, by each front and in units;
+- answers to random logs by certificates by prices, by each front, also to logs that ask for more than there is room;
 - certificates by prices of random logs, made of plans and shortages of their kinds, and with a number changed; their
   reports, which are those of `hsplan report` of the table of the kinds;
 - a log in parts, whose tables are joined;
@@ -38,7 +39,8 @@ from pathlib import Path
 sys.path.insert(0, str(Path(__file__).resolve().parents[1]))
 
 from lib import examples, failing, preload, programs
-from lib import oracle, prices
+from lib import oracle, price_answers, prices
+from lib.price_verdicts import Bounds
 
 
 FILES = "--settings settings.toml --costs costs.csv"
@@ -46,6 +48,7 @@ INPUTS = oracle.INPUTS
 ANSWER = f"answer {INPUTS} --plan plan.txt --log /dev/stdin"
 BY_PRICES = f"{FILES} --capacity capacity.csv --log /dev/stdin --prices plan.prices"
 CHECK = f"check {BY_PRICES}"
+ANSWER_BY_PRICES = f"answer {BY_PRICES}"
 KINDS_OF_REPORTS = ("load", "region")
 REPORTS = [f"report {BY_PRICES} --kind {kind}" for kind in KINDS_OF_REPORTS]
 LIMIT_KB = 64 * 1024
@@ -120,24 +123,26 @@ def check_help(it: Programs) -> list[str]:
     return found
 
 
-def options_in_help(text: str) -> dict[str, list[str]]:
-    """The options of each command, in their order, in the lines of the help that begin with the program's name, and
-    in the lines below these that don't explain."""
-    found: dict[str, list[str]] = {}
+def options_in_help(text: str) -> dict[str, list[list[str]]]:
+    """The options of each form of each command, in their order, in the lines of the help that begin with the program's
+    name, and in the lines below these that don't explain."""
+    found: dict[str, list[list[str]]] = {}
     for part in text.split("\n\n")[1:]:
         usage = re.split(r"^    [a-z]", part, maxsplit=1, flags=re.M)[0]
         if usage.startswith("hsplan-stream ") and usage.split()[1] in COMMANDS:
-            found[usage.split()[1]] = re.findall(r"--([a-z]+)", usage)
+            found.setdefault(usage.split()[1], []).append(re.findall(r"--([a-z]+)", usage))
     return found
 
 
-def options_in_manual() -> dict[str, list[str]]:
+def options_in_manual() -> dict[str, list[list[str]]]:
     """The same in the synopsis of the manual page."""
     page = programs.text_of("docs", "use", "hsplan-stream.1").replace("\\-", "-")
     synopsis, inputs = page.split(".SH SYNOPSIS\n")[1].split(".SH DESCRIPTION\n")[0].split(".I inputs\nare\n")
-    parts = (it.replace(".I inputs\n", inputs) for it in synopsis.split(".SY hsplan-stream\n.B ")[1:])
-    named = {part.split()[0]: re.findall(r"--([a-z]+)", part) for part in parts}
-    return {command: named[command] for command in COMMANDS}
+    parts = [it.replace(".I inputs\n", inputs) for it in synopsis.split(".SY hsplan-stream\n.B ")[1:]]
+    return {
+        command: [re.findall(r"--([a-z]+)", part) for part in parts if part.split()[0] == command]
+        for command in COMMANDS
+    }
 
 
 # ---- random logs
@@ -221,6 +226,50 @@ def check_prices(it: Programs, draw: random.Random) -> list[str]:
                 found += check_reports(it, capacity, log, reports)
                 seen.add(wanted)
     return found + fault("verdicts", len(seen), 5)
+
+
+def check_price_answers(it: Programs, draw: random.Random) -> list[str]:
+    """Answers by certificates by prices to logs of three times the plan, by each front. No server gets more of all
+    fronts together than its capacity, and no host more than its limit."""
+    found = []
+    for limits, fronts in (((), 1), ((), 3), ((110, 90), 1), ((110, 90), 2)):
+        service = oracle.THREE._replace(hosts=len(limits))
+        capacities = [draw.randrange(40, 80) for _ in range(9)]
+        table = service.table((*entry, draw.choice((0, 3, 8))) for entry in oracle.entries(draw, 60, 12))
+        servers = ((site.name, own) for site in service.sites for own in site.servers)
+        oracle.put_files(it.folder, service.files(table))
+        it.put("settings.toml", service.settings(limits))
+        rows = ((*server, capacity) for server, capacity in zip(servers, capacities))
+        it.put("capacity.csv", oracle.csv_of("site,server_id,capacity", rows))
+        text = prices.of_plan(service, table, it.plan())
+        it.put("plan.prices", text)
+        plan = price_answers.read_plan(service, Bounds(capacities, list(limits)), text)
+        asked = [row[:2] for row in table for _ in range(3 * row[2])] + [("mars", "10/1"), ("eu", "10.3/new")]
+        draw.shuffle(asked)
+        given: list[str] = []
+        for front in range(fronts):
+            words = f"{ANSWER_BY_PRICES} --fronts {fronts} --front {front}"
+            own = price_answers.Front(plan, fronts, front)
+            log = [row for row in asked[front::fronts] if "\r" not in row[1]]
+            wanted = [own.answer(*row) for row in log]
+            printed = "".join(f"{line}\n" for line in wanted).encode()
+            ended = (printed, price_answers.sums_of(wanted).encode(), 0)
+            found += fault(words, it.run(words, log_of("region,handle", log)), ended)
+            given += it.run(words, log_of("region,handle", log))[0].decode().splitlines()
+        found += above(service, capacities, limits, given)
+    return found
+
+
+def above(service: oracle.Service, capacities: list[int], limits: Iterable[int], answers: list[str]) -> list[str]:
+    """The servers and hosts to which answers send more than they take."""
+    sent = [answer.split()[1:3] for answer in answers if answer.startswith(("assigned ", "diverted "))]
+    servers = [[site.name, str(place)] for site in service.sites for place in range(len(site.servers))]
+    loads = [sent.count(server) for server in servers]
+    on = prices.hosts_of(service)
+    hosts = [sum(load for load, own in zip(loads, on) if own == host) for host in range(service.hosts)]
+    found = [f"{at} takes {load}" for at, load in enumerate(loads) if load > capacities[at]]
+    found += [f"host {at} takes {load}" for at, (load, most) in enumerate(zip(hosts, limits)) if load > most]
+    return found + fault("some rows were sent", bool(sent), True)
 
 
 def check_reports(it: Programs, capacity: int, log: bytes, wanted: Ended | None) -> list[str]:
@@ -355,6 +404,7 @@ FAILING = [
     ("places --settings settings.toml --log log.csv", b""),
     (f"{ANSWER.replace('/dev/stdin', 'log.csv')} --unit 2", b""),
     (CHECK.replace("/dev/stdin", "log.csv"), b""),
+    (ANSWER_BY_PRICES.replace("/dev/stdin", "log.csv"), b""),
     (REPORTS[0].replace("/dev/stdin", "demand.csv"), b""),
     (REPORTS[1].replace("/dev/stdin", "demand.csv"), b""),
     ("faults --demand log.csv", b""),
@@ -411,7 +461,7 @@ def check_all(it: Programs, million: int, room: str) -> list[str]:
     faults, tried = check_failing(it, room)
     found += faults + ([] if tried else ["failing calls: nothing was tried"])
     print(f"failing calls: {tried} runs")
-    found += check_answers(it, draw) + check_prices(it, draw)
+    found += check_answers(it, draw) + check_prices(it, draw) + check_price_answers(it, draw)
     return found + check_twelve(it) + check_million(it, million)
 
 

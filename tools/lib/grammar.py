@@ -23,7 +23,7 @@ LOGS = {
     "fronts": "hsp_dispatch/src/form.rt fn event_form_of",
     "kinds": "hsp_stream/src/kinds_log.rt fn form_of",
     "places": "hsp_stream/src/handle_rows.rt fn form_of",
-    "answer": "hsp_stream/src/answerer.rt fn form_of",
+    "answer": "hsp_stream/src/asking.rt fn form_of",
     "check": "hsp_stream/src/kinds_log.rt fn form_of",
     "report": "hsp_stream/src/kinds_log.rt fn form_of",
 }

@@ -16,35 +16,17 @@ from __future__ import annotations
 
 import argparse
 import os
-import random
 import subprocess
 import sys
 import tempfile
 from pathlib import Path
-from typing import NamedTuple
 
 sys.path.insert(0, str(Path(__file__).resolve().parents[1]))
 
-from lib import memory, oracle, preload, programs
+from lib import memory, preload, programs
+from lib.price_cases import Case, lines_of, make, peer_in
 
-MOST_CLASSES = 1_048_576
 CHECK = "check --settings settings.toml --costs costs.csv --capacity capacity.csv --log log.csv --prices"
-
-
-class Case(NamedTuple):
-    """A service that is drawn: so many sites with so many servers, from the fewest to the most a site, regions, the
-    greatest cost and price; and for each row that is asked for so many rows of its log."""
-
-    sites: int
-    servers: int
-    fewest: int
-    most: int
-    regions: int
-    cost: int
-    price: int
-    times: int = 1
-
-
 CASES = {
     "12-sites": Case(12, 59, 2, 8, 6, 10, 5),
     "12-sites-long": Case(12, 59, 2, 8, 6, 10, 5, 5),
@@ -52,30 +34,6 @@ CASES = {
     "64-regions": Case(32, 1024, 16, 47, 64, 40, 20),
     "most-classes": Case(32, 1024, 16, 47, 64, 8, 1, 3),
 }
-
-
-def service_of(case: Case, draw: random.Random) -> oracle.Service:
-    sizes = [case.fewest] * case.sites
-    while sum(sizes) < case.servers:
-        at = draw.randrange(case.sites)
-        sizes[at] += sizes[at] < case.most
-    names = [f"s{at}" for at in range(case.sites)]
-    sites = [oracle.Site(name, draw.randrange(3), tuple(range(1, size + 1))) for name, size in zip(names, sizes)]
-    regions = [f"region-{at}" for at in range(case.regions)]
-    costs = {(region, name): draw.randint(1, case.cost) for region in regions for name in names}
-    return oracle.Service(tuple(sites), costs)
-
-
-def make(folder: str, name: str, peer: str, rows: int) -> None:
-    """Makes the files of a case in a folder, where they aren't there yet."""
-    if os.path.exists(os.path.join(folder, "wrong.prices")):
-        return
-    case = CASES[name]
-    os.makedirs(folder, exist_ok=True)
-    files = service_of(case, random.Random(case.regions)).files()
-    oracle.put_files(folder, {it: files[it] for it in ("settings.toml", "costs.csv")})
-    words = [peer, "make", str(rows * case.times), str(MOST_CLASSES), str(case.price)]
-    subprocess.run(words, cwd=folder, check=True)
 
 
 def timed(words: list[str], folder: str) -> tuple[str, float]:
@@ -88,25 +46,28 @@ def timed(words: list[str], folder: str) -> tuple[str, float]:
     return said, used.ru_utime + used.ru_stime
 
 
-def least_seconds(runs: dict[str, list[str]], folder: str, turns: int) -> dict[str, float]:
-    """The least seconds of each run, by turns. Each says yes, and no to the wrong certificate."""
-    spent: dict[str, list[float]] = {name: [] for name in runs}
+def refuse_wrong(runs: dict[str, list[str]], folder: str) -> None:
+    """Ends the script where a run doesn't say no to the wrong certificate."""
     for name, words in runs.items():
         wrong, _ = timed([*words, "wrong.prices"], folder)
         if not wrong.startswith("no"):
             sys.exit(f"{name}: {wrong!r} to a wrong certificate in {folder}")
-    for _ in range(turns):
-        for name, words in runs.items():
-            right, seconds = timed([*words, "right.prices"], folder)
-            spent[name].append(seconds)
-            if right != "yes":
-                sys.exit(f"{name}: {right!r} to a right certificate in {folder}")
-    return {name: min(each) for name, each in spent.items()}
 
 
-def lines_of(folder: str, name: str) -> list[bytes]:
-    with open(os.path.join(folder, name), "rb") as file:
-        return file.readlines()
+def one_turn(runs: dict[str, list[str]], folder: str) -> dict[str, float]:
+    """The seconds of each run, which says yes."""
+    spent = {}
+    for name, words in runs.items():
+        right, spent[name] = timed([*words, "right.prices"], folder)
+        if right != "yes":
+            sys.exit(f"{name}: {right!r} to a right certificate in {folder}")
+    return spent
+
+
+def least_seconds(runs: dict[str, list[str]], folder: str, turns: int) -> dict[str, float]:
+    """The least seconds of each run, by turns."""
+    spent = [one_turn(runs, folder) for _ in range(turns)]
+    return {name: min(own[name] for own in spent) for name in runs}
 
 
 def measure(folder: str, runs: dict[str, list[str]], turns: int, preloaded: str) -> None:
@@ -116,6 +77,7 @@ def measure(folder: str, runs: dict[str, list[str]], turns: int, preloaded: str)
     classes = sum(line.startswith(b"class ") for line in certificate)
     name = os.path.basename(folder)
     print(f"{name}: {rows:,} rows, {classes:,} classes, a certificate of {sum(map(len, certificate)):,} octets")
+    refuse_wrong(runs, folder)
     least = least_seconds(runs, folder, turns)
     for run, words in runs.items():
         taken = memory.measured(words[0], " ".join([*words[1:], "right.prices"]), folder, preloaded)
@@ -124,15 +86,6 @@ def measure(folder: str, runs: dict[str, list[str]], turns: int, preloaded: str)
             f"{(taken.kilobytes or 0) / 1000:.1f} MB",
             flush=True,
         )
-
-
-def peer_in(folder: str) -> str:
-    """The peer, compiled."""
-    made = os.path.join(folder, "prices_peer")
-    source = os.path.join(programs.TOP, "tools", "measure", "prices_peer.cpp")
-    words = ["g++", "-O3", "-std=c++20", "-Wno-deprecated-declarations", "-o", made, source, "-lcrypto"]
-    subprocess.run(words, check=True)
-    return made
 
 
 def main() -> int:
@@ -154,7 +107,7 @@ def main() -> int:
         top, peer = os.path.abspath(given.folder or room), peer_in(room)
         preloaded = preload.built("report_memory", room)
         for name in chosen:
-            make(os.path.join(top, name), name, peer, given.rows)
+            make(os.path.join(top, name), CASES[name], peer, given.rows)
         runs = {"hsplan-stream": [program, *CHECK.split()], "peer": [peer, "check"]}
         for name in chosen:
             measure(os.path.join(top, name), runs, given.turns, preloaded)

@@ -1,13 +1,18 @@
-// The steps of `hsplan-stream check` in plain C++, by which its speed is measured, and the inputs of the measurement.
+// The steps of `hsplan-stream check` and of `hsplan-stream answer` by prices in plain C++, by which their speed is
+// measured, and the inputs of the measurement.
 //
 // No contract and no faults: settings, tables, certificate and log are taken to be written as they should be. A record
-// has no filter, attributes, keys and interfaces. `tools/measure/prices.py` compiles it. All files are in the folder
-// where it runs.
+// has no filter, attributes, keys and interfaces, and no host has a limit. `tools/lib/price_cases.py` compiles it. All
+// files are in the folder where it runs.
 //
-//   prices_peer make ROWS CLASSES PRICE    draws prices up to PRICE and a log of at most so many classes, and writes
-//                                          log.csv, capacity.csv, right.prices, and wrong.prices with another amount
-//   prices_peer check PRICES               prints whether the certificate holds for the log
-#include <openssl/md5.h>
+//   prices_peer make ROWS CLASSES PRICE COUNT HANDLES
+//       draws prices up to PRICE and a log of at most so many classes, with counts up to COUNT and so many handles;
+//       writes log.csv, capacity.csv, right.prices, and wrong.prices with another amount
+//   prices_peer check PRICES
+//       prints whether the certificate holds for the log
+//   prices_peer answer PRICES LOG FRONTS FRONT
+//       answers a log without counts as one of so many fronts
+#include "digest_word.hpp"
 
 #include <algorithm>
 #include <charconv>
@@ -26,7 +31,7 @@ using Text = std::string_view;
 using Sum = unsigned __int128;
 
 constexpr uint64_t kNone = UINT64_MAX;
-constexpr size_t kHead = 40, kServer = 56;
+constexpr size_t kHead = 40, kServer = 56, kSeen = 65536, kPiece = 1 << 16, kMostSites = 32;
 
 struct Hash {
     using is_transparent = void;
@@ -79,7 +84,7 @@ uint64_t number(Text digits, int base = 10) {
 template <typename F>
 void each_line(const char* path, F take) {
     FILE* file = fopen(path, "r");
-    std::vector<char> piece(1 << 16);
+    std::vector<char> piece(kPiece);
     std::string begun;
     while (size_t count = fread(piece.data(), 1, piece.size(), file)) {
         const char *at = piece.data(), *end = at + count;
@@ -149,16 +154,27 @@ void fill_pays() {
                 pays[region][server] = costs[region][site_of[server]] + prices[server];
 }
 
-uint32_t word_of(Text octets) {
-    unsigned char upper[4096], digest[16];
-    for (size_t at = 0; at < octets.size(); at++) {
-        unsigned char octet = octets[at];
-        upper[at] = octet >= 'a' && octet <= 'z' ? octet - 32 : octet;
+// The servers of a handle. Each hash is found once.
+class Places {
+  public:
+    explicit Places(Text handle) {
+        size_t slash = handle.find('/');
+        parts_[0] = handle.substr(0, slash);
+        parts_[1] = handle.substr(slash + 1);
+        parts_[2] = handle;
     }
-    MD5(upper, octets.size(), digest);
-    uint32_t word = uint32_t(digest[12]) << 24 | digest[13] << 16 | digest[14] << 8 | digest[15];
-    return word & 0x80000000u ? 0u - word : word;
-}
+
+    uint32_t server(const Site& site) {
+        if (!known_[site.option]) words_[site.option] = word_of(parts_[site.option]);
+        known_[site.option] = true;
+        return site.first + words_[site.option] % site.servers;
+    }
+
+  private:
+    Text parts_[3];
+    uint32_t words_[3];
+    bool known_[3] = {false, false, false};
+};
 
 // ---- what rows bring
 
@@ -183,16 +199,11 @@ struct Tally {
     }
 
     void find_least(uint32_t region, Text handle) {
-        size_t slash = handle.find('/');
-        Text parts[3] = {handle.substr(0, slash), handle.substr(slash + 1), handle};
-        uint32_t words[3];
-        bool known[3] = {false, false, false};
+        Places places(handle);
         uint64_t fewest = kNone;
         least.clear();
         for (const Site& site : sites) {
-            if (!known[site.option]) words[site.option] = word_of(parts[site.option]);
-            known[site.option] = true;
-            uint32_t server = site.first + words[site.option] % site.servers;
+            uint32_t server = places.server(site);
             uint64_t pay = pays[region][server];
             if (pay < fewest) least.clear();
             fewest = std::min(fewest, pay);
@@ -302,28 +313,208 @@ bool check(const char* path) {
     return are_placed && are_asked_for(tally) && claimed == tally.cost && fits(tally, capacities);
 }
 
+// ---- answer
+
+// What a front has of the amount of a class at a server, and what is left of that.
+struct Cell {
+    uint16_t server;
+    uint64_t share, left;
+};
+
+// The room that is left at a server, and how much of it is held for classes.
+struct Room {
+    uint64_t left = 0, held = 0;
+
+    bool is_free() const { return left > held; }
+};
+
+struct Servers {
+    uint16_t count = 0;
+    uint16_t numbers[kMostSites];
+
+    void add(uint32_t server) { numbers[count++] = uint16_t(server); }
+    const uint16_t* begin() const { return numbers; }
+    const uint16_t* end() const { return numbers + count; }
+};
+
+// What is the same each time that a row is asked for: its servers in the order of their sites, the least of them, and
+// the first cell of its class, or none.
+struct Route {
+    uint32_t region = 0;
+    Servers all, least;
+    size_t first = kNone;
+};
+
+class Front {
+  public:
+    Front(Tally& tally, uint64_t fronts, uint64_t front) : tally_(tally), fronts_(fronts), front_(front) {
+        std::vector<uint64_t> capacities = read_capacities();
+        rooms_.resize(capacities.size());
+        for (const Class& own : tally.classes) add_class(own);
+        for (size_t server = 0; server < capacities.size(); server++)
+            rooms_[server].left = share(capacities[server] - uint64_t(tally.loads[server])) + rooms_[server].held;
+        name_servers();
+    }
+
+    // The line that a row is answered by. What it takes is taken.
+    const std::string& answer(Text row) {
+        const Route& route = route_of(row);
+        if (route.all.count == 0) return count(3, unknown_);
+        if (Cell* cell = fullest(route)) {
+            cell->left--;
+            rooms_[cell->server].held--;
+            return take(0, cell->server);
+        }
+        for (uint16_t server : route.least)
+            if (rooms_[server].is_free()) return take(0, server);
+        uint64_t other = cheapest(route, [](const Room& room) { return room.is_free(); });
+        if (other == kNone) other = cheapest(route, [](const Room& room) { return room.left > 0; });
+        return other == kNone ? count(2, full_) : take(1, other);
+    }
+
+    void print_sums() const {
+        fprintf(stderr, "assigned %zu diverted %zu full %zu unknown %zu refused 0\n", sums_[0], sums_[1], sums_[2],
+                sums_[3]);
+    }
+
+  private:
+    uint64_t share(uint64_t number) const { return number / fronts_ + (front_ < number % fronts_); }
+
+    void add_class(const Class& own) {
+        firsts_.push_back(cells_.size());
+        for (size_t at = 0; at < own.servers.size(); at++) {
+            uint64_t amount = share(own.amounts[at]);
+            cells_.push_back({own.servers[at], amount, amount});
+            rooms_[own.servers[at]].held += amount;
+        }
+    }
+
+    void name_servers() {
+        for (const Site& site : sites)
+            for (uint32_t place = 0; place < site.servers; place++) {
+                std::string own = server_names[site.first + place].substr(site.name.size() + 1);
+                std::string named = " " + site.name + " " + std::to_string(place) + " " + own + "\n";
+                lines_[0].push_back("assigned" + named);
+                lines_[1].push_back("diverted" + named);
+            }
+    }
+
+    const Route& route_of(Text row) {
+        auto known = seen_.find(row);
+        if (known != seen_.end()) return known->second;
+        Text handle = row;
+        auto region = regions.find(cut(handle, ','));
+        scratch_ = Route();
+        if (region != regions.end()) find_route(region->second, handle);
+        return seen_.size() < kSeen ? seen_.emplace(row, scratch_).first->second : scratch_;
+    }
+
+    void find_route(uint32_t region, Text handle) {
+        scratch_.region = region;
+        Places places(handle);
+        for (const Site& site : sites) {
+            uint32_t server = places.server(site);
+            if (pays[region][server] != kNone) scratch_.all.add(server);
+        }
+        uint64_t fewest = kNone;
+        for (uint16_t server : scratch_.all) fewest = std::min(fewest, pays[region][server]);
+        for (uint16_t server : scratch_.all)
+            if (pays[region][server] == fewest) scratch_.least.add(server);
+        if (scratch_.least.count < 2) return;
+        tally_.least.assign(scratch_.least.begin(), scratch_.least.end());
+        if (Class* own = tally_.find_class(region)) scratch_.first = firsts_[size_t(own - tally_.classes.data())];
+    }
+
+    // The cell of which the greatest part is left, of those of the row's class that can give, the first of such cells.
+    Cell* fullest(const Route& route) {
+        Cell* best = nullptr;
+        if (route.first == kNone) return best;
+        for (size_t at = 0; at < route.least.count; at++) {
+            Cell& cell = cells_[route.first + at];
+            if (cell.left == 0 || rooms_[cell.server].left == 0) continue;
+            if (!best || Sum(cell.left) * best->share > Sum(best->left) * cell.share) best = &cell;
+        }
+        return best;
+    }
+
+    // The first server of least pay whose room passes.
+    template <typename F>
+    uint64_t cheapest(const Route& route, F passes) const {
+        uint64_t found = kNone, fewest = kNone;
+        for (uint16_t server : route.all) {
+            uint64_t pay = pays[route.region][server];
+            if (pay >= fewest || !passes(rooms_[server])) continue;
+            found = server;
+            fewest = pay;
+        }
+        return found;
+    }
+
+    const std::string& take(size_t word, uint64_t server) {
+        rooms_[server].left--;
+        return count(word, lines_[word][server]);
+    }
+
+    const std::string& count(size_t word, const std::string& line) {
+        sums_[word]++;
+        return line;
+    }
+
+    Tally& tally_;
+    uint64_t fronts_, front_;
+    std::vector<Cell> cells_;
+    std::vector<size_t> firsts_;
+    std::vector<Room> rooms_;
+    std::vector<std::string> lines_[2];
+    std::string full_ = "full\n", unknown_ = "unknown\n";
+    size_t sums_[4] = {0, 0, 0, 0};
+    std::unordered_map<std::string, Route, Hash, std::equal_to<>> seen_;
+    Route scratch_;
+};
+
+void print_answers(const char* path, const char* log, uint64_t fronts, uint64_t number_of_front) {
+    Tally tally;
+    read_certificate(path, tally);
+    fill_pays();
+    Front front(tally, fronts, number_of_front);
+    std::string answers;
+    each_row(log, [&](Text row) {
+        answers += front.answer(row);
+        if (answers.size() < kPiece) return;
+        fwrite(answers.data(), 1, answers.size(), stdout);
+        answers.clear();
+    });
+    fwrite(answers.data(), 1, answers.size(), stdout);
+    front.print_sums();
+}
+
 // ---- make
 
 std::mt19937_64 draws(1);
 
 uint64_t below(uint64_t limit) { return draws() % limit; }
 
-// Draws rows, nearly all of them of new handles. A row that would begin a class too many is drawn again.
-void draw_log(Tally& tally, uint64_t rows, uint64_t classes) {
+// What is drawn: so many rows, at most so many classes, and prices, counts and handles up to these.
+struct Drawn {
+    uint64_t rows, classes, price, count, handles;
+};
+
+// Draws rows. A row that would begin a class too many is drawn again.
+void draw_log(Tally& tally, const Drawn& drawn) {
     FILE* log = fopen("log.csv", "w");
     fprintf(log, "region,handle,count\n");
-    while (rows > 0) {
+    for (uint64_t rows = 0; rows < drawn.rows;) {
         uint32_t region = uint32_t(below(regions.size()));
-        uint64_t object = below(1000000000), count = 1 + below(1000);
+        uint64_t object = below(drawn.handles), count = 1 + below(drawn.count);
         char handle[64];
         unsigned authority = unsigned(object % 1009);
         int length = snprintf(handle, sizeof handle, "20.500.%u/object-%09u", authority, unsigned(object));
         if (!tally.add_row(region, Text(handle, size_t(length)), count)) {
-            if (tally.classes.size() == classes) continue;
+            if (tally.classes.size() == drawn.classes) continue;
             tally.add_class({region_names[region], tally.least, {}, count});
         }
         fprintf(log, "%s,%s,%u\n", region_names[region].c_str(), handle, unsigned(count));
-        rows--;
+        rows++;
     }
     fclose(log);
 }
@@ -367,11 +558,11 @@ void write_certificate(const char* path, const Tally& tally, uint64_t more) {
     fclose(file);
 }
 
-void make(uint64_t rows, uint64_t classes, uint64_t price) {
-    for (size_t server = 0; server < site_of.size(); server++) prices.push_back(below(2) * below(price + 1));
+void make(const Drawn& drawn) {
+    for (size_t server = 0; server < site_of.size(); server++) prices.push_back(below(2) * below(drawn.price + 1));
     fill_pays();
     Tally tally;
-    draw_log(tally, rows, classes);
+    draw_log(tally, drawn);
     std::sort(tally.classes.begin(), tally.classes.end(), [](const Class& a, const Class& b) {
         return a.region != b.region ? a.region < b.region : a.servers < b.servers;
     });
@@ -389,7 +580,11 @@ void make(uint64_t rows, uint64_t classes, uint64_t price) {
 int main(int count, char** words) {
     if (count < 3) return 2;
     read_service();
-    if (Text(words[1]) == "check") puts(check(words[2]) ? "yes" : "no");
-    else if (count > 4) make(number(words[2]), number(words[3]), number(words[4]));
+    Text command = words[1];
+    std::vector<uint64_t> numbers;
+    for (int at = 2; at < count; at++) numbers.push_back(number(words[at]));
+    if (command == "check") puts(check(words[2]) ? "yes" : "no");
+    if (command == "answer" && count == 6) print_answers(words[2], words[3], numbers[2], numbers[3]);
+    if (command == "make" && count == 7) make({numbers[0], numbers[1], numbers[2], numbers[3], numbers[4]});
     return 0;
 }

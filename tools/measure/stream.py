@@ -19,13 +19,12 @@ import random
 import subprocess
 import sys
 import tempfile
-import time
 from typing import Optional
 from pathlib import Path
 
 sys.path.insert(0, str(Path(__file__).resolve().parents[1]))
 
-from lib import programs
+from lib import programs, talks
 
 
 SITES, SERVERS, REGIONS = 12, 8, 10
@@ -135,20 +134,8 @@ def measure(folder: str, name: str, programs_of: tuple[str, str, Optional[str]],
 def ask(folder: str, program: str, rows: int) -> None:
     """Asks a co-process row by row."""
     words = runs_of(program, None, "", "demand.csv")["answer"]
-    running = subprocess.Popen(
-        words, cwd=folder, stdin=subprocess.PIPE, stdout=subprocess.PIPE, stderr=subprocess.DEVNULL
-    )
-    assert running.stdin and running.stdout
-    running.stdin.write(b"region,handle\n")
-    begun = time.monotonic()
-    for number in range(rows):
-        running.stdin.write(b"region-%d,20.1.12345/object-%09d\n" % (number % REGIONS, number % 1000))
-        running.stdin.flush()
-        running.stdout.readline()
-    each = (time.monotonic() - begun) / rows
-    running.stdin.close()
-    running.wait()
-    print(f"a co-process over pipes: {each * 1e6:.1f} microseconds for each of {rows:,} rows, one after the other")
+    asked = [(f"region-{at % REGIONS}", f"20.1.12345/object-{at % 1000:09}") for at in range(rows)]
+    print(talks.line_of(talks.seconds_each(words, folder, asked), rows))
 
 
 def main() -> int:

@@ -6,7 +6,7 @@
 //   stream_peer answer SERVICE TABLE    answers a log; each row of the table has all its queries at its first site
 //
 // SERVICE has a line for each site, its name, hash option and number of servers, and every region may use all sites.
-#include <openssl/md5.h>
+#include "digest_word.hpp"
 
 #include <cstdint>
 #include <cstdio>
@@ -44,17 +44,6 @@ template <typename V>
 using Map = std::unordered_map<std::string, V, Hash, std::equal_to<>>;
 
 std::vector<Site> sites;
-
-uint32_t word_of(std::string_view octets) {
-    unsigned char upper[4096], digest[16];
-    for (size_t at = 0; at < octets.size(); at++) {
-        unsigned char octet = octets[at];
-        upper[at] = octet >= 'a' && octet <= 'z' ? octet - 32 : octet;
-    }
-    MD5(upper, octets.size(), digest);
-    uint32_t word = uint32_t(digest[12]) << 24 | digest[13] << 16 | digest[14] << 8 | digest[15];
-    return word & 0x80000000u ? 0u - word : word;
-}
 
 // The key of a row's kind: its region, and the places of its handle.
 std::string kind_of(std::string_view region, std::string_view handle) {

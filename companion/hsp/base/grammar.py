@@ -37,8 +37,8 @@ COMMANDS: dict[str, dict[str, Command]] = {
         "places": Command("hsplan-stream", ("settings", "log"), ("values",)),
         "answer": Command(
             "hsplan-stream",
-            ("settings", "demand", "costs", "capacity", "plan", "log"),
-            ("values", "unit", "fronts", "front"),
+            ("settings", "costs", "capacity", "log"),
+            ("values", "demand", "plan", "prices", "unit", "fronts", "front"),
         ),
         "check": Command("hsplan-stream", ("settings", "costs", "capacity", "log", "prices"), ("values",)),
         "report": Command(

@@ -45,6 +45,12 @@ PRICE_REASONS: Reasons = {
     "CapacitySum": ("it is a shortage of other capacities", ("capacity", "settings")),
     "NotShort": ("it is a shortage that is over", ("capacity", "log")),
 }
+# The same of one by which a log is answered: it is held against the service, and not against the log.
+FIT_REASONS: Reasons = {
+    "Shape": PRICE_REASONS["Shape"],
+    "NoSuchServer": PRICE_REASONS["NoSuchServer"],
+    "Load": ("its classes bring a server above its capacity, or a host above its limit", ("capacity", "settings")),
+}
 
 
 class Form(NamedTuple):
@@ -58,11 +64,14 @@ class Form(NamedTuple):
 
 PLAN = Form("plan", "plan", REASONS, AGAIN)
 PRICES = Form("prices", "certificate", PRICE_REASONS, "make the certificate again, for these files")
+FIT = PRICES._replace(reasons=FIT_REASONS)
 
 
 def form_of(question: Question) -> Form:
     """The form of the certificate that a command reads."""
-    return PRICES if "prices" in question.files else PLAN
+    if "prices" not in question.files:
+        return PLAN
+    return FIT if question.command == "answer" else PRICES
 
 
 def _other_text(text: Text, form: Form) -> tuple[str, str]:
@@ -72,7 +81,7 @@ def _other_text(text: Text, form: Form) -> tuple[str, str]:
         return f"the file is empty: the {form.name} was refused, or its disk was full", form.again
     if first == "HSPLAN PRICES 1" and form is PLAN:
         return "this is a certificate by prices", f"hsplan-stream check judges it; for a plan {AGAIN}"
-    if re.fullmatch("HSPLAN [12]", first) and form is PRICES:
+    if re.fullmatch("HSPLAN [12]", first) and form.role == "prices":
         return "this is what hsplan plan prints", "hsplan check judges it; give a certificate by prices"
     if re.match(r"(place|\s+row|\s+demand)\s|short \d", first):
         return "this is what hsplan report prints", form.again
@@ -113,7 +122,7 @@ def certificate(question: Question, said: Said) -> Explained:
         remedy = rf"tr -d '\r' < {shell_word(text.path)} > plain.txt"
     elif number == 1:
         why, remedy = _other_text(text, form)
-        message = f"this isn't a {form.name}" + (" by prices" if form is PRICES else "")
+        message = f"this isn't a {form.name}" + (" by prices" if form.role == "prices" else "")
     else:
         why, remedy = _bad_line(text.line(number)), form.again
         message = f"{quoted(text.line(number), 40)} can't stand in line {number} of a {form.name}"
@@ -140,7 +149,7 @@ def verdict(question: Question, said: Said) -> Explained:
     inputs = [question.files[role].original.path for role in others if form is PRICES or role != "log"]
     changed = newer_than(inputs, text.path)
     why = f"{means}; likely {listed(changed)} changed since" if changed else f"{means}; look at {listed(kinds)}"
-    message = "the plan isn't one of these inputs" if form is PLAN else "the certificate isn't one of this log"
+    message = f"the {form.name} isn't one of {'this log' if form is PRICES else 'these inputs'}"
     words = Words(message, form.again, why)
     return Explained(found(text.path, Place(), words, said.line), [])
 
@@ -150,7 +159,9 @@ def wrong_kind(question: Question, said: Said) -> Explained:
     form = form_of(question)
     text = question.files[form.role].original
     is_shortage = text.line(2) in ("SHORTAGE", "SHORT")
-    if form is PRICES:
+    if form is FIT:
+        remedy = "plan with more capacity, and make the certificate of that plan"
+    elif form is PRICES:
         remedy = "read its servers and sums in the file: hsplan-stream report shows plans only"
     elif question.command == "report":
         remedy = "report it by --kind shortage" if is_shortage else "report it by --kind load or --kind region"

@@ -17,6 +17,11 @@ abbrev pub inputs : List Rule
 inputs = needed (codes "settings") ∷ option (codes "values") ∷ needed (codes "demand") ∷ needed (codes "costs")
     ∷ needed (codes "capacity") ∷ []
 
+-- the files of the inputs of an answered log: those of a plan, or those of a certificate by prices
+abbrev pub answer_inputs : List Rule
+answer_inputs = needed (codes "settings") ∷ option (codes "values") ∷ option (codes "demand") ∷ needed (codes "costs")
+    ∷ needed (codes "capacity") ∷ []
+
 -- the files of the inputs of a certificate by prices, for which a log stands in place of the demand
 abbrev pub price_inputs : List Rule
 price_inputs = needed (codes "settings") ∷ option (codes "values") ∷ needed (codes "costs")
@@ -46,7 +51,7 @@ stream_commands = (
     ∷ (codes "places", needed (codes "settings") ∷ option (codes "values") ∷ needed (codes "log") ∷ [])
     ∷ (
       codes "answer",
-      inputs ++ needed (codes "plan") ∷ needed (codes "log") ∷ option (codes "unit")
+      answer_inputs ++ option (codes "plan") ∷ option (codes "prices") ∷ needed (codes "log") ∷ option (codes "unit")
           ∷ option (codes "fronts") ∷ option (codes "front") ∷ [],
     )
     ∷ (codes "check", price_inputs ++ needed (codes "log") ∷ needed (codes "prices") ∷ [])

@@ -48,6 +48,15 @@ const INPUTS: [Argument<'static>; 5] = [
     Needed("capacity"),
 ];
 
+// The inputs of an answered log: those of a plan, or those of a certificate by prices.
+const ANSWER_INPUTS: [Argument<'static>; 5] = [
+    Needed("settings"),
+    Optional("values"),
+    Optional("demand"),
+    Needed("costs"),
+    Needed("capacity"),
+];
+
 // The inputs of a certificate by prices, for which a log stands in place of the demand.
 const PRICE_INPUTS: [Argument<'static>; 4] = [
     Needed("settings"),
@@ -110,9 +119,10 @@ pub(crate) const STREAM_COMMANDS: [Subcommand<'static>; 6] = [
     },
     Subcommand {
         name: "answer",
-        inputs: &INPUTS,
+        inputs: &ANSWER_INPUTS,
         others: &[
-            Needed("plan"),
+            Optional("plan"),
+            Optional("prices"),
             Needed("log"),
             Optional("unit"),
             Optional("fronts"),

@@ -13,6 +13,9 @@ use Rattle.hsp_cli_orders.specs.declared.stream_order.AskedPriceReport.TheVarian
 use Rattle.hsp_cli_orders.specs.declared.stream_order.FaultsOf.{FaultsOf}
 use Rattle.hsp_cli_orders.specs.declared.stream_order.FaultsOf.TheVariants as of
 use Rattle.hsp_cli_orders.specs.declared.stream_order.FrontWords.{FrontWords}
+use Rattle.hsp_cli_orders.specs.declared.stream_order.KindFiles.{KindFiles}
+use Rattle.hsp_cli_orders.specs.declared.stream_order.PlaceFiles.{PlaceFiles}
+use Rattle.hsp_cli_orders.specs.declared.stream_order.PlanFiles.{PlanFiles}
 use Rattle.hsp_cli_orders.specs.declared.stream_order.PriceFiles.{PriceFiles}
 use Rattle.hsp_cli_orders.specs.declared.stream_order.StreamOrder.{StreamOrder}
 use Rattle.hsp_cli_orders.specs.declared.stream_order.StreamOrder.TheVariants as order
@@ -40,13 +43,33 @@ HasFront rows None = (first_of (codes "fronts") rows ≡ None) × (first_of (cod
 HasFront rows (Some words) =
     (first_of (codes "fronts") rows ≡ Some words.fronts) × (first_of (codes "front") rows ≡ Some words.front)
 
--- a certificate by prices, and what it is checked by, but for the log
+-- a log, and what its rows are joined by
+pub record HasKindFiles (rows : List Row) (files : KindFiles) : Type 0 where
+  pub settings : first_of (codes "settings") rows ≡ Some files.settings
+  pub values : first_of (codes "values") rows ≡ files.values
+  pub costs : first_of (codes "costs") rows ≡ Some files.costs
+  pub log : first_of (codes "log") rows ≡ Some files.log
+
+-- a log, and the sites at which its handles have places
+pub record HasPlaceFiles (rows : List Row) (files : PlaceFiles) : Type 0 where
+  pub settings : first_of (codes "settings") rows ≡ Some files.settings
+  pub values : first_of (codes "values") rows ≡ files.values
+  pub log : first_of (codes "log") rows ≡ Some files.log
+
+-- a log, a certificate, and what that is checked by
+pub record HasPlanFiles (rows : List Row) (files : PlanFiles) : Type 0 where
+  pub inputs : HasInputs rows files.inputs
+  pub plan : first_of (codes "plan") rows ≡ Some files.plan
+  pub log : first_of (codes "log") rows ≡ Some files.log
+
+-- a log, a certificate by prices, and what that is checked by
 pub record HasPriceFiles (rows : List Row) (files : PriceFiles) : Type 0 where
   pub settings : first_of (codes "settings") rows ≡ Some files.settings
   pub values : first_of (codes "values") rows ≡ files.values
   pub costs : first_of (codes "costs") rows ≡ Some files.costs
   pub capacity : first_of (codes "capacity") rows ≡ Some files.capacity
   pub prices : first_of (codes "prices") rows ≡ Some files.prices
+  pub log : first_of (codes "log") rows ≡ Some files.log
 
 -- the word for a kind of report
 abbrev pub price_report_word : AskedPriceReport → Text
@@ -68,27 +91,23 @@ IsOnly of.Log file rows =
     (first_of (codes "demand") rows ≡ None) × (first_of (codes "costs") rows ≡ None)
     × (first_of (codes "capacity") rows ≡ None) × (first_of (codes "log") rows ≡ Some file)
 
--- the values of a subcommand are the order's
+-- the values of a subcommand are the order's; each has a value of its own, or none, so that words give one order at
+-- most: `answer` goes by prices where these are given, and then neither the demand, nor a plan, nor a unit is
 abbrev pub IsStreamOrderIn : StreamOrder → Text → List Row → Type 0
 IsStreamOrderIn order.Help name rows = ⊥
 IsStreamOrderIn order.Version name rows = ⊥
-IsStreamOrderIn (order.Kinds settings values costs unit log) name rows =
-    (name ≡ codes "kinds") × (first_of (codes "settings") rows ≡ Some settings)
-    × (first_of (codes "values") rows ≡ values)
-    × (first_of (codes "costs") rows ≡ Some costs) × (first_of (codes "unit") rows ≡ unit)
-    × (first_of (codes "log") rows ≡ Some log)
-IsStreamOrderIn (order.Places settings values log) name rows =
-    (name ≡ codes "places") × (first_of (codes "settings") rows ≡ Some settings)
-    × (first_of (codes "values") rows ≡ values)
-    × (first_of (codes "log") rows ≡ Some log)
-IsStreamOrderIn (order.Answer inputs plan log unit front) name rows =
-    (name ≡ codes "answer") × HasInputs rows inputs × (first_of (codes "plan") rows ≡ Some plan)
-    × (first_of (codes "log") rows ≡ Some log)
+IsStreamOrderIn (order.Kinds files unit) name rows =
+    (name ≡ codes "kinds") × HasKindFiles rows files × (first_of (codes "unit") rows ≡ unit)
+IsStreamOrderIn (order.Places files) name rows = (name ≡ codes "places") × HasPlaceFiles rows files
+IsStreamOrderIn (order.Answer files unit front) name rows =
+    (name ≡ codes "answer") × HasPlanFiles rows files × (first_of (codes "prices") rows ≡ None)
     × (first_of (codes "unit") rows ≡ unit) × HasFront rows front
-IsStreamOrderIn (order.Check files log) name rows =
-    (name ≡ codes "check") × HasPriceFiles rows files × (first_of (codes "log") rows ≡ Some log)
-IsStreamOrderIn (order.Report files log kind) name rows =
-    (name ≡ codes "report") × HasPriceFiles rows files × (first_of (codes "log") rows ≡ Some log)
+IsStreamOrderIn (order.AnswerPrices files front) name rows =
+    (name ≡ codes "answer") × HasPriceFiles rows files × (first_of (codes "demand") rows ≡ None)
+    × (first_of (codes "plan") rows ≡ None) × (first_of (codes "unit") rows ≡ None) × HasFront rows front
+IsStreamOrderIn (order.Check files) name rows = (name ≡ codes "check") × HasPriceFiles rows files
+IsStreamOrderIn (order.Report files kind) name rows =
+    (name ≡ codes "report") × HasPriceFiles rows files
     × (first_of (codes "kind") rows ≡ Some (price_report_word kind))
 IsStreamOrderIn (order.Faults of file) name rows = (name ≡ codes "faults") × IsOnly of file rows
 

@@ -53,7 +53,7 @@ pub(crate) fn inputs_of<'a>(matches: &ArgMatches<'a>) -> Option<InputFiles<'a>>
 }
 
 // Whether there is a value of this name.
-fn is_given(matches: &ArgMatches<'_>, name: &str) -> bool
+pub(crate) fn is_given(matches: &ArgMatches<'_>, name: &str) -> bool
     ensures given { result ≡ true
         → first_of name.now (rows_of (found_of matches.now)) ≡ None → ⊥ }
     ensures absent { result ≡ false

@@ -9,8 +9,33 @@ pub struct FrontWords<'a> {
     pub front: Word<'a>,
 }
 
-/// A certificate by prices, and what it is checked by, but for the log:
-/// `--settings F [--values F] --costs F --capacity F --prices F`.
+/// A log, and what its rows are joined by: `--settings F [--values F] --costs F --log F`.
+#[derive(Debug, Drop)]
+pub struct KindFiles<'a> {
+    pub settings: Word<'a>,
+    pub values: Option<Word<'a>>,
+    pub costs: Word<'a>,
+    pub log: Word<'a>,
+}
+
+/// A log, and the sites at which its handles have places: `--settings F [--values F] --log F`.
+#[derive(Debug, Drop)]
+pub struct PlaceFiles<'a> {
+    pub settings: Word<'a>,
+    pub values: Option<Word<'a>>,
+    pub log: Word<'a>,
+}
+
+/// A log, a certificate, and what that is checked by: the files of the inputs with `--plan F --log F`.
+#[derive(Debug, Drop)]
+pub struct PlanFiles<'a> {
+    pub inputs: InputFiles<'a>,
+    pub plan: Word<'a>,
+    pub log: Word<'a>,
+}
+
+/// A log, a certificate by prices, and what that is checked by:
+/// `--settings F [--values F] --costs F --capacity F --prices F --log F`.
 #[derive(Debug, Drop)]
 pub struct PriceFiles<'a> {
     pub settings: Word<'a>,
@@ -18,6 +43,7 @@ pub struct PriceFiles<'a> {
     pub costs: Word<'a>,
     pub capacity: Word<'a>,
     pub prices: Word<'a>,
+    pub log: Word<'a>,
 }
 
 /// What a report by prices shows.
@@ -49,37 +75,33 @@ pub enum StreamOrder<'a> {
     Help,
     /// `--version`
     Version,
-    /// `kinds --settings F [--values F] --costs F [--unit N] --log F`
+    /// `kinds` with a log and what it is joined by, and `[--unit N]`
     Kinds {
-        settings: Word<'a>,
-        values: Option<Word<'a>>,
-        costs: Word<'a>,
+        files: KindFiles<'a>,
         unit: Option<Word<'a>>,
-        log: Word<'a>,
     },
-    /// `places --settings F [--values F] --log F`
+    /// `places` with a log and its sites
     Places {
-        settings: Word<'a>,
-        values: Option<Word<'a>>,
-        log: Word<'a>,
+        files: PlaceFiles<'a>,
     },
-    /// `answer` with the files of the inputs, `--plan F`, `--log F`, `[--unit N]` and `[--fronts N --front K]`
+    /// `answer` with a log, a certificate and what it is checked by, `[--unit N]` and `[--fronts N --front K]`
     Answer {
-        inputs: InputFiles<'a>,
-        plan: Word<'a>,
-        log: Word<'a>,
+        files: PlanFiles<'a>,
         unit: Option<Word<'a>>,
         front: Option<FrontWords<'a>>,
     },
-    /// `check` with a certificate by prices, the files that it is checked by, and `--log F`
+    /// `answer` with a log, a certificate by prices and what it is checked by, and `[--fronts N --front K]`
+    AnswerPrices {
+        files: PriceFiles<'a>,
+        front: Option<FrontWords<'a>>,
+    },
+    /// `check` with a log, a certificate by prices and what it is checked by
     Check {
         files: PriceFiles<'a>,
-        log: Word<'a>,
     },
-    /// `report` with a certificate by prices, the files that it is checked by, `--log F` and `--kind K`
+    /// `report` with a log, a certificate by prices and what it is checked by, and `--kind K`
     Report {
         files: PriceFiles<'a>,
-        log: Word<'a>,
         kind: AskedPriceReport,
     },
     /// `faults` with one of `--demand F`, `--costs F`, `--capacity F` and `--log F`

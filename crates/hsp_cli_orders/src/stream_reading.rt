@@ -2,21 +2,27 @@
 
 ghost use Rattle.std.specs.Prelude.{◌≡◌, [], IfNone, IfOk, IfSome, OnOk, Err, None, codes, map, option_map};
 ghost use Rattle.std.specs.Prelude.{string_bytes};
-ghost use Rattle.clap.specs.Words.{fault_of, found_of, rows_of, subcommand_of};
+ghost use Rattle.clap.specs.Words.{fault_of, first_of, found_of, rows_of, subcommand_of};
 ghost use Rattle.hsp_cli_options.specs.Commands.{stream_app};
-ghost use Rattle.hsp_cli_orders.specs.StreamOrders.{HasFront, HasPriceFiles, IsStreamOrder, IsStreamOrderIn};
-ghost use Rattle.hsp_cli_orders.specs.StreamOrders.{IsStreamOrdered, IsStreamUsage, asked, is_help, is_version};
-ghost use Rattle.hsp_cli_orders.specs.StreamOrders.{price_report_word};
+ghost use Rattle.hsp_cli_orders.specs.StreamOrders.{HasFront, HasKindFiles, HasPlaceFiles, HasPlanFiles};
+ghost use Rattle.hsp_cli_orders.specs.StreamOrders.{HasPriceFiles, IsStreamOrder, IsStreamOrderIn, IsStreamOrdered};
+ghost use Rattle.hsp_cli_orders.specs.StreamOrders.{IsStreamUsage, asked, is_help, is_version, price_report_word};
 ghost use Rattle.hsp_cli_orders.specs.declared.fault.CommandFault.TheVariants as fault;
 ghost use Rattle.hsp_cli_orders.specs.declared.stream_order.AskedPriceReport.{AskedPriceReport};
 ghost use Rattle.hsp_cli_orders.specs.declared.stream_order.FrontWords.{FrontWords};
+ghost use Rattle.hsp_cli_orders.specs.declared.stream_order.KindFiles.{KindFiles};
+ghost use Rattle.hsp_cli_orders.specs.declared.stream_order.PlaceFiles.{PlaceFiles};
+ghost use Rattle.hsp_cli_orders.specs.declared.stream_order.PlanFiles.{PlanFiles};
 ghost use Rattle.hsp_cli_orders.specs.declared.stream_order.PriceFiles.{PriceFiles};
 ghost use Rattle.hsp_cli_orders.specs.declared.stream_order.StreamOrder.{StreamOrder};
 ghost use Rattle.std.specs.Prelude.{Option};
 
 use crate::fault::CommandFault;
-use crate::reading::{command_fault, inputs_of, text_of, word_of};
-use crate::stream_order::{AskedPriceReport, FaultsOf, FrontWords, PriceFiles, StreamOrder};
+use crate::reading::{command_fault, inputs_of, is_given, text_of, word_of};
+use crate::stream_order::{
+    AskedPriceReport, FaultsOf, FrontWords, KindFiles, PlaceFiles, PlanFiles, PriceFiles,
+    StreamOrder,
+};
 use clap::ArgMatches;
 use hsp_cli_options::stream_command;
 use std::alloc::Global;
@@ -59,6 +65,21 @@ fn front_of<'a>(matches: &ArgMatches<'a>) -> Option<Option<FrontWords<'a>>>
     }
 }
 
+// The names of a log and of what it is joined by, or None where one is absent.
+fn kind_files_of<'a>(matches: &ArgMatches<'a>) -> Option<KindFiles<'a>>
+    ensures given { IfSome result
+        (λ files. HasKindFiles (rows_of (found_of matches.now)) files) }
+    ensures absent { IfNone result ((files : KindFiles)
+        → HasKindFiles (rows_of (found_of matches.now)) files → ⊥) }
+{
+    Some(KindFiles {
+        settings: word_of(matches, "settings")?,
+        values: word_of(matches, "values"),
+        costs: word_of(matches, "costs")?,
+        log: word_of(matches, "log")?,
+    })
+}
+
 fn kinds_of<'a>(matches: &ArgMatches<'a>) -> Option<StreamOrder<'a>>
     ensures order { IfSome result (λ order.
         IsStreamOrderIn order (codes "kinds") (rows_of (found_of matches.now))) }
@@ -66,10 +87,21 @@ fn kinds_of<'a>(matches: &ArgMatches<'a>) -> Option<StreamOrder<'a>>
         → IsStreamOrderIn order (codes "kinds") (rows_of (found_of matches.now)) → ⊥) }
 {
     Some(StreamOrder::Kinds {
+        files: kind_files_of(matches)?,
+        unit: word_of(matches, "unit"),
+    })
+}
+
+// The names of a log and of what defines its sites, or None where one is absent.
+fn place_files_of<'a>(matches: &ArgMatches<'a>) -> Option<PlaceFiles<'a>>
+    ensures given { IfSome result
+        (λ files. HasPlaceFiles (rows_of (found_of matches.now)) files) }
+    ensures absent { IfNone result ((files : PlaceFiles)
+        → HasPlaceFiles (rows_of (found_of matches.now)) files → ⊥) }
+{
+    Some(PlaceFiles {
         settings: word_of(matches, "settings")?,
         values: word_of(matches, "values"),
-        costs: word_of(matches, "costs")?,
-        unit: word_of(matches, "unit"),
         log: word_of(matches, "log")?,
     })
 }
@@ -81,28 +113,25 @@ fn places_of<'a>(matches: &ArgMatches<'a>) -> Option<StreamOrder<'a>>
         → IsStreamOrderIn order (codes "places") (rows_of (found_of matches.now)) → ⊥) }
 {
     Some(StreamOrder::Places {
-        settings: word_of(matches, "settings")?,
-        values: word_of(matches, "values"),
-        log: word_of(matches, "log")?,
+        files: place_files_of(matches)?,
     })
 }
 
-fn answer_of<'a>(matches: &ArgMatches<'a>) -> Option<StreamOrder<'a>>
-    ensures order { IfSome result (λ order.
-        IsStreamOrderIn order (codes "answer") (rows_of (found_of matches.now))) }
-    ensures none { IfNone result ((order : StreamOrder)
-        → IsStreamOrderIn order (codes "answer") (rows_of (found_of matches.now)) → ⊥) }
+// The names of a log, of a certificate and of what that is checked by, or None where one is absent.
+fn plan_files_of<'a>(matches: &ArgMatches<'a>) -> Option<PlanFiles<'a>>
+    ensures given { IfSome result
+        (λ files. HasPlanFiles (rows_of (found_of matches.now)) files) }
+    ensures absent { IfNone result ((files : PlanFiles)
+        → HasPlanFiles (rows_of (found_of matches.now)) files → ⊥) }
 {
-    Some(StreamOrder::Answer {
+    Some(PlanFiles {
         inputs: inputs_of(matches)?,
         plan: word_of(matches, "plan")?,
         log: word_of(matches, "log")?,
-        unit: word_of(matches, "unit"),
-        front: front_of(matches)?,
     })
 }
 
-// The names of a certificate by prices and of what it is checked by, or None where one is absent.
+// The names of a log, of a certificate by prices and of what that is checked by, or None where one is absent.
 fn price_files_of<'a>(matches: &ArgMatches<'a>) -> Option<PriceFiles<'a>>
     ensures given { IfSome result
         (λ files. HasPriceFiles (rows_of (found_of matches.now)) files) }
@@ -115,7 +144,53 @@ fn price_files_of<'a>(matches: &ArgMatches<'a>) -> Option<PriceFiles<'a>>
         costs: word_of(matches, "costs")?,
         capacity: word_of(matches, "capacity")?,
         prices: word_of(matches, "prices")?,
+        log: word_of(matches, "log")?,
     })
+}
+
+// The form of `answer` by a plan.
+fn plan_answer_of<'a>(matches: &ArgMatches<'a>) -> Option<StreamOrder<'a>>
+    requires { first_of (codes "prices") (rows_of (found_of matches.now)) ≡ None }
+    ensures order { IfSome result (λ order.
+        IsStreamOrderIn order (codes "answer") (rows_of (found_of matches.now))) }
+    ensures none { IfNone result ((order : StreamOrder)
+        → IsStreamOrderIn order (codes "answer") (rows_of (found_of matches.now)) → ⊥) }
+{
+    Some(StreamOrder::Answer {
+        files: plan_files_of(matches)?,
+        unit: word_of(matches, "unit"),
+        front: front_of(matches)?,
+    })
+}
+
+// The form of `answer` by prices.
+fn price_answer_of<'a>(matches: &ArgMatches<'a>) -> Option<StreamOrder<'a>>
+    ensures order { IfSome result (λ order.
+        IsStreamOrderIn order (codes "answer") (rows_of (found_of matches.now))) }
+    ensures none { IfNone result ((order : StreamOrder)
+        → IsStreamOrderIn order (codes "answer") (rows_of (found_of matches.now))
+        → first_of (codes "prices") (rows_of (found_of matches.now)) ≡ None) }
+{
+    if is_given(matches, "demand") || is_given(matches, "plan") || is_given(matches, "unit") {
+        return None;
+    }
+    Some(StreamOrder::AnswerPrices {
+        files: price_files_of(matches)?,
+        front: front_of(matches)?,
+    })
+}
+
+// One of the two forms of `answer`, and no mixture.
+fn answer_of<'a>(matches: &ArgMatches<'a>) -> Option<StreamOrder<'a>>
+    ensures order { IfSome result (λ order.
+        IsStreamOrderIn order (codes "answer") (rows_of (found_of matches.now))) }
+    ensures none { IfNone result ((order : StreamOrder)
+        → IsStreamOrderIn order (codes "answer") (rows_of (found_of matches.now)) → ⊥) }
+{
+    if is_given(matches, "prices") {
+        return price_answer_of(matches);
+    }
+    plan_answer_of(matches)
 }
 
 fn check_of<'a>(matches: &ArgMatches<'a>) -> Option<StreamOrder<'a>>
@@ -126,7 +201,6 @@ fn check_of<'a>(matches: &ArgMatches<'a>) -> Option<StreamOrder<'a>>
 {
     Some(StreamOrder::Check {
         files: price_files_of(matches)?,
-        log: word_of(matches, "log")?,
     })
 }
 
@@ -151,7 +225,6 @@ fn report_of<'a>(matches: &ArgMatches<'a>) -> Option<StreamOrder<'a>>
 {
     Some(StreamOrder::Report {
         files: price_files_of(matches)?,
-        log: word_of(matches, "log")?,
         kind: asked_report(text_of(matches, "kind")?)?,
     })
 }
@@ -231,8 +304,8 @@ fn command_order<'a>(alloc: Global, words: &'a [String]) -> Result<StreamOrder<'
 /// The order that the words give to `hsplan-stream`. The first word is the command.
 ///
 /// `--help` and `--version` are orders where they stand by themselves, and `--help` also behind one word. The fault is
-/// `Usage` for whatever else clap's parser refuses, for only one of `--fronts` and `--front`, and for an unknown kind
-/// of report.
+/// `Usage` for whatever else clap's parser refuses, for a mixture or a part of the two forms of `answer`, for only one
+/// of `--fronts` and `--front`, and for an unknown kind of report.
 pub fn read_stream_command<'a>(
     alloc: Global,
     words: &'a [String],

@@ -2,4 +2,4 @@ mod RowsTaken
 mod LogReading
 mod Judged
 mod RowsSpelled
-mod Shown
+pub mod Shown

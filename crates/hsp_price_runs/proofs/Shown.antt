@@ -25,6 +25,12 @@ use Rattle.hsp_price_runs.proofs.RowsSpelled.{log_spelled}
 is_service : (costs : List CostEntry) (it : Instance) → IsInstance it → IsService (service_of costs it)
 is_service costs it is = record { sites = is.sites; hosts = is.hosts; servers = is.servers }
 
+-- a certificate that was read is what the octets spell
+pub certificate_means : (octets : List ℕ) (certificate : PriceCertificate) → IsCertificateIn octets (Ok certificate)
+    → Means octets (Ok certificate)
+certificate_means octets certificate (reading, means, other, e) =
+    let is : reading ≡ Ok certificate = stated_well Cert reading certificate e in rw is at means
+
 module _ (plans : PlanIsShown) (shortages : ShortageIsShown) where
   -- Yes to either certificate shows it
   rows_shown : (at : Service) (rows : List Row) (certificate : PriceCertificate) → IsService at
@@ -55,7 +61,6 @@ module _ (plans : PlanIsShown) (shortages : ShortageIsShown) where
     where
       text_means : (certificate : PriceCertificate) → OfInput (IsCertificateIn octets) (Ok certificate)
           → Means octets (Ok certificate)
-      text_means certificate (Ok own, (reading, means, other, e), same) =
-          let one : certificate ≡ own = cc (same) in
-          let is : reading ≡ Ok own = stated_well Cert reading own e in rw one (rw is at means)
+      text_means certificate (Ok own, is, same) =
+          let one : certificate ≡ own = cc (same) in rw one (certificate_means octets own is)
       text_means certificate (Err e, is, same) = absurd (cc same)

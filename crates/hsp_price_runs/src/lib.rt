@@ -8,5 +8,5 @@ mod run;
 mod verdict_text;
 
 pub use report::{PriceReport, PriceReportKind, price_report_run};
-pub use run::price_check_run;
+pub use run::{certificate_in, price_check_run};
 pub use verdict_text::{price_verdict_line, price_verdict_status};

@@ -32,8 +32,8 @@ struct ServiceRef<'a> {
     costs: &'a Costs,
 }
 
-// The certificate that octets spell.
-fn certificate_in(alloc: Global, octets: &[u8]) -> Result<PriceCertificate, Fault>
+/// The certificate by prices that octets spell. Its faults are `Cert`.
+pub fn certificate_in(alloc: Global, octets: &[u8]) -> Result<PriceCertificate, Fault>
     ensures { OrNoMemory (IsCertificateIn octets.now) result }
 {
     match read_prices(alloc, octets) {

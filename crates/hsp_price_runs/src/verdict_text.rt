@@ -2,9 +2,10 @@
 
 ghost use Rattle.std.specs.Prelude.{◌≡◌, ◌++◌, IfOk, OnOk};
 ghost use Rattle.hsp_classes.specs.Verdict.{number};
-ghost use Rattle.hsp_price_runs.specs.PriceVerdictText.{reason_word, verdict_status, verdict_text, verdict_words};
+ghost use Rattle.hsp_price_runs.specs.PriceVerdictText.{verdict_status, verdict_text, verdict_words};
 
 use hsp_classes::{PriceReason, PriceVerdict};
+use hsp_stream::price_reason_word;
 use hsp_text::push_whole;
 use std::alloc::{AllocError, Global};
 
@@ -27,25 +28,6 @@ fn reason_number(reason: PriceReason) -> u64
     }
 }
 
-// The name of a reason.
-fn reason_word(reason: PriceReason) -> &'static [u8]
-    ensures { result.now ≡ reason_word reason }
-{
-    match reason {
-        PriceReason::Shape => b"Shape",
-        PriceReason::NoSuchServer => b"NoSuchServer",
-        PriceReason::NotLeast => b"NotLeast",
-        PriceReason::NoClass => b"NoClass",
-        PriceReason::ClassSum => b"ClassSum",
-        PriceReason::Load => b"Load",
-        PriceReason::Cost => b"Cost",
-        PriceReason::IdlePrice => b"IdlePrice",
-        PriceReason::DemandSum => b"DemandSum",
-        PriceReason::CapacitySum => b"CapacitySum",
-        PriceReason::NotShort => b"NotShort",
-    }
-}
-
 fn push_verdict(out: &mut Vec<u8>, verdict: PriceVerdict) -> Result<(), AllocError>
     ensures { OnOk result (out.new.items ≡ out.old.items ++ verdict_words verdict) }
 {
@@ -55,7 +37,7 @@ fn push_verdict(out: &mut Vec<u8>, verdict: PriceVerdict) -> Result<(), AllocErr
             out.extend_from_slice(b"no ")?;
             push_whole(out, reason_number(reason))?;
             out.extend_from_slice(b" ")?;
-            out.extend_from_slice(reason_word(reason))
+            out.extend_from_slice(price_reason_word(reason))
         }
     }
 }

@@ -1,5 +1,5 @@
 -- What a run that answers the rows of a log shows of inputs and a certificate.
-use Rattle.std.proofs.Common.{◌≡◌, ◌≢◌, ◌∙◌, ◌*◌, ◌<◌, ◌≤◌, ◌⊎◌, inl, inr, ℕ, List, Result, Ok, Err, IfErr, refl, ap}
+use Rattle.std.proofs.Common.{◌≡◌, ◌≢◌, ◌∙◌, ◌*◌, ◌<◌, ◌≤◌, ◌⊎◌, inl, inr, ℕ, List, Ok, Err, IfErr, refl, ap}
 use Rattle.std.proofs.Common.{subst, sym, arith}
 use Rattle.std.proofs.Math.Nat.{mul-le-mul_left}
 use Rattle.hsp_tables.specs.Costs.{CostEntry}
@@ -27,21 +27,18 @@ use Rattle.hsp_headline.proofs.PageRead.{hold, stated_well}
 use Rattle.hsp_runs.specs.Accepted.{IsAcceptedOf}
 use Rattle.hsp_runs.specs.Instance.{ReadsCosts}
 use Rattle.hsp_runs.specs.declared.accepted.Accepted.{Accepted}
-use Rattle.hsp_talk.specs.Talk.{Event}
-use Rattle.hsp_stream.specs.AnswerRun.{AnswersAs, AnswersWhere, EndsLog, Refuses, Run}
-use Rattle.hsp_stream.specs.AnswerTalk.{EndsBy, StopsBy}
+use Rattle.hsp_stream.specs.AnswerRun.{AnswersAs, AnswersWhere, EndsLog, Refuses, Run, RunOf}
 use Rattle.hsp_stream.specs.AnswersShown.{IsOfTalk, IsRefused, IsTalkOf, ShowsTalkBy, ShowsTalkOf}
 use Rattle.hsp_stream.specs.Faults.{fault_of_input}
 use Rattle.hsp_stream.specs.KindAnswers.{entries_in, entry_for}
 use Rattle.hsp_stream.specs.Words.{IsPortion, portion_at}
 use Rattle.hsp_stream.specs.declared.fault.RowFault.{RowFault}
-use Rattle.hsp_stream.specs.declared.fault.RowFault.TheVariants.{Header, ReadFailed, WriteFailed}
 use Rattle.hsp_stream.specs.declared.fault.StreamFault.{StreamFault}
 use Rattle.hsp_stream.specs.declared.fault.StreamFault.TheVariants.{Input, Log, OutOfMemory}
-use Rattle.hsp_stream.specs.declared.given.StreamSums.{StreamSums}
 use Rattle.hsp_stream.specs.declared.portions.PortionWords.{PortionWords}
 use Rattle.hsp_stream.proofs.OwnHash.{goes_by_own_hash}
 use Rattle.hsp_stream.proofs.PageCosts.{costs_of_page}
+use Rattle.hsp_stream.proofs.TalkEnds.{ends_always}
 use Rattle.hsp_stream.proofs.SpelledPortions.{portion_is, words_none}
 use Rattle.hsp_runs.proofs.ByHash.{accepted_of, certificate_is}
 
@@ -59,7 +56,8 @@ portion_keeps it x portion keeps row site none = ap (λ n. part_of portion n) (k
 -- ---- what is refused
 
 -- a fault that is not the log's, and nothing was read or sent
-refused : (run : Run) (fault : StreamFault) → ((of : RowFault) → fault ≢ Log of) → Refuses fault run → IsRefused run
+pub refused : {S : Type 0} (run : RunOf S) (fault : StreamFault) → ((of : RowFault) → fault ≢ Log of)
+    → Refuses fault run → IsRefused run
 refused run fault apart is = record { untouched = is.0; fault = fault; is = is.1; before = apart }
 
 -- a fault of the inputs is not the log's
@@ -68,7 +66,7 @@ input_none input.OutOfMemory of e = cc (e)
 input_none other of e = cc (e)
 
 -- a fault of the inputs refuses the run
-pub input_refused : (run : Run) (fault : Fault) → Refuses (fault_of_input fault) run → IsRefused run
+pub input_refused : {S : Type 0} (run : RunOf S) (fault : Fault) → Refuses (fault_of_input fault) run → IsRefused run
 input_refused run fault is = refused run (fault_of_input fault) (input_none fault) is
 
 -- words that spell no portion refuse the run
@@ -143,27 +141,11 @@ shown_by_words words portion inputs octets run read (inr shows) = inr (portion, 
 
 -- ---- what is always answered
 
--- a talk stops by a fault of a talk
-stops_always : (costs : List CostEntry) (it : Instance) (x : Plan) (events : List Event) (fault : StreamFault)
-    → StopsBy costs it x events fault → IsOfTalk fault
-stops_always costs it x events (Log ReadFailed) by = tt
-stops_always costs it x events (Log WriteFailed) by = tt
-stops_always costs it x events (Log Header) by = tt
-stops_always costs it x events OutOfMemory by = tt
-stops_always costs it x events (Log other) by = absurd by
-stops_always costs it x events other by = absurd by
-
--- a talk ends well, or by a fault of a talk
-ends_always : (costs : List CostEntry) (it : Instance) (x : Plan) (events : List Event)
-    (answer : Result StreamSums StreamFault) → EndsBy costs it x events answer → IfErr answer IsOfTalk
-ends_always costs it x events (Ok sums) by = tt
-ends_always costs it x events (Err fault) by = stops_always costs it x events fault by
-
 -- so does a run over a log
 log_always : (costs : List CostEntry) (it : Instance) (x : Plan) (run : Run) → EndsLog costs it x run
     → IfErr run.answer IsOfTalk
 log_always costs it x run (inl none) = subst (λ r. IfErr r IsOfTalk) (sym none.1) tt
-log_always costs it x run (inr (events, goes, ends)) = ends_always costs it x events run.answer ends
+log_always costs it x run (inr (events, goes, ends)) = ends_always _ events run.answer ends
 
 -- so does a run by a plan
 claim_always : (portion : Portion) (costs : List CostEntry) (it : Instance) (claim : Claim) (plan : Best) (run : Run)

@@ -14,15 +14,12 @@ use Rattle.hsp_tables.specs.Costs.{CostEntry}
 use Rattle.hsp_instance.specs.Instance.{Instance, IsInstance, Row, has_keys, same_keys}
 use Rattle.hsp_instance.proofs.Lists.{all_at, there}
 use Rattle.hsp_tally.specs.Finding.{Finding, is_of_kind, row_for, row_found}
-use Rattle.hsp_dispatch.specs.Dispatch.{Entry, IsSame, answer_in, rest, row_of}
+use Rattle.hsp_dispatch.specs.Dispatch.{Entry, answer_in, row_of}
 use Rattle.hsp_dispatch.specs.Shares.{Held, IsRestOf, first_answer, left_of, taken_answer}
-use Rattle.hsp_dispatch.proofs.Resting.{rest_none, rest_unknown}
-use Rattle.hsp_stream.specs.Asking.Asked.{bad, query}
-use Rattle.hsp_stream.specs.Saying.{IsAmong, given_of, said_of}
-use Rattle.hsp_stream.specs.Saying.Said.{answered}
+use Rattle.hsp_dispatch.proofs.Resting.{rest_unknown}
+use Rattle.hsp_stream.specs.Saying.{IsAmong, answer_of, given_of}
 use Rattle.hsp_stream.specs.KindAnswers.{IsGiven, KindsHeld, entry_for}
 use Rattle.hsp_stream.specs.declared.given.Given.TheVariants as given
-use Rattle.hsp_stream.specs.declared.row_refusal.RowRefusal.{RowRefusal}
 
 -- ---- the row of an entry
 
@@ -104,36 +101,25 @@ no_entry costs it entry found = rw found (by (position (has_keys entry.region en
 abbrev pub kinds_held : Finding → Held → KindsHeld
 kinds_held finder held = record { costs = finder.costs; held = held }
 
--- with no queries answered, all is left
-nothing_left : (kind_dispatcher : KindsHeld)
-    → IsSame (left_of kind_dispatcher.held) (rest kind_dispatcher.held.instance (left_of kind_dispatcher.held) [])
-nothing_left kind_dispatcher = rest_none kind_dispatcher.held.instance (left_of kind_dispatcher.held)
-
--- a refused row leaves everything as it was
-pub refused_so : (kind_dispatcher : KindsHeld) (refusal : RowRefusal)
-    → IsGiven kind_dispatcher (bad refusal) kind_dispatcher (given.Refused refusal)
-refused_so kind_dispatcher refusal =
-    record { costs = refl; instance = refl; among = tt; said_is = refl; left = nothing_left kind_dispatcher }
-
 -- a query without a row is unknown, and leaves everything as it was
 pub unknown_so : (finder new_finder : Finding) (held : Held) (entry : Entry) → finder.it ≡ held.instance
     → new_finder ≡ finder
     → row_found finder entry.region entry.handle ≡ None
-    → IsGiven (kinds_held finder held) (query entry) (kinds_held new_finder held) given.Unknown
+    → IsGiven (kinds_held finder held) entry (kinds_held new_finder held) given.Unknown
 unknown_so finder new_finder held entry same new found =
     let none = no_entry finder.costs held.instance entry (rw same at found) in
     record {
       costs = ap (λ (f : Finding). f.costs) new;
       instance = refl;
       among = tt;
-      said_is = ap answered (sym (ap (answer_in held.instance (left_of held) []) none));
+      answer = sym (ap (answer_in held.instance (left_of held) []) none);
       left = rest_unknown held.instance (left_of held) (entry_for finder.costs held.instance entry) none;
     }
 
--- what is said of a taken query is its answer
-said_taken : (it : Instance) (taken : Option ℕ) → said_of it (given_of taken) ≡ answered (taken_answer it taken)
-said_taken it None = refl
-said_taken it (Some server) = refl
+-- what is given of a taken query is its answer
+given_taken : (it : Instance) (taken : Option ℕ) → answer_of it (given_of taken) ≡ taken_answer it taken
+given_taken it None = refl
+given_taken it (Some server) = refl
 
 -- the server of a taken query is one that is there
 among_taken : (servers : ℕ) (taken : Option ℕ) → IfSome taken (λ server. server < servers)
@@ -147,15 +133,15 @@ pub taken_so : (finder new_finder : Finding) (held new : Held) (entry : Entry) (
     → new_finder ≡ finder → row_found finder entry.region entry.handle ≡ Some k → new.instance ≡ held.instance
     → taken_answer held.instance taken ≡ first_answer held k
     → IfSome taken (λ server. server < length held.instance.servers) → IsRestOf held k new
-    → IsGiven (kinds_held finder held) (query entry) (kinds_held new_finder new) (given_of taken)
+    → IsGiven (kinds_held finder held) entry (kinds_held new_finder new) (given_of taken)
 taken_so finder new_finder held new entry k taken is same same_finder found instance answer within left =
     let own = entry_row finder.costs held.instance entry k is (rw same at found) in
     record {
       costs = ap (λ (f : Finding). f.costs) same_finder;
       instance = instance;
       among = among_taken (length held.instance.servers) taken within;
-      said_is =
-          said_taken held.instance taken
-          ∙ ap answered (answer ∙ sym (ap (answer_in held.instance (left_of held) []) own));
+      answer =
+          given_taken held.instance taken
+          ∙ answer ∙ sym (ap (answer_in held.instance (left_of held) []) own);
       left = left (entry_for finder.costs held.instance entry) own;
     }

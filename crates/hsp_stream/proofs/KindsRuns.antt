@@ -1,5 +1,5 @@
 -- The run `kinds`, from its files and its log to its text.
-use Rattle.std.proofs.Common.{◌≡◌, ◌∙◌, ℕ, List, Option, Ok, Err, ap, refl, sym}
+use Rattle.std.proofs.Common.{◌≡◌, ℕ, List, Option, Ok, Err, refl, sym}
 use Rattle.std.specs.Prelude.{Result}
 use Rattle.hsp_csv.specs.Records.{Fields}
 use Rattle.hsp_faults.specs.declared.fault.Fault.{Fault}

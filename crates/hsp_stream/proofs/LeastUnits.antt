@@ -1,6 +1,6 @@
 -- The least unit of a table suffices for each of its rows, and no smaller one does.
 use Rattle.std.proofs.Common.{◌≡◌, ◌+◌, ◌-◌, ◌*◌, ◌/◌, ◌<◌, ◌≤◌, ◌↔◌, ℕ, true, false, max, List, [], ◌∷◌, ◌++◌, Ok, Err}
-use Rattle.std.proofs.Common.{IsOk, IsErr, inl, inr, is_err, is_ok, drop, refl, sym, ap, ◌∙◌, Some, arith}
+use Rattle.std.proofs.Common.{IsOk, IsErr, inl, inr, is_ok, drop, refl, sym, ap, ◌∙◌, Some, arith}
 use Rattle.std.proofs.Math.Nat.{div-lt_iff_lt-mul}
 use Rattle.std.proofs.lemmas.Bool.{cases_lt, le-ltb, lt-ltb}
 use Rattle.std.specs.Prelude.{Result, nat_lt}
@@ -8,7 +8,6 @@ use Rattle.std.specs.List.{slice_get}
 use Rattle.hsp_instance.specs.Instance.{Row}
 use Rattle.hsp_instance.proofs.Lists.{drop_at}
 use Rattle.hsp_kinds.specs.Units.{rounded_up}
-use Rattle.hsp_text.specs.Answers.{◌>>=◌}
 use Rattle.hsp_text.specs.declared.limits.TheConstants.{GREATEST_COUNT}
 use Rattle.hsp_stream.specs.KindsLaws.{IsLeastUnit, ReportedUnitIsTheLeast}
 use Rattle.hsp_stream.specs.KindsTable.{in_unit, least_unit, rows_in_units, table_in_units, with_count}

@@ -10,14 +10,15 @@ mod LeastUnits
 mod KindAnswers
 pub mod PlacePrinting
 pub mod PlaceTalks
-mod RowsAnswered
+pub mod InTurn
+mod PlanAnswers
 pub mod Accepting
-mod TalkEnds
+pub mod TalkEnds
 mod TalkFails
 pub mod OwnHash
 pub mod PageCosts
-mod SpelledPortions
-mod AnswersShown
+pub mod SpelledPortions
+pub mod AnswersShown
 mod Machines
 mod PlacesPrinted
 mod OneField

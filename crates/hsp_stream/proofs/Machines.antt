@@ -1,19 +1,14 @@
 -- Machines that answer by the shares of fronts, all together.
-use Rattle.std.proofs.Common.{◌≡◌, ◌∙◌, ◌*◌, ◌<◌, ◌≤◌, ℕ, List, ap, arith, sym}
+use Rattle.std.proofs.Common.{◌≡◌, ◌∙◌, ◌*◌, ◌<◌, ℕ, ap, arith, sym}
 use Rattle.hsp_transport.specs.Sums.{sum_below}
 use Rattle.hsp_transport.proofs.Summing.{sum_below_le}
-use Rattle.hsp_tables.specs.Costs.{CostEntry}
-use Rattle.hsp_instance.specs.Instance.{Instance}
-use Rattle.hsp_check.specs.Plan.{Plan}
 use Rattle.hsp_transport.proofs.Rowwise.{sum_below_times}
 use Rattle.hsp_dispatch.specs.Dispatch.{assigned_in}
 use Rattle.hsp_dispatch.specs.Fronts.{share}
 use Rattle.hsp_dispatch.specs.Portions.{part_of, portion_of}
-use Rattle.hsp_dispatch.specs.declared.portion.Portion.{Portion}
 use Rattle.hsp_dispatch.proofs.Dispatching.{never_exceeds}
 use Rattle.hsp_dispatch.proofs.FrontShares.{shares_add_up}
 use Rattle.hsp_stream.specs.AnswerLaws.{MachinesKeepWithin, portion_at_front}
-use Rattle.hsp_stream.specs.Asking.{Asked}
 use Rattle.hsp_stream.specs.KindAnswers.{entries_in}
 
 -- the portions of all fronts add up to the number in units

@@ -1,6 +1,6 @@
 -- Lines that are written piece by piece.
-use Rattle.std.proofs.Common.{◌≡◌, ◌∙◌, ℕ, ◌+◌, List, [], ◌∷◌, ◌++◌, Option, Some, None, drop, arith, option_map, refl}
-use Rattle.std.proofs.Common.{ap, sym, append_assoc, append-nil}
+use Rattle.std.proofs.Common.{◌≡◌, ◌∙◌, ℕ, ◌+◌, List, [], ◌∷◌, ◌++◌, Option, Some, None, drop, option_map, refl}
+use Rattle.std.proofs.Common.{ap, sym, append_assoc}
 use Rattle.std.specs.List.{slice_get}
 use Rattle.hsp_instance.specs.Instance.{Site}
 use Rattle.hsp_instance.proofs.Lists.{drop_at}

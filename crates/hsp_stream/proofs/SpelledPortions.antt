@@ -60,14 +60,14 @@ unit_is_read (Some word) n is some few =
 -- ---- the number of fronts
 
 -- a word that is read as a number of fronts is its decimal, or there is none
-many_is : (word : Option (List ℕ)) (n : ℕ) → word_or word 1 fronts_at ≡ Ok n
+pub many_is : (word : Option (List ℕ)) (n : ℕ) → word_or word 1 fronts_at ≡ Ok n
     → SpellsOr word 1 n × (1 ≤ n) × (n ≤ MOST_FRONTS)
 many_is None n e = let one : 1 ≡ n = cc (e) in rw (← one) (refl, omega arith, omega arith)
 many_is (Some word) n e =
     count_is MOST_FRONTS word n (omega arith) (given_as (Input BadFronts) (count_at BadFronts MOST_FRONTS word) n e)
 
 -- the decimal of a number of fronts is read as it
-many_is_read : (word : Option (List ℕ)) (n : ℕ) → SpellsOr word 1 n → 1 ≤ n → n ≤ MOST_FRONTS
+pub many_is_read : (word : Option (List ℕ)) (n : ℕ) → SpellsOr word 1 n → 1 ≤ n → n ≤ MOST_FRONTS
     → word_or word 1 fronts_at ≡ Ok n
 many_is_read None n is some few = ap (λ k. Ok k) (sym is)
 many_is_read (Some word) n is some few =
@@ -77,7 +77,7 @@ many_is_read (Some word) n is some few =
 -- ---- the front
 
 -- a word that is read as a front is its decimal, or there is none
-front_is : (fronts : ℕ) (word : Option (List ℕ)) (n : ℕ) → 1 ≤ fronts → word_or word 0 (front_at fronts) ≡ Ok n
+pub front_is : (fronts : ℕ) (word : Option (List ℕ)) (n : ℕ) → 1 ≤ fronts → word_or word 0 (front_at fronts) ≡ Ok n
     → SpellsOr word 0 n × (n < fronts)
 front_is fronts None n some e = let none : 0 ≡ n = cc (e) in rw (← none) (refl, omega (arith, some))
 front_is fronts (Some word) n some e =
@@ -85,7 +85,7 @@ front_is fronts (Some word) n some e =
     ((whole_is MOST_FRONTS word n (omega arith) read.1).0, read.0)
 
 -- the decimal of a front is read as it
-front_is_read : (fronts : ℕ) (word : Option (List ℕ)) (n : ℕ) → SpellsOr word 0 n → n < fronts → fronts ≤ MOST_FRONTS
+pub front_is_read : (fronts : ℕ) (word : Option (List ℕ)) (n : ℕ) → SpellsOr word 0 n → n < fronts → fronts ≤ MOST_FRONTS
     → word_or word 0 (front_at fronts) ≡ Ok n
 front_is_read fronts None n is inside few = ap (λ k. Ok k) (sym is)
 front_is_read fronts (Some word) n is inside few =
@@ -135,25 +135,25 @@ abbrev pub HasNoLog : {X : Type 0} → Result X StreamFault → Type 0
 HasNoLog r = IfErr r (λ fault. (of : RowFault) → fault ≢ Log of)
 
 -- two steps without a fault of the log have none together
-then_none : {X Y : Type 0} (r : Result X StreamFault) (f : X → Result Y StreamFault) → HasNoLog r
+pub then_none : {X Y : Type 0} (r : Result X StreamFault) (f : X → Result Y StreamFault) → HasNoLog r
     → ((x : X) → HasNoLog (f x)) → HasNoLog (r >>= f)
 then_none (Ok x) f first next = next x
 then_none (Err e) f first next = first
 
 -- another fault in place of one is not the log's
-else_none : {X E : Type 0} (fault : StreamFault) (r : Result X E) → ((of : RowFault) → fault ≢ Log of)
+pub else_none : {X E : Type 0} (fault : StreamFault) (r : Result X E) → ((of : RowFault) → fault ≢ Log of)
     → HasNoLog (or_else_fault fault r)
 else_none fault (Ok x) apart = tt
 else_none fault (Err e) apart = apart
 
 -- a word has no fault of the log
-word_none : (word : Option (List ℕ)) (usual : ℕ) (spelled : List ℕ → Result ℕ StreamFault)
+pub word_none : (word : Option (List ℕ)) (usual : ℕ) (spelled : List ℕ → Result ℕ StreamFault)
     → ((octets : List ℕ) → HasNoLog (spelled octets)) → HasNoLog (word_or word usual spelled)
 word_none None usual spelled none = tt
 word_none (Some octets) usual spelled none = none octets
 
 -- a number that is too great has no fault of the log
-below_none : (fronts : ℕ) (r : Result ℕ WholeFault) → HasNoLog (below fronts r)
+pub below_none : (fronts : ℕ) (r : Result ℕ WholeFault) → HasNoLog (below fronts r)
 below_none fronts (Err e) = λ of same. cc (same)
 below_none fronts (Ok n) = by (nat_lt n fronts)
   where

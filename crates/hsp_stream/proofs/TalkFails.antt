@@ -6,8 +6,7 @@ use Rattle.hsp_talk.specs.Stopping.{IsFailedWrite as HasFailedWrite}
 use Rattle.hsp_talk.specs.declared.stop.Stop.{Stop}
 use Rattle.hsp_talk.specs.declared.stop.Stop.TheVariants as stop
 use Rattle.hsp_stream.specs.TalkFaults.{IsFailedWrite, MayStopBy, fault_of}
-use Rattle.hsp_stream.specs.declared.answerer.NoHeader.{NoHeader}
-use Rattle.hsp_stream.specs.declared.given.StreamSums.{StreamSums}
+use Rattle.hsp_stream.specs.declared.asking.NoHeader.{NoHeader}
 
 -- a stop is of what may fail
 pub stop_may : (MayReadFail MaySendFail : Type 0) (old new : Known) (why : Stop NoHeader)
@@ -23,9 +22,9 @@ kept B (inl a) = inl a
 kept B (inr none) = absurd none
 
 -- a talk that stopped handed on all, or a write failed
-pub stop_hands : (old new : Known) (why : Stop NoHeader) → IsHandedOn old new ⊎ HasFailedWrite {X = Unit {0}} (Err why)
-    → IsHandedOn old new ⊎ IsFailedWrite {X = StreamSums} (Err (fault_of why))
-stop_hands old new stop.ReadFailed handed = kept ⊥ handed
-stop_hands old new stop.WriteFailed handed = handed
-stop_hands old new stop.OutOfMemory handed = kept ⊥ handed
-stop_hands old new (stop.Fault none) handed = kept ⊥ handed
+pub stop_hands : (S : Type 0) (old new : Known) (why : Stop NoHeader) → IsHandedOn old new ⊎ HasFailedWrite {X = Unit {0}} (Err why)
+    → IsHandedOn old new ⊎ IsFailedWrite {X = S} (Err (fault_of why))
+stop_hands S old new stop.ReadFailed handed = kept ⊥ handed
+stop_hands S old new stop.WriteFailed handed = handed
+stop_hands S old new stop.OutOfMemory handed = kept ⊥ handed
+stop_hands S old new (stop.Fault none) handed = kept ⊥ handed

@@ -16,30 +16,38 @@ use Rattle.hsp_runs.specs.declared.accepted.Accepted.{Accepted}
 use Rattle.hsp_headline.specs.declared.inputs.Inputs.{Inputs}
 use Rattle.hsp_talk.specs.Known.{Known, Went}
 use Rattle.hsp_stream.specs.AnswerTalk.{EndsBy}
+use Rattle.hsp_stream.specs.Answering.{AnswersRows}
 use Rattle.hsp_stream.specs.Faults.{fault_of_input}
+use Rattle.hsp_stream.specs.KindAnswers.{ByPlan}
 use Rattle.hsp_stream.specs.Words.{portion_at}
 use Rattle.hsp_stream.specs.declared.fault.StreamFault.{StreamFault}
 use Rattle.hsp_stream.specs.declared.fault.StreamFault.TheVariants.{Input, OutOfMemory}
 use Rattle.hsp_stream.specs.declared.given.StreamSums.{StreamSums}
 use Rattle.hsp_stream.specs.declared.portions.PortionWords.{PortionWords}
 
--- what is known of a peer before a run and after it, and what the run returns
-pub record Run : Type 0 where
+-- what is known of a peer before a run and after it, and what the run returns: sums, or a fault
+pub record RunOf (S : Type 0) : Type 0 where
   pub before : Known
   pub after : Known
-  pub answer : Result StreamSums StreamFault
+  pub answer : Result S StreamFault
 
-abbrev pub run_of : Known → Known → Result StreamSums StreamFault → Run
+abbrev pub Run : Type 0
+Run = RunOf StreamSums
+
+abbrev pub run_of : {S : Type 0} → Known → Known → Result S StreamFault → RunOf S
 run_of before after answer = record { before = before; after = after; answer = answer }
 
 -- there is a fault before the log: nothing was read or sent
-abbrev pub Refuses : StreamFault → Run → Type 0
+abbrev pub Refuses : {S : Type 0} → StreamFault → RunOf S → Type 0
 Refuses fault run = (run.after ≡ run.before) × (run.answer ≡ Err fault)
 
--- the log is answered by a plan, or memory ran out before it was read
+-- the log is answered, or memory ran out before it was read
+abbrev pub EndsTalk : {S : Type 0} → AnswersRows S → RunOf S → Type 0
+EndsTalk By run = Refuses OutOfMemory run ⊎ Went run.before run.after (λ events. EndsBy By events run.answer)
+
+-- the same by a plan
 abbrev pub EndsLog : List CostEntry → Instance → Plan → Run → Type 0
-EndsLog costs it x run =
-    Refuses OutOfMemory run ⊎ Went run.before run.after (λ events. EndsBy costs it x events run.answer)
+EndsLog costs it x run = EndsTalk (ByPlan costs it x) run
 
 -- the log is answered by a portion of a plan, and not by a shortage
 abbrev pub AnswersAs : Portion → List CostEntry → Instance → Claim → Run → Type 0

@@ -16,10 +16,10 @@ use Rattle.hsp_headline.specs.Shown.{Spells}
 use Rattle.hsp_headline.specs.declared.inputs.Inputs.{Inputs}
 use Rattle.hsp_runs.specs.Logs.{ShowsPlanOf}
 use Rattle.hsp_talk.specs.Known.{Went}
-use Rattle.hsp_stream.specs.AnswerRun.{Run}
+use Rattle.hsp_stream.specs.AnswerRun.{Run, RunOf}
 use Rattle.hsp_stream.specs.AnswerTalk.{EndsBy}
 use Rattle.hsp_stream.specs.Asking.{Asked}
-use Rattle.hsp_stream.specs.KindAnswers.{entries_in, entry_for}
+use Rattle.hsp_stream.specs.KindAnswers.{ByPlan, entries_in, entry_for}
 use Rattle.hsp_stream.specs.Words.{IsPortion}
 use Rattle.hsp_stream.specs.declared.fault.RowFault.{RowFault}
 use Rattle.hsp_stream.specs.declared.fault.RowFault.TheVariants.{Header, ReadFailed, WriteFailed}
@@ -52,14 +52,14 @@ pub record SpellsPortion (words : PortionWords) (portion : Portion) : Type 0 whe
 pub record IsTalkOf (inputs : Inputs) (portion : Portion) (run : Run) (it : Instance) (x : Plan) : Type 0 where
   pub costs : List CostEntry
   pub are_costs : AreCosts it.sites inputs.costs.items costs
-  pub answered : Went run.before run.after (λ events. EndsBy costs it (portion_of portion x) events run.answer)
+  pub answered : Went run.before run.after (λ events. EndsBy (ByPlan costs it (portion_of portion x)) events run.answer)
   pub within : (asked : List Asked) (row site : ℕ)
       → assigned_in it (portion_of portion x) (entries_in costs it asked) row site ≤ portion.unit * x row site
   pub by_hash : (earlier : List Entry) (entry : Entry)
       → IsByHash it entry (answer_to it (portion_of portion x) earlier (entry_for costs it entry))
 
 -- there is a fault that is not the log's, and nothing was read or sent
-pub record IsRefused (run : Run) : Type 0 where
+pub record IsRefused {S : Type 0} (run : RunOf S) : Type 0 where
   pub untouched : run.after ≡ run.before
   pub fault : StreamFault
   pub is : run.answer ≡ Err fault

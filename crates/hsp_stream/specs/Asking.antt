@@ -1,14 +1,20 @@
 -- What the rows of a log ask: a header in front, and behind it one query a row.
-use Rattle.std.specs.Prelude.{◌≡◌, ◌≤◌, ◌<◌, ◌⊎◌, ℕ, List, [], ◌∷◌, length, Option, None, Some, Result, Ok, Err}
+use Rattle.std.specs.Prelude.{◌≡◌, ◌≤◌, ◌<◌, ◌⊎◌, Bool, false, true, ℕ, List, [], ◌∷◌, length, Option, None, Some}
+use Rattle.std.specs.Prelude.{Result, Ok, Err}
 use Rattle.csv.specs.Reading.{strip_bom}
 use Rattle.hsp_names.specs.Handle.{handle_in}
 use Rattle.hsp_names.specs.declared.fault.HandleFault.{HandleFault}
 use Rattle.hsp_dispatch.specs.Dispatch.{Entry}
 use Rattle.hsp_dispatch.specs.Log.{Gives, header_of}
+use Rattle.hsp_dispatch.specs.Shares.{query as query_for}
 use Rattle.hsp_dispatch.specs.declared.form.Form.{Form}
+use Rattle.hsp_record.specs.Fields.{Means}
+use Rattle.hsp_record.specs.Request.{RequestBody, request_format}
 use Rattle.hsp_csv.specs.Row.{Shape, row_of}
 use Rattle.hsp_csv.specs.Row.Shape.{blank, one, two, other}
 use Rattle.hsp_talk.specs.declared.limits.TheConstants.{LONGEST_ROW}
+use Rattle.hsp_stream.specs.declared.asking.AskedRow.{AskedRow}
+use Rattle.hsp_stream.specs.declared.asking.AskedRow.TheVariants as lent
 use Rattle.hsp_stream.specs.declared.row_refusal.RowRefusal.{RowRefusal}
 use Rattle.hsp_stream.specs.declared.row_refusal.RowRefusal.TheVariants.{BadBody, BadHandle, Fields, TooLong}
 
@@ -18,10 +24,35 @@ pub data Asked : Type 0 where
   query : Entry → Asked
   bad : RowRefusal → Asked
 
+-- what a lent row asks
+abbrev pub asked_of : AskedRow → Asked
+asked_of lent.Nothing = nothing
+asked_of (lent.Query region handle) = query (query_for region.now handle)
+asked_of (lent.Refused refusal) = bad refusal
+
+-- the queries of what is asked
+abbrev pub queries_in : List Asked → List Entry
+queries_in [] = []
+queries_in (nothing ∷ more) = queries_in more
+queries_in (query entry ∷ more) = entry ∷ queries_in more
+queries_in (bad refusal ∷ more) = queries_in more
+
+abbrev pub is_refused : Asked → Bool
+is_refused nothing = false
+is_refused (query entry) = false
+is_refused (bad refusal) = true
+
 -- what a region asks with octets that may be a handle
 abbrev pub asked_with : List ℕ → Result (List ℕ) HandleFault → Asked
 asked_with region (Ok handle) = query (record { region = region; handle = handle })
 asked_with region (Err fault) = bad (BadHandle fault)
+
+-- what a region asks with octets that may be the body of a resolution request
+abbrev pub AsksByBody : List ℕ → List ℕ → Asked → Type 0
+AsksByBody region body asked =
+    ((request : RequestBody) × Means request_format body (Ok request)
+    × (asked ≡ asked_with region (handle_in request.handle)))
+    ⊎ (((request : RequestBody) → Means request_format body (Ok request) → ⊥) × (asked ≡ bad BadBody))
 
 -- what a region asks with a field that gives the octets of a handle, or gives none
 abbrev pub AsksByField : Form → List ℕ → List ℕ → Asked → Type 0

@@ -1,3 +1,4 @@
+pub mod PriceReasons
 pub mod Faults
 pub mod Lines
 pub mod KindsFiles
@@ -9,6 +10,7 @@ pub mod KindsTable
 pub mod LogTables
 pub mod Asking
 pub mod Saying
+pub mod Answering
 pub mod KindAnswers
 pub mod PlaceLines
 pub mod Places

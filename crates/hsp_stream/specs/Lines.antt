@@ -1,6 +1,7 @@
 -- What hsplan-stream prints of faults and sums, and its statuses.
 use Rattle.std.specs.Prelude.{◌++◌, ◌∷◌, [], ℕ, List, codes, decimal}
 use Rattle.hsp_faults.specs.FaultText as input
+use Rattle.hsp_stream.specs.PriceReasons.{reason_word}
 use Rattle.hsp_stream.specs.declared.fault.RowFault.{RowFault}
 use Rattle.hsp_stream.specs.declared.fault.RowFault.TheVariants as row
 use Rattle.hsp_stream.specs.declared.fault.StreamFault.{StreamFault}
@@ -32,6 +33,7 @@ abbrev pub fault_words : StreamFault → List ℕ
 fault_words fault.BadUnit = codes "BadUnit"
 fault_words fault.BadFront = codes "BadFront"
 fault_words (fault.Input e) = input.fault_words e
+fault_words (fault.Refused reason) = codes "check: " ++ reason_word reason
 fault_words (fault.Log e) = codes "log: " ++ row_words e
 fault_words fault.OutOfMemory = codes "OutOfMemory"
 
@@ -51,11 +53,12 @@ row_status (row.TooManyRegions number) = 1
 row_status (row.TooManyKinds number) = 1
 row_status (row.CountTooLarge number unit) = 1
 
--- 4 where memory runs out, that of hsplan for a refused file
+-- 4 where memory runs out, that of hsplan for a refused file, and 3 for prices that don't fit
 abbrev pub status_in : StreamFault → ℕ
 status_in fault.BadUnit = 1
 status_in fault.BadFront = 1
 status_in (fault.Input e) = input.status_in e
+status_in (fault.Refused reason) = 3
 status_in (fault.Log e) = row_status e
 status_in fault.OutOfMemory = 4
 

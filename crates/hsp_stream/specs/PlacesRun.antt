@@ -51,3 +51,4 @@ ArePlacedUntil settings values old new fault.OutOfMemory =
     ⊎ ((sites : List Site) × AreSitesIn settings values (Ok sites) × Went old new (HasStopped sites stop.OutOfMemory))
 ArePlacedUntil settings values old new fault.BadUnit = ⊥
 ArePlacedUntil settings values old new fault.BadFront = ⊥
+ArePlacedUntil settings values old new (fault.Refused reason) = ⊥

@@ -1,5 +1,5 @@
 -- The rows of the logs of `kinds` and `places`, read by themselves.
-use Rattle.std.specs.Prelude.{ℕ, List, [], ◌∷◌, Bool, Option, Some, None, Result, Ok, Err, codes}
+use Rattle.std.specs.Prelude.{ℕ, [], ◌∷◌, Bool, Option, Some, None, Result, Ok, Err, codes}
 use Rattle.hsp_csv.specs.Header.{same_fields}
 use Rattle.hsp_csv.specs.Records.{Fields}
 use Rattle.hsp_names.specs.Handle.{handle_in}

@@ -4,7 +4,7 @@ use Rattle.hsp_talk.specs.Known.{Known, Went}
 use Rattle.hsp_talk.specs.Stopping.{HasReadAll}
 use Rattle.hsp_talk.specs.declared.stop.Stop.{Stop}
 use Rattle.hsp_talk.specs.declared.stop.Stop.TheVariants as stop
-use Rattle.hsp_stream.specs.declared.answerer.NoHeader.{NoHeader}
+use Rattle.hsp_stream.specs.declared.asking.NoHeader.{NoHeader}
 use Rattle.hsp_stream.specs.declared.fault.RowFault.{RowFault}
 use Rattle.hsp_stream.specs.declared.fault.RowFault.TheVariants.{Header, ReadFailed, WriteFailed}
 use Rattle.hsp_stream.specs.declared.fault.StreamFault.{StreamFault}

@@ -16,6 +16,7 @@ ghost use Rattle.hsp_stream.specs.Words.{IsPortion};
 use crate::answerer::Answerer;
 use crate::fault::StreamFault;
 use crate::given::StreamSums;
+use crate::kind_dispatcher::PlanDispatcher;
 use crate::portions::{PortionWords, portion_in};
 use crate::speaking::answer_rows;
 use hsp_dispatch::{Dispatcher, Portion};
@@ -48,7 +49,8 @@ fn answer_portion<P: Peer>(
         &accepted.certificate,
         portion,
     )?;
-    let mut responder = Answerer::new(alloc, costs, dispatcher)?;
+    let by_kinds = PlanDispatcher::new(alloc, costs, dispatcher)?;
+    let mut responder = Answerer::new(alloc, by_kinds);
     answer_rows(alloc, &mut responder, peer)
 }
 

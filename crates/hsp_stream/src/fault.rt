@@ -4,6 +4,7 @@ ghost use Rattle.std.specs.Prelude.{◌≡◌};
 ghost use Rattle.hsp_stream.specs.Faults.{fault_of_input};
 ghost use Rattle.hsp_stream.specs.declared.fault.StreamFault.TheVariants.{OutOfMemory};
 
+use hsp_classes::PriceReason;
 use hsp_faults::Fault;
 use hsp_names::HandleFault;
 use std::alloc::AllocError;
@@ -47,6 +48,9 @@ pub enum StreamFault {
     /// A file or the number of fronts is refused, as the runs of `hsplan` refuse it.
     #[error("{0}")]
     Input(Fault),
+    /// The certificate by prices doesn't fit the service.
+    #[error("check: {0:?}")]
+    Refused(PriceReason),
     /// The run over the log stopped.
     #[error("log: {0:?}")]
     Log(RowFault),

@@ -5,6 +5,7 @@ ghost use Rattle.hsp_stream.specs.declared.fault.RowFault.TheVariants as row_fau
 ghost use Rattle.hsp_stream.specs.Lines.{fault_text, fault_words, numbered, row_words, row_status, status_in};
 
 use crate::fault::{RowFault, StreamFault};
+use crate::price_reason::price_reason_word;
 use hsp_faults::{handle_words, push_fault as push_input_fault, status_of};
 use hsp_names::HandleFault;
 use hsp_text::push_whole;
@@ -71,6 +72,10 @@ pub fn push_fault_words(out: &mut Vec<u8>, fault: &StreamFault) -> Result<(), Al
         StreamFault::BadUnit => out.extend_from_slice(b"BadUnit"),
         StreamFault::BadFront => out.extend_from_slice(b"BadFront"),
         StreamFault::Input(inner) => push_input_fault(out, inner),
+        StreamFault::Refused(reason) => {
+            out.extend_from_slice(b"check: ")?;
+            out.extend_from_slice(price_reason_word(*reason))
+        }
         StreamFault::Log(inner) => {
             out.extend_from_slice(b"log: ")?;
             push_row_fault(out, inner)
@@ -109,13 +114,14 @@ fn row_status(fault: &RowFault) -> u8
 }
 
 /// The status that the program ends with at a fault: 5 for a log that can't be read to its end and for answers that
-/// can't be written, 4 where memory runs out, that of `hsplan` for a refused file, and otherwise 1.
+/// can't be written, 4 where memory runs out, that of `hsplan` for a refused file, 3 for prices that don't fit, and otherwise 1.
 pub fn stream_status(fault: &StreamFault) -> u8
     ensures { result ≡ status_in fault.now }
 {
     match fault {
         StreamFault::BadUnit | StreamFault::BadFront => 1,
         StreamFault::Input(inner) => status_of(inner),
+        StreamFault::Refused(_) => 3,
         StreamFault::Log(inner) => row_status(inner),
         StreamFault::OutOfMemory => 4,
     }

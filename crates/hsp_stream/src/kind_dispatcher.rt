@@ -1,31 +1,23 @@
 // A dispatcher of the queries of rows, by the rows of their kinds and by what is left of a plan.
 
-ghost use Rattle.std.specs.Prelude.{◌≡◌, ◌≤◌, IfOk};
-ghost use Rattle.hsp_names.specs.Handle.{handle_in};
-ghost use Rattle.hsp_names.specs.Lent.{octets_of};
+ghost use Rattle.std.specs.Prelude.{◌≡◌, IfOk};
 ghost use Rattle.hsp_dispatch.specs.Shares.{query};
-ghost use Rattle.hsp_csv.specs.Row.{row_shown};
-ghost use Rattle.hsp_stream.specs.Asking.{Asked, Asks, AsksByField, AsksByFields, asked_with};
-ghost use Rattle.hsp_stream.specs.Asking.Asked.{query as asked_for};
-ghost use Rattle.hsp_stream.specs.KindAnswers.{IsGiven};
-ghost use Rattle.hsp_dispatch.specs.declared.form.Form.TheVariants.{Bodies};
+ghost use Rattle.hsp_stream.specs.KindAnswers.{IsGiven, TakesByKind, plan_sums};
+ghost use Rattle.hsp_stream.specs.Saying.{none_said};
 
-use crate::bodies::{octets_in, request_in};
-use crate::given::{Given, given_by};
-use crate::row_refusal::RowRefusal;
-use hsp_csv::{RowFields, RowReader};
-use hsp_dispatch::{Dispatcher, Form};
+use crate::given::{Given, StreamSums, given_by, push_given};
+use crate::query_dispatcher::QueryDispatcher;
+use hsp_dispatch::{Dispatcher, ServerLines};
 use hsp_instance::Instance;
 use hsp_names::HandleRef;
 use hsp_tables::Costs;
-use hsp_talk::LONGEST_ROW;
 use hsp_tally::RowFinder;
 use std::alloc::{AllocError, Global};
 use std::marker::Model;
 
-/// A dispatcher by kinds: it answers each query by the row of its kind, and by what is left of a plan for this row.
+// A dispatcher by kinds: it answers each query by the row of its kind, and by what is left of a plan for this row.
 #[derive(Drop)]
-pub(crate) struct KindDispatcher<'a> {
+struct KindDispatcher<'a> {
     finder: RowFinder<'a>,
     dispatcher: Dispatcher<'a>,
 }
@@ -44,8 +36,8 @@ impl<'a> Model for KindDispatcher<'a> {
 }
 
 impl<'a> KindDispatcher<'a> {
-    /// A dispatcher by kinds, over what the dispatcher holds. The costs distinguish kinds.
-    pub(crate) fn new(
+    // A dispatcher by kinds, over what the dispatcher holds. The costs distinguish kinds.
+    fn new(
         alloc: Global,
         costs: &'a Costs,
         dispatcher: Dispatcher<'a>,
@@ -65,7 +57,7 @@ impl<'a> KindDispatcher<'a> {
         handle: HandleRef<'_>,
     ) -> Result<Given, AllocError>
         ensures given { IfOk result
-            (IsGiven self.old (asked_for (query region.now handle.entry)) self.new) }
+            (IsGiven self.old (query region.now handle.entry) self.new) }
         ensures instance { self.new.held.instance ≡ self.old.held.instance }
     {
         let Some(row) = self.finder.find(alloc, region, handle)? else {
@@ -73,99 +65,70 @@ impl<'a> KindDispatcher<'a> {
         };
         Ok(given_by(self.dispatcher.take(row)))
     }
+}
 
-    // Answers a query for what may be a handle.
-    fn answer_octets(
+/// A dispatcher by kinds, with the lines of servers and the sums of its answers.
+#[derive(Drop)]
+pub(crate) struct PlanDispatcher<'a> {
+    kinds: KindDispatcher<'a>,
+    lines: ServerLines,
+    sums: StreamSums,
+}
+
+impl<'a> Model for PlanDispatcher<'a> {
+    ghost use Rattle.std.specs.Prelude.{◌≡◌};
+    ghost use Rattle.hsp_dispatch.specs.Lines.{lines_of};
+    ghost use Rattle.hsp_stream.specs.KindAnswers.{PlanHeld};
+
+    ghost Value = { PlanHeld };
+
+    ghost view = { λ d. record { kinds = d.kinds; sums = d.sums } };
+
+    ghost invariant = { λ d. d.lines ≡ lines_of d.kinds.held.instance };
+}
+
+impl<'a> PlanDispatcher<'a> {
+    /// One that has answered nothing, and answers by what the dispatcher holds. The costs distinguish kinds.
+    pub(crate) fn new(
+        alloc: Global,
+        costs: &'a Costs,
+        dispatcher: Dispatcher<'a>,
+    ) -> Result<PlanDispatcher<'a>, AllocError>
+        ensures { IfOk result (λ own. own ≡ record {
+          kinds = record { costs = costs.now; held = dispatcher.entry };
+          sums = none_said;
+        }) }
+    {
+        let lines = ServerLines::of(alloc, dispatcher.instance())?;
+        let kinds = KindDispatcher::new(alloc, costs, dispatcher)?;
+        Ok(PlanDispatcher {
+            kinds,
+            lines,
+            sums: StreamSums::none(),
+        })
+    }
+}
+
+impl<'a> QueryDispatcher for PlanDispatcher<'a> {
+    type Sums = StreamSums;
+
+    ghost Takes = { TakesByKind };
+
+    ghost sums_of = { plan_sums };
+
+    fn take_query(
         &mut self,
         alloc: Global,
         region: &[u8],
-        octets: &[u8],
-    ) -> Result<Given, AllocError>
-        ensures given { IfOk result
-            (IsGiven self.old (asked_with region.now (handle_in octets.now)) self.new) }
-        ensures instance { self.new.held.instance ≡ self.old.held.instance }
-    {
-        match HandleRef::parse(octets) {
-            Ok(handle) => self.answer(alloc, region, handle),
-            Err(fault) => Ok(Given::Refused(RowRefusal::BadHandle(fault))),
-        }
+        handle: HandleRef<'_>,
+        line: &mut Vec<u8>,
+    ) -> Result<(), AllocError> {
+        let given = self.kinds.answer(alloc, region, handle)?;
+        self.sums.count(given);
+        push_given(line, &self.lines, given)
     }
 
-    // Answers a query by the body of a resolution request.
-    fn answer_body(
-        &mut self,
-        alloc: Global,
-        region: &[u8],
-        digits: &[u8],
-    ) -> Result<Given, AllocError>
-        ensures given { IfOk result (λ given. (asked : Asked)
-            × AsksByField Bodies region.now digits.now asked
-            × IsGiven self.old asked self.new given) }
-        ensures instance { self.new.held.instance ≡ self.old.held.instance }
-    {
-        let Some(octets) = octets_in(alloc, digits)? else {
-            return Ok(Given::Refused(RowRefusal::BadBody));
-        };
-        match request_in(&octets) {
-            Some(request) => self.answer_octets(alloc, region, request.handle()),
-            None => Ok(Given::Refused(RowRefusal::BadBody)),
-        }
-    }
-
-    // Answers a row of two fields.
-    fn answer_field(
-        &mut self,
-        alloc: Global,
-        form: Form,
-        region: &[u8],
-        field: &[u8],
-    ) -> Result<Given, AllocError>
-        ensures given { IfOk result (λ given. (asked : Asked)
-            × AsksByField form region.now field.now asked
-            × IsGiven self.old asked self.new given) }
-        ensures instance { self.new.held.instance ≡ self.old.held.instance }
-    {
-        match form {
-            Form::Handles => self.answer_octets(alloc, region, field),
-            Form::Bodies => self.answer_body(alloc, region, field),
-        }
-    }
-
-    // Answers a row by its fields.
-    fn answer_fields(
-        &mut self,
-        alloc: Global,
-        form: Form,
-        fields: RowFields<'_>,
-    ) -> Result<Given, AllocError>
-        ensures given { IfOk result (λ given. (asked : Asked)
-            × AsksByFields form (row_shown fields.entry) asked
-            × IsGiven self.old asked self.new given) }
-        ensures instance { self.new.held.instance ≡ self.old.held.instance }
-    {
-        match fields {
-            RowFields::Blank => Ok(Given::Nothing),
-            RowFields::Two(region, field) => self.answer_field(alloc, form, region, field),
-            RowFields::One(_) | RowFields::Other => Ok(Given::Refused(RowRefusal::Fields)),
-        }
-    }
-
-    /// Answers a row behind the header.
-    pub(crate) fn answer_row(
-        &mut self,
-        alloc: Global,
-        reader: &mut RowReader,
-        form: Form,
-        row: &[u8],
-    ) -> Result<Given, AllocError>
-        ensures given { IfOk result (λ given. (asked : Asked)
-            × Asks form row.now asked × IsGiven self.old asked self.new given) }
-        ensures instance { self.new.held.instance ≡ self.old.held.instance }
-    {
-        if row.len() > LONGEST_ROW {
-            return Ok(Given::Refused(RowRefusal::TooLong));
-        }
-        let fields = reader.read(alloc, row)?;
-        self.answer_fields(alloc, form, fields)
+    fn sums(&self, refused: u64) -> StreamSums {
+        self.sums.with_refused(refused)
     }
 }

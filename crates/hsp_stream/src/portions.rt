@@ -38,8 +38,9 @@ pub(crate) fn unit_at(word: Option<&[u8]>) -> Result<u32, StreamFault>
     }
 }
 
-// The number of fronts that a word spells, or 1 where there is no word.
-fn fronts_at(word: Option<&[u8]>) -> Result<u32, StreamFault>
+/// The number of fronts that a word spells, or 1 where there is no word. A word that spells none is
+/// `Input(BadFronts)`.
+pub fn fronts_at(word: Option<&[u8]>) -> Result<u32, StreamFault>
     ensures given { Gives (λ fronts. fronts) result
         (word_or (option_map (λ w. w.now) word.entry) 1 fronts_at) }
     ensures some { IfOk result (λ fronts. 1 ≤ fronts) }
@@ -53,8 +54,9 @@ fn fronts_at(word: Option<&[u8]>) -> Result<u32, StreamFault>
     }
 }
 
-// The number of a front that a word spells, or 0 where there is no word.
-fn front_at(word: Option<&[u8]>, fronts: u32) -> Result<u32, StreamFault>
+/// The number of a front that a word spells, or 0 where there is no word. A word that spells no number below `fronts`
+/// is `BadFront`.
+pub fn front_at(word: Option<&[u8]>, fronts: u32) -> Result<u32, StreamFault>
     requires { 1 ≤ fronts }
     ensures given { Gives (λ front. front) result
         (word_or (option_map (λ w. w.now) word.entry) 0 (front_at fronts)) }

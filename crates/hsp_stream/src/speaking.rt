@@ -1,15 +1,15 @@
 // A talk in which the rows of a log are answered.
 
 ghost use Rattle.std.specs.Prelude.{◌≡◌, ◌≢◌, ◌⊎◌, IfErr, None};
-ghost use Rattle.hsp_dispatch.specs.Shares.{left_of};
 ghost use Rattle.hsp_talk.specs.Known.{IsHandedOn, Went};
 ghost use Rattle.hsp_stream.specs.AnswerTalk.{EndsBy};
+ghost use Rattle.hsp_stream.specs.Answering.{InTurn};
 ghost use Rattle.hsp_stream.specs.TalkFaults.{IsBeforeLog, IsFailedWrite, MayStopBy, fault_of};
-ghost use Rattle.hsp_stream.specs.Saying.{none_said};
 
-use crate::answerer::{Answerer, NoHeader};
+use crate::answerer::Answerer;
+use crate::asking::NoHeader;
 use crate::fault::{RowFault, StreamFault};
-use crate::given::StreamSums;
+use crate::query_dispatcher::QueryDispatcher;
 use hsp_talk::{Peer, Stop, talk};
 use std::alloc::Global;
 
@@ -26,16 +26,17 @@ fn fault_of(stop: Stop<NoHeader>) -> StreamFault
 }
 
 /// Answers the rows that a peer asks by, until no more come, by a responder that has taken no row.
-pub(crate) fn answer_rows<P: Peer>(
+///
+/// Faults: `Log` with `Header`, `ReadFailed` or `WriteFailed`, when the rows before it were answered; `OutOfMemory`.
+pub fn answer_rows<D: QueryDispatcher, P: Peer>(
     alloc: Global,
-    responder: &mut Answerer<'_>,
+    responder: &mut Answerer<D>,
     peer: &mut P,
-) -> Result<StreamSums, StreamFault>
+) -> Result<D::Sums, StreamFault>
     requires form { responder.old.form ≡ None }
-    requires sums { responder.old.sums ≡ none_said }
+    requires refused { responder.old.refused ≡ 0 }
     ensures answered { Went (P.known peer.old) (P.known peer.new) (λ events.
-        EndsBy responder.old.kind_dispatcher.costs responder.old.kind_dispatcher.held.instance
-        (left_of responder.old.kind_dispatcher.held) events result) }
+        EndsBy (InTurn D.Takes D.sums_of responder.old.dispatcher) events result) }
     ensures log { IfErr result (λ e. IsBeforeLog e → ⊥) }
     ensures handed { IsHandedOn (P.known peer.old) (P.known peer.new) ⊎ IsFailedWrite result }
     ensures may_stop { IfErr result (MayStopBy (P.may_read_fail peer.old) P.may_send_fail

@@ -12,16 +12,25 @@ use Rattle.hsp_headline.specs.declared.inputs.Inputs.{Inputs}
 use Rattle.hsp_tables.specs.Costs.{CostEntry}
 use Rattle.hsp_talk.specs.Known.{Known}
 use Rattle.hsp_talk.specs.Known.{IsHandedOn as IsKnownHanded}
-use Rattle.hsp_stream.specs.AnswerRun.{AnswersAs, AnswersPortion, AnswersWhere, Refuses, Run}
-use Rattle.hsp_stream.specs.PlacesRun.{ArePlacedUntil}
+use Rattle.hsp_kinds.specs.Rows.{Service}
+use Rattle.hsp_dispatch.specs.declared.front_share.Front.{Front}
+use Rattle.hsp_price_text.specs.declared.certificate.PriceCertificate.{PriceCertificate}
+use Rattle.hsp_price_text.specs.declared.certificate.PriceCertificate.TheVariants as prices
+use Rattle.hsp_price_answers.specs.FrontWords.{front_spelled}
+use Rattle.hsp_price_answers.specs.PriceAnswerRun.{AnswersClaim, AnswersFront, AnswersInstance, AnswersReading}
+use Rattle.hsp_price_answers.specs.PriceAnswerRun.{AnswersText, IsPriceAnswered, PriceRun}
+use Rattle.hsp_price_answers.specs.declared.front_words.FrontChoice.{FrontChoice}
+use Rattle.hsp_stream.specs.Answering.{AnswersRows}
+use Rattle.hsp_stream.specs.AnswerRun.{AnswersAs, AnswersPortion, AnswersWhere, EndsTalk, IsAnswered, Refuses, Run}
+use Rattle.hsp_stream.specs.AnswerRun.{RunOf}
+use Rattle.hsp_stream.specs.PlacesRun.{ArePlaced, ArePlacedUntil}
 use Rattle.hsp_stream.specs.Words.{portion_at}
 use Rattle.hsp_stream.specs.declared.fault.RowFault.TheVariants as row
 use Rattle.hsp_stream.specs.declared.fault.StreamFault.{StreamFault}
 use Rattle.hsp_stream.specs.declared.fault.StreamFault.TheVariants as fault
 use Rattle.hsp_stream.specs.declared.portions.PortionWords.{PortionWords}
 use Rattle.hsp_stream_cli.specs.Printing.{Ended, IsFailedWrite, IsHandedOn}
-use Rattle.hsp_stream_cli.specs.Talking.{EndsAnswers, EndsPlaces, MayEnd, TalksOver}
-use Rattle.hsp_stream_cli.specs.declared.files.Sources.{Sources}
+use Rattle.hsp_stream_cli.specs.Talking.{MayEnd, TalksOver}
 
 abbrev IsKept : Known → Known → Type 0
 IsKept old new = new.lent ≡ old.lent
@@ -33,37 +42,39 @@ as_it_was old new same = ap (λ (k : Known). k.lent) same
 -- ---- places
 
 -- places that were stated up to a fault keep the peer
-until : (settings : List ℕ) (values : Option (List ℕ)) (old new : Known) (by : StreamFault)
+pub until_keep : (settings : List ℕ) (values : Option (List ℕ)) (old new : Known) (by : StreamFault)
     → ArePlacedUntil settings values old new by → IsKept old new
-until settings values old new (fault.Input e) (read, same) = as_it_was old new same
-until settings values old new (fault.Log e) (sites, read, (events, goes, so)) = goes.same
-until settings values old new fault.OutOfMemory so = elim so [
+until_keep settings values old new (fault.Input e) (read, same) = as_it_was old new same
+until_keep settings values old new (fault.Log e) (sites, read, (events, goes, so)) = goes.same
+until_keep settings values old new fault.OutOfMemory so = elim so [
   | inl same ↦ as_it_was old new same
   | inr rest ↦ let (sites, read, (events, goes, stopped)) = rest in goes.same
 ]
-until settings values old new fault.BadUnit so = absurd so
-until settings values old new fault.BadFront so = absurd so
+until_keep settings values old new (fault.Refused reason) so = absurd so
+until_keep settings values old new fault.BadUnit so = absurd so
+until_keep settings values old new fault.BadFront so = absurd so
 
--- places that were stated keep the peer
-pub places_keep : (sources : Sources) (ended : Ended) (old new : Known) → EndsPlaces sources ended old new
+-- places that were stated to the end keep the peer
+pub placed_keep : (settings : List ℕ) (values : Option (List ℕ)) (old new : Known) → ArePlaced settings values old new
     → IsKept old new
-places_keep sources (Ok completed) old new (is, (sites, read, (events, goes, so))) = goes.same
-places_keep sources (Err (Refused by)) old new so = until _ _ old new by so
-places_keep sources (Err Usage) old new so = absurd so
-places_keep sources (Err Memory) old new so = absurd so
-places_keep sources (Err Read) old new so = absurd so
-places_keep sources (Err Write) old new so = absurd so
+placed_keep settings values old new (sites, read, (events, goes, so)) = goes.same
 
 -- ---- answers
 
 -- a run that was refused keeps the peer
-refused : (by : StreamFault) (run : Run) → Refuses by run → IsKept run.before run.after
+refused : {S : Type 0} (by : StreamFault) (run : RunOf S) → Refuses by run → IsKept run.before run.after
 refused by run (same, answer) = as_it_was run.before run.after same
+
+-- so does a log that is answered, whatever answers it
+by_talk : {S : Type 0} (By : AnswersRows S) (run : RunOf S) → EndsTalk By run → IsKept run.before run.after
+by_talk By run ends = elim ends [ inl refuses ↦ refused fault.OutOfMemory run refuses | inr so ↦ so.1.same ]
+
+-- ---- answers by a plan
 
 -- answers by a certificate keep the peer
 by_claim : (portion : Portion) (costs : List CostEntry) (it : Instance) (claim : Claim) (run : Run)
     → AnswersAs portion costs it claim run → IsKept run.before run.after
-by_claim portion costs it (best c) run ends = elim ends [ inl refuses ↦ refused _ run refuses | inr so ↦ so.1.same ]
+by_claim portion costs it (best c) run ends = by_talk _ run ends
 by_claim portion costs it (short c) run refuses = refused _ run refuses
 
 -- so do answers by an accepted plan
@@ -83,15 +94,54 @@ by_portion inputs octets run (Ok portion) so = elim so [
 ]
 
 -- answers keep the peer
-pub answers_keep : (inputs : Inputs) (octets : List ℕ) (words : PortionWords) (ended : Ended) (old new : Known)
-    → EndsAnswers inputs octets words ended old new → IsKept old new
-answers_keep inputs octets words (Ok completed) old new (sums, is, so) =
-    by_portion inputs octets _ (portion_at words) so
-answers_keep inputs octets words (Err (Refused by)) old new so = by_portion inputs octets _ (portion_at words) so
-answers_keep inputs octets words (Err Usage) old new so = absurd so
-answers_keep inputs octets words (Err Memory) old new so = absurd so
-answers_keep inputs octets words (Err Read) old new so = absurd so
-answers_keep inputs octets words (Err Write) old new so = absurd so
+pub answered_keep : (words : PortionWords) (inputs : Inputs) (octets : List ℕ) (run : Run)
+    → IsAnswered words inputs octets run → IsKept run.before run.after
+answered_keep words inputs octets run so = by_portion inputs octets run (portion_at words) so
+
+-- ---- answers by prices
+
+-- answers by a plan by prices keep the peer
+by_priced : (front : Front) (it : Instance) (at : Service) (certificate : PriceCertificate) (run : PriceRun)
+    → AnswersClaim front it at certificate run → IsKept run.before run.after
+by_priced front it at (prices.Plan plan) run ends = elim ends [
+  | inl so ↦ let (own, fits, begun, talk) = so in by_talk _ run talk
+  | inr rest ↦ let (fault, stands, refuses) = rest in refused _ run refuses
+]
+by_priced front it at (prices.Shortage set) run refuses = refused _ run refuses
+
+-- so do answers by a certificate that was read
+by_reading : (front : Front) (it : Instance) (at : Service) (run : PriceRun) (read : Result PriceCertificate Fault)
+    → AnswersReading front it at run read → IsKept run.before run.after
+by_reading front it at run (Ok certificate) so = by_priced front it at certificate run so
+by_reading front it at run (Err e) refuses = refused _ run refuses
+
+-- so do answers by its octets
+by_text : (front : Front) (it : Instance) (at : Service) (octets : List ℕ) (run : PriceRun)
+    → AnswersText front it at octets run → IsKept run.before run.after
+by_text front it at octets run so = elim so [
+  | inl refuses ↦ refused _ run refuses
+  | inr rest ↦ by_reading front it at run rest.0 rest.2
+]
+
+-- so do answers by an instance
+by_instance : (front : Front) (inputs : Inputs) (octets : List ℕ) (run : PriceRun) (read : Result Instance Fault)
+    → AnswersInstance front inputs octets run read → IsKept run.before run.after
+by_instance front inputs octets run (Ok it) (costs, read, so) = by_text front it _ octets run so
+by_instance front inputs octets run (Err e) refuses = refused _ run refuses
+
+-- so do answers by a front
+by_front : (inputs : Inputs) (octets : List ℕ) (run : PriceRun) (front : Result Front StreamFault)
+    → AnswersFront inputs octets run front → IsKept run.before run.after
+by_front inputs octets run (Err e) refuses = refused e run refuses
+by_front inputs octets run (Ok front) so = elim so [
+  | inl refuses ↦ refused _ run refuses
+  | inr rest ↦ by_instance front inputs octets run rest.0 rest.2
+]
+
+-- answers by prices keep the peer
+pub priced_keep : (words : FrontChoice) (inputs : Inputs) (octets : List ℕ) (run : PriceRun)
+    → IsPriceAnswered words inputs octets run → IsKept run.before run.after
+priced_keep words inputs octets run so = by_front inputs octets run (front_spelled words) so
 
 -- ---- names
 

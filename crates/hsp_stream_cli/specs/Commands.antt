@@ -2,10 +2,12 @@
 use Rattle.std.specs.Prelude.{◌≡◌, ◌⊎◌, ℕ, List, Option, Result, Ok, Err}
 use Rattle.hsp_cli_orders.specs.StreamOrders.{IsStreamOrdered}
 use Rattle.hsp_cli_orders.specs.declared.fault.CommandFault.{CommandFault}
-use Rattle.hsp_cli_orders.specs.declared.order.InputFiles.{InputFiles}
 use Rattle.hsp_cli_orders.specs.declared.stream_order.AskedPriceReport.{AskedPriceReport}
 use Rattle.hsp_cli_orders.specs.declared.stream_order.FaultsOf.{FaultsOf}
 use Rattle.hsp_cli_orders.specs.declared.stream_order.FrontWords.{FrontWords}
+use Rattle.hsp_cli_orders.specs.declared.stream_order.KindFiles.{KindFiles}
+use Rattle.hsp_cli_orders.specs.declared.stream_order.PlaceFiles.{PlaceFiles}
+use Rattle.hsp_cli_orders.specs.declared.stream_order.PlanFiles.{PlanFiles}
 use Rattle.hsp_cli_orders.specs.declared.stream_order.PriceFiles.{PriceFiles}
 use Rattle.hsp_cli_orders.specs.declared.stream_order.StreamOrder.{StreamOrder}
 use Rattle.hsp_cli_orders.specs.declared.stream_order.StreamOrder.TheVariants as order
@@ -15,6 +17,7 @@ use Rattle.hsp_cli.specs.Failing as failing
 use Rattle.hsp_cli.specs.Failing.{failure_of}
 use Rattle.hsp_cli.specs.Files.{Disk, HoldsRest}
 use Rattle.hsp_cli.specs.declared.failure.Failure.TheVariants.{Memory}
+use Rattle.hsp_price_answers.specs.declared.front_words.FrontChoice.{FrontChoice}
 use Rattle.hsp_stream.specs.declared.kinds_files.KindsInputs.{KindsInputs}
 use Rattle.hsp_stream.specs.declared.portions.PortionWords.{PortionWords}
 use Rattle.hsp_stream_cli.specs.Checking.{PrintsVerdict}
@@ -22,7 +25,7 @@ use Rattle.hsp_stream_cli.specs.Faults.{EndsList, HoldsText, asked_for}
 use Rattle.hsp_stream_cli.specs.Files.{AreKindsHeld, ArePricesHeld, AreSourcesHeld, KindsFail, PricesFail, SourcesFail}
 use Rattle.hsp_stream_cli.specs.Printing.{Ended, PrintsTable, PrintsText}
 use Rattle.hsp_stream_cli.specs.Reporting.{PrintsReport, kind_of}
-use Rattle.hsp_stream_cli.specs.Talking.{EndsAnswers, EndsPlaces, IsPortion, TalksOver}
+use Rattle.hsp_stream_cli.specs.Talking.{EndsAnswers, EndsPlaces, EndsPriced, IsFront, IsPortion, TalksOver}
 use Rattle.hsp_stream_cli.specs.declared.files.Priced.{Priced}
 use Rattle.hsp_stream_cli.specs.declared.files.Sources.{Sources}
 use Rattle.hsp_stream_cli.specs.declared.texts.TheConstants.{HELP, VERSION}
@@ -32,49 +35,58 @@ abbrev pub LacksFile : Type 0 → Option (List ℕ) → Option (List ℕ) → En
 LacksFile MayFail old new ended = (new ≡ old) × failing.LacksFile MayFail ended
 
 -- the table of a log is printed
-abbrev pub PrintsKinds : Disk → Type 0 → List ℕ → Option (List ℕ) → List ℕ → Option (List ℕ) → List ℕ
-    → Option (List ℕ) → Option (List ℕ) → Ended → Type 0
-PrintsKinds disk MayFail settings values costs unit log old new ended =
-    LacksFile (KindsFail disk settings values costs ⊎ disk.fails log) old new ended
-    ⊎ ((inputs : KindsInputs) × (left : Option (List ℕ)) × AreKindsHeld disk settings values costs inputs
-    × HoldsRest disk log left
+abbrev pub PrintsKinds : Disk → Type 0 → KindFiles → Option (List ℕ) → Option (List ℕ) → Option (List ℕ) → Ended
+    → Type 0
+PrintsKinds disk MayFail files unit old new ended =
+    LacksFile (KindsFail disk files ⊎ disk.fails files.log) old new ended
+    ⊎ ((inputs : KindsInputs) × (left : Option (List ℕ)) × AreKindsHeld disk files inputs
+    × HoldsRest disk files.log left
     × PrintsTable MayFail inputs unit left old new ended)
 
 -- the places of a log's handles are stated
-abbrev pub StatesPlaces : Disk → Type 0 → List ℕ → Option (List ℕ) → List ℕ → Option (List ℕ) → Option (List ℕ) → Ended
-    → Type 0
-StatesPlaces disk MayFail settings values log old new ended =
-    LacksFile (SourcesFail disk settings values ⊎ disk.fails log) old new ended
-    ⊎ ((sources : Sources) × (left : Option (List ℕ)) × AreSourcesHeld disk settings values sources
-    × HoldsRest disk log left
-    × TalksOver (disk.fails log) MayFail left old new ended (EndsPlaces sources ended))
+abbrev pub StatesPlaces : Disk → Type 0 → PlaceFiles → Option (List ℕ) → Option (List ℕ) → Ended → Type 0
+StatesPlaces disk MayFail files old new ended =
+    LacksFile (SourcesFail disk files ⊎ disk.fails files.log) old new ended
+    ⊎ ((sources : Sources) × (left : Option (List ℕ)) × AreSourcesHeld disk files sources
+    × HoldsRest disk files.log left
+    × TalksOver (disk.fails files.log) MayFail left old new ended (EndsPlaces sources ended))
 
--- a log is answered
-abbrev pub AnswersLog : Disk → Type 0 → InputFiles → List ℕ → List ℕ → Option (List ℕ) → Option FrontWords
-    → Option (List ℕ) → Option (List ℕ) → Ended → Type 0
-AnswersLog disk MayFail files plan log unit front old new ended =
-    LacksFile (DispatchFails disk files plan log) old new ended ⊎ ((new ≡ old) × (ended ≡ Err Memory))
-    ⊎ ((it : Opened) × (words : PortionWords) × AreOpened disk files plan log it × IsPortion unit front words
-    × TalksOver (disk.fails log) MayFail it.left old new ended (EndsAnswers it.inputs it.certificate words ended))
+-- a log is answered by a plan
+abbrev pub AnswersLog : Disk → Type 0 → PlanFiles → Option (List ℕ) → Option FrontWords → Option (List ℕ)
+    → Option (List ℕ) → Ended → Type 0
+AnswersLog disk MayFail files unit front old new ended =
+    LacksFile (DispatchFails disk files.inputs files.plan files.log) old new ended
+    ⊎ ((new ≡ old) × (ended ≡ Err Memory))
+    ⊎ ((it : Opened) × (words : PortionWords) × AreOpened disk files.inputs files.plan files.log it
+    × IsPortion unit front words
+    × TalksOver (disk.fails files.log) MayFail it.left old new ended (EndsAnswers it.inputs it.certificate words ended))
 
 -- what is printed of a certificate by prices, its inputs, and what is left of a log, where the files are read
-abbrev pub ByPrices : Disk → PriceFiles → List ℕ → Option (List ℕ) → Option (List ℕ) → Ended
+abbrev pub ByPrices : Disk → PriceFiles → Option (List ℕ) → Option (List ℕ) → Ended
     → (Priced → Option (List ℕ) → Type 0) → Type 0
-ByPrices disk files log old new ended Prints =
-    LacksFile (PricesFail disk files ⊎ disk.fails log) old new ended
-    ⊎ ((priced : Priced) × (left : Option (List ℕ)) × ArePricesHeld disk files priced × HoldsRest disk log left
+ByPrices disk files old new ended Prints =
+    LacksFile (PricesFail disk files ⊎ disk.fails files.log) old new ended
+    ⊎ ((priced : Priced) × (left : Option (List ℕ)) × ArePricesHeld disk files priced × HoldsRest disk files.log left
     × Prints priced left)
 
+-- a log is answered by a certificate by prices
+abbrev pub AnswersPriced : Disk → Type 0 → PriceFiles → Option FrontWords → Option (List ℕ) → Option (List ℕ) → Ended
+    → Type 0
+AnswersPriced disk MayFail files front old new ended =
+    ((new ≡ old) × (ended ≡ Err Memory))
+    ⊎ ByPrices disk files old new ended (λ priced left. (words : FrontChoice) × IsFront front words
+    × TalksOver (disk.fails files.log) MayFail left old new ended (EndsPriced priced words ended))
+
 -- a certificate by prices is judged for a log
-abbrev pub ChecksPrices : Disk → Type 0 → PriceFiles → List ℕ → Option (List ℕ) → Option (List ℕ) → Ended → Type 0
-ChecksPrices disk MayFail files log old new ended =
-    ByPrices disk files log old new ended (λ priced left. PrintsVerdict MayFail priced left old new ended)
+abbrev pub ChecksPrices : Disk → Type 0 → PriceFiles → Option (List ℕ) → Option (List ℕ) → Ended → Type 0
+ChecksPrices disk MayFail files old new ended =
+    ByPrices disk files old new ended (λ priced left. PrintsVerdict MayFail priced left old new ended)
 
 -- a log is reported on by such a certificate
-abbrev pub ReportsPrices : Disk → Type 0 → PriceFiles → AskedPriceReport → List ℕ → Option (List ℕ) → Option (List ℕ)
-    → Ended → Type 0
-ReportsPrices disk MayFail files kind log old new ended =
-    ByPrices disk files log old new ended (λ priced left. PrintsReport MayFail priced (kind_of kind) left old new ended)
+abbrev pub ReportsPrices : Disk → Type 0 → PriceFiles → AskedPriceReport → Option (List ℕ) → Option (List ℕ) → Ended
+    → Type 0
+ReportsPrices disk MayFail files kind old new ended =
+    ByPrices disk files old new ended (λ priced left. PrintsReport MayFail priced (kind_of kind) left old new ended)
 
 -- the faulty rows of a file are listed
 abbrev pub ListsFaults : Disk → FaultsOf → List ℕ → Option (List ℕ) → Option (List ℕ) → Ended → Type 0
@@ -86,15 +98,14 @@ ListsFaults disk of file old new ended =
 abbrev pub CarriesOut : Disk → Type 0 → StreamOrder → Option (List ℕ) → Option (List ℕ) → Ended → Type 0
 CarriesOut disk MayFail order.Help old new ended = PrintsText MayFail HELP.now old new ended
 CarriesOut disk MayFail order.Version old new ended = PrintsText MayFail VERSION.now old new ended
-CarriesOut disk MayFail (order.Kinds settings values costs unit log) old new ended =
-    PrintsKinds disk MayFail settings values costs unit log old new ended
-CarriesOut disk MayFail (order.Places settings values log) old new ended =
-    StatesPlaces disk MayFail settings values log old new ended
-CarriesOut disk MayFail (order.Answer files plan log unit front) old new ended =
-    AnswersLog disk MayFail files plan log unit front old new ended
-CarriesOut disk MayFail (order.Check files log) old new ended = ChecksPrices disk MayFail files log old new ended
-CarriesOut disk MayFail (order.Report files log kind) old new ended =
-    ReportsPrices disk MayFail files kind log old new ended
+CarriesOut disk MayFail (order.Kinds files unit) old new ended = PrintsKinds disk MayFail files unit old new ended
+CarriesOut disk MayFail (order.Places files) old new ended = StatesPlaces disk MayFail files old new ended
+CarriesOut disk MayFail (order.Answer files unit front) old new ended =
+    AnswersLog disk MayFail files unit front old new ended
+CarriesOut disk MayFail (order.AnswerPrices files front) old new ended =
+    AnswersPriced disk MayFail files front old new ended
+CarriesOut disk MayFail (order.Check files) old new ended = ChecksPrices disk MayFail files old new ended
+CarriesOut disk MayFail (order.Report files kind) old new ended = ReportsPrices disk MayFail files kind old new ended
 CarriesOut disk MayFail (order.Faults of file) old new ended = ListsFaults disk of file old new ended
 
 -- the order is carried out; where there is none, nothing was written, and the failure is reported

@@ -1,7 +1,9 @@
 -- The files of commands.
-use Rattle.std.specs.Prelude.{◌≡◌, ◌⊎◌, ℕ, List, Option, option_map}
+use Rattle.std.specs.Prelude.{◌≡◌, ◌⊎◌, option_map}
 use Rattle.hsp_cli.specs.Commands.{FailsNamed, HoldsNamed}
 use Rattle.hsp_cli.specs.Files.{Disk}
+use Rattle.hsp_cli_orders.specs.declared.stream_order.KindFiles.{KindFiles}
+use Rattle.hsp_cli_orders.specs.declared.stream_order.PlaceFiles.{PlaceFiles}
 use Rattle.hsp_cli_orders.specs.declared.stream_order.PriceFiles.{PriceFiles}
 use Rattle.hsp_stream.specs.declared.kinds_files.KindsInputs.{KindsInputs}
 use Rattle.hsp_stream_cli.specs.declared.files.Priced.{Priced}
@@ -9,16 +11,14 @@ use Rattle.hsp_stream_cli.specs.declared.files.Sources.{Sources}
 use Rattle.hsp_stream_cli.specs.declared.files.TheConstants.{NO_ROWS}
 
 -- each source is what its own file holds
-pub record AreSourcesHeld (disk : Disk) (settings : List ℕ) (values : Option (List ℕ)) (sources : Sources) :
-    Type 0 where
-  pub settings_held : disk.holds settings sources.settings.items
-  pub values_held : HoldsNamed disk values (option_map (λ v. v.items) sources.values)
+pub record AreSourcesHeld (disk : Disk) (files : PlaceFiles) (sources : Sources) : Type 0 where
+  pub settings_held : disk.holds files.settings sources.settings.items
+  pub values_held : HoldsNamed disk files.values (option_map (λ v. v.items) sources.values)
 
-pub record AreKindsHeld (disk : Disk) (settings : List ℕ) (values : Option (List ℕ)) (costs : List ℕ)
-    (inputs : KindsInputs) : Type 0 where
-  pub settings_held : disk.holds settings inputs.settings.items
-  pub values_held : HoldsNamed disk values (option_map (λ v. v.items) inputs.values)
-  pub costs_held : disk.holds costs inputs.costs.items
+pub record AreKindsHeld (disk : Disk) (files : KindFiles) (inputs : KindsInputs) : Type 0 where
+  pub settings_held : disk.holds files.settings inputs.settings.items
+  pub values_held : HoldsNamed disk files.values (option_map (λ v. v.items) inputs.values)
+  pub costs_held : disk.holds files.costs inputs.costs.items
 
 -- the same of a certificate by prices and its inputs, whose table of demand has no row
 pub record ArePricesHeld (disk : Disk) (files : PriceFiles) (priced : Priced) : Type 0 where
@@ -30,11 +30,11 @@ pub record ArePricesHeld (disk : Disk) (files : PriceFiles) (priced : Priced) : 
   pub prices_held : disk.holds files.prices priced.prices.items
 
 -- one of the files may fail to be read
-abbrev pub SourcesFail : Disk → List ℕ → Option (List ℕ) → Type 0
-SourcesFail disk settings values = disk.fails settings ⊎ FailsNamed disk values
+abbrev pub SourcesFail : Disk → PlaceFiles → Type 0
+SourcesFail disk files = disk.fails files.settings ⊎ FailsNamed disk files.values
 
-abbrev pub KindsFail : Disk → List ℕ → Option (List ℕ) → List ℕ → Type 0
-KindsFail disk settings values costs = disk.fails settings ⊎ FailsNamed disk values ⊎ disk.fails costs
+abbrev pub KindsFail : Disk → KindFiles → Type 0
+KindsFail disk files = disk.fails files.settings ⊎ FailsNamed disk files.values ⊎ disk.fails files.costs
 
 abbrev pub PricesFail : Disk → PriceFiles → Type 0
 PricesFail disk files =

@@ -1,5 +1,6 @@
 pub mod Faults
 pub mod Files
+pub mod Sums
 pub mod Printing
 pub mod Talking
 pub mod Checking

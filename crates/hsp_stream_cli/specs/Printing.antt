@@ -10,12 +10,12 @@ use Rattle.hsp_stream.specs.KindsRun.{IsKindsOf}
 use Rattle.hsp_stream.specs.declared.fault.RowFault.TheVariants.{WriteFailed}
 use Rattle.hsp_stream.specs.declared.fault.StreamFault.{StreamFault}
 use Rattle.hsp_stream.specs.declared.fault.StreamFault.TheVariants.{Log}
-use Rattle.hsp_stream.specs.declared.given.StreamSums.{StreamSums}
 use Rattle.hsp_stream.specs.declared.kinds_files.KindsInputs.{KindsInputs}
+use Rattle.hsp_stream_cli.specs.declared.program.Sums.{Sums}
 
 -- how a command ended: as it was carried out, or by a failure
 abbrev pub Ended : Type 0
-Ended = Result (Completed StreamSums) (Failure StreamFault)
+Ended = Result (Completed Sums) (Failure StreamFault)
 
 -- the text was written, and this status returned; or a write failed, as it may, and a beginning of the text was
 -- written

@@ -9,7 +9,7 @@ use crate::printing::print_with;
 use crate::program::Ended;
 use hsp_classes::PriceVerdict;
 use hsp_cli::{Failure, FileSource, OpenFile, Output};
-use hsp_cli_orders::{PriceFiles, Word};
+use hsp_cli_orders::PriceFiles;
 use hsp_price_runs::{price_check_run, price_verdict_line, price_verdict_status};
 use std::alloc::Global;
 
@@ -47,15 +47,14 @@ pub(crate) fn check_prices<S: FileSource, O: Output>(
     alloc: Global,
     files: &S,
     named: &PriceFiles<'_>,
-    log: &Word<'_>,
     out: &mut O,
 ) -> Ended
-    ensures checks { ChecksPrices (S.disk files.now) O.may_fail named.now log.now
-        (O.contents out.old) (O.contents out.new) result }
+    ensures checks { ChecksPrices (S.disk files.now) O.may_fail named.now (O.contents out.old)
+        (O.contents out.new) result }
     ensures handed { IsHandedOn (O.contents out.old) (O.handed out.old) (O.contents out.new)
         (O.handed out.new) result }
 {
     let priced = read_prices(alloc, files, named)?;
-    let log = files.open(log)?;
+    let log = files.open(&named.log)?;
     print_verdict(alloc, &priced, log, out)
 }

@@ -4,15 +4,15 @@ ghost use Rattle.std.specs.Prelude.{map, string_bytes};
 ghost use Rattle.hsp_stream_cli.specs.Commands.{CarriesOut, Obeys};
 ghost use Rattle.hsp_stream_cli.specs.Printing.{IsHandedOn};
 
+use crate::answering::{answer_log, answer_priced};
 use crate::checking::check_prices;
 use crate::faults::list_faults;
-use crate::files::{read_kinds, read_sources};
-use crate::printing::{print, print_table};
+use crate::placing::state_places;
+use crate::printing::{print, print_kinds};
 use crate::program::Ended;
 use crate::reporting::report_prices;
-use crate::talking::{answer_log, portion_words, state_places};
 use crate::texts::{HELP, VERSION};
-use hsp_cli::{FileSource, Output, open_log};
+use hsp_cli::{FileSource, Output};
 use hsp_cli_orders::{StreamOrder, read_stream_command};
 use std::alloc::Global;
 
@@ -31,41 +31,16 @@ fn carry_out<S: FileSource, O: Output>(
     match order {
         StreamOrder::Help => print(out, HELP),
         StreamOrder::Version => print(out, VERSION),
-        StreamOrder::Kinds {
-            settings,
-            values,
-            costs,
-            unit,
-            log,
-        } => {
-            let inputs = read_kinds(alloc, source, settings, values, costs)?;
-            let log = source.open(log)?;
-            print_table(alloc, &inputs, unit, log, out)
-        }
-        StreamOrder::Places {
-            settings,
-            values,
-            log,
-        } => {
-            let sources = read_sources(alloc, source, settings, values)?;
-            let log = source.open(log)?;
-            state_places(alloc, &sources, log, out)
-        }
-        StreamOrder::Answer {
-            inputs,
-            plan,
-            log,
-            unit,
-            front,
-        } => {
-            let opened = open_log(alloc, source, inputs, plan, log)?;
-            let portion = portion_words(alloc, unit, front)?;
-            answer_log(alloc, opened, &portion, out)
-        }
-        StreamOrder::Check { files, log } => check_prices(alloc, source, files, log, out),
-        StreamOrder::Report { files, log, kind } => report_prices(
-            alloc, source, files, *kind, log, out,
+        StreamOrder::Kinds { files, unit } => print_kinds(alloc, source, files, unit, out),
+        StreamOrder::Places { files } => state_places(alloc, source, files, out),
+        StreamOrder::Answer { files, unit, front } => answer_log(
+            alloc, source, files, unit, front, out,
         ),
+        StreamOrder::AnswerPrices { files, front } => answer_priced(
+            alloc, source, files, front, out,
+        ),
+        StreamOrder::Check { files } => check_prices(alloc, source, files, out),
+        StreamOrder::Report { files, kind } => report_prices(alloc, source, files, *kind, out),
         StreamOrder::Faults { of, file } => list_faults(alloc, source, *of, file, out),
     }
 }

@@ -6,7 +6,7 @@ ghost use Rattle.hsp_stream_cli.specs.Files.{AreKindsHeld, ArePricesHeld, AreSou
 ghost use Rattle.hsp_stream_cli.specs.Files.{SourcesFail};
 
 use hsp_cli::{FileSource, Unread, read_named, read_whole};
-use hsp_cli_orders::{PriceFiles, Word};
+use hsp_cli_orders::{KindFiles, PlaceFiles, PriceFiles};
 use hsp_runs::Inputs;
 use hsp_stream::KindsInputs;
 use std::alloc::Global;
@@ -33,17 +33,15 @@ pub(crate) const NO_ROWS: &[u8] = b"region,handle,count\n";
 pub(crate) fn read_sources<S: FileSource>(
     alloc: Global,
     files: &S,
-    settings: &Word<'_>,
-    values: &Option<Word<'_>>,
+    named: &PlaceFiles<'_>,
 ) -> Result<Sources, Unread>
     ensures held { IfOk result
-        (λ sources. AreSourcesHeld (S.disk files.now) settings.now values.now sources) }
-    ensures unread { IfErr result
-        (IsUnread (SourcesFail (S.disk files.now) settings.now values.now)) }
+        (λ sources. AreSourcesHeld (S.disk files.now) named.now sources) }
+    ensures unread { IfErr result (IsUnread (SourcesFail (S.disk files.now) named.now)) }
 {
     Ok(Sources {
-        settings: read_whole(alloc, files, settings)?,
-        values: read_named(alloc, files, values)?,
+        settings: read_whole(alloc, files, &named.settings)?,
+        values: read_named(alloc, files, &named.values)?,
     })
 }
 
@@ -51,19 +49,15 @@ pub(crate) fn read_sources<S: FileSource>(
 pub(crate) fn read_kinds<S: FileSource>(
     alloc: Global,
     files: &S,
-    settings: &Word<'_>,
-    values: &Option<Word<'_>>,
-    costs: &Word<'_>,
+    named: &KindFiles<'_>,
 ) -> Result<KindsInputs, Unread>
-    ensures held { IfOk result
-        (λ inputs. AreKindsHeld (S.disk files.now) settings.now values.now costs.now inputs) }
-    ensures unread { IfErr result
-        (IsUnread (KindsFail (S.disk files.now) settings.now values.now costs.now)) }
+    ensures held { IfOk result (λ inputs. AreKindsHeld (S.disk files.now) named.now inputs) }
+    ensures unread { IfErr result (IsUnread (KindsFail (S.disk files.now) named.now)) }
 {
     Ok(KindsInputs {
-        settings: read_whole(alloc, files, settings)?,
-        values: read_named(alloc, files, values)?,
-        costs: read_whole(alloc, files, costs)?,
+        settings: read_whole(alloc, files, &named.settings)?,
+        values: read_named(alloc, files, &named.values)?,
+        costs: read_whole(alloc, files, &named.costs)?,
     })
 }
 

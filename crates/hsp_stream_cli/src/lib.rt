@@ -2,10 +2,12 @@
 // standard output, and how it ends.
 #![tactic(auto)]
 
+mod answering;
 mod checking;
 mod commands;
 mod faults;
 mod files;
+mod placing;
 mod printing;
 mod program;
 mod reporting;
@@ -13,4 +15,4 @@ mod talking;
 mod texts;
 
 pub use commands::obey;
-pub use program::{Ended, HsplanStream};
+pub use program::{Ended, HsplanStream, Sums};

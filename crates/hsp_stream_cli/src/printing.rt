@@ -1,11 +1,13 @@
 // Texts and tables on an output.
 
 ghost use Rattle.std.specs.Prelude.{IfErr, IfOk, option_map};
+ghost use Rattle.hsp_stream_cli.specs.Commands.{PrintsKinds};
 ghost use Rattle.hsp_stream_cli.specs.Printing.{IsHandedOn, IsTable, IsTableFault, PrintsTable, PrintsText, PrintsWith};
 
+use crate::files::read_kinds;
 use crate::program::Ended;
-use hsp_cli::{Completed, Failure, OpenFile, Output};
-use hsp_cli_orders::Word;
+use hsp_cli::{Completed, Failure, FileSource, OpenFile, Output};
+use hsp_cli_orders::{KindFiles, Word};
 use hsp_stream::{KindsInputs, StreamFault, kinds_run};
 use std::alloc::Global;
 
@@ -49,8 +51,8 @@ fn table_of<F: OpenFile>(
     }
 }
 
-/// Prints the table of a log.
-pub(crate) fn print_table<F: OpenFile, O: Output>(
+// Prints the table of a log by what its rows are joined by.
+fn print_table<F: OpenFile, O: Output>(
     alloc: Global,
     inputs: &KindsInputs,
     unit: &Option<Word<'_>>,
@@ -66,4 +68,22 @@ pub(crate) fn print_table<F: OpenFile, O: Output>(
         Ok(text) => print(out, &text),
         Err(fault) => Err(Failure::Refused(fault)),
     }
+}
+
+/// Prints the table of a log.
+pub(crate) fn print_kinds<S: FileSource, O: Output>(
+    alloc: Global,
+    files: &S,
+    named: &KindFiles<'_>,
+    unit: &Option<Word<'_>>,
+    out: &mut O,
+) -> Ended
+    ensures prints { PrintsKinds (S.disk files.now) O.may_fail named.now unit.now
+        (O.contents out.old) (O.contents out.new) result }
+    ensures handed { IsHandedOn (O.contents out.old) (O.handed out.old) (O.contents out.new)
+        (O.handed out.new) result }
+{
+    let inputs = read_kinds(alloc, files, named)?;
+    let log = files.open(&named.log)?;
+    print_table(alloc, &inputs, unit, log, out)
 }

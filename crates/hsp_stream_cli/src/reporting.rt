@@ -11,7 +11,7 @@ use crate::printing::print;
 use crate::program::Ended;
 use hsp_classes::PriceVerdict;
 use hsp_cli::{Failure, FileSource, OpenFile, Output};
-use hsp_cli_orders::{AskedPriceReport, PriceFiles, Word};
+use hsp_cli_orders::{AskedPriceReport, PriceFiles};
 use hsp_price_runs::{PriceReport, PriceReportKind, price_report_run};
 use std::alloc::Global;
 
@@ -63,15 +63,14 @@ pub(crate) fn report_prices<S: FileSource, O: Output>(
     files: &S,
     named: &PriceFiles<'_>,
     kind: AskedPriceReport,
-    log: &Word<'_>,
     out: &mut O,
 ) -> Ended
-    ensures reports { ReportsPrices (S.disk files.now) O.may_fail named.now kind log.now
+    ensures reports { ReportsPrices (S.disk files.now) O.may_fail named.now kind
         (O.contents out.old) (O.contents out.new) result }
     ensures handed { IsHandedOn (O.contents out.old) (O.handed out.old) (O.contents out.new)
         (O.handed out.new) result }
 {
     let priced = read_prices(alloc, files, named)?;
-    let log = files.open(log)?;
+    let log = files.open(&named.log)?;
     print_report(alloc, &priced, kind_of(kind), log, out)
 }

@@ -19,6 +19,12 @@ hsplan-stream answer --settings F [--values F] --demand F --costs F --capacity F
     With --fronts N --front K it answers by the share of the front K of N.
     With --unit N each query of the plan stands for N answers.
 
+hsplan-stream answer --settings F [--values F] --costs F --capacity F --prices F
+                     --log F [--fronts N --front K]
+    answers each row of the log by a certificate by prices, for any handle.
+    No server gets more than its capacity, and no host more than its limit.
+    The log and the fronts are those of the form above.
+
 hsplan-stream check --settings F [--values F] --costs F --capacity F --log F
                     --prices F
     prints yes or no: whether a certificate by prices holds for the log's rows.
@@ -39,4 +45,4 @@ A file may be a pipe or /dev/stdin. The manual page has more: man hsplan-stream.
 ";
 
 /// What `--version` prints.
-pub const VERSION: &[u8] = b"hsplan-stream 1.6.0\n";
+pub const VERSION: &[u8] = b"hsplan-stream 1.7.0\n";

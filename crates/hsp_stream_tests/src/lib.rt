@@ -1,5 +1,5 @@
 // Tests of the runs over logs of any length: tables of kinds, places, answers by a portion of a plan, certificates by
-// prices, and faulty rows.
+// prices and answers by them, and faulty rows.
 // Then of the lines that are printed, and of what the runs stand on: rows that are lines, rows that were seen.
 #![tactic(auto)]
 
@@ -13,6 +13,8 @@ mod faulty_tests;
 mod kinds_tests;
 #[cfg(test)]
 mod line_tests;
+#[cfg(test)]
+mod price_answer_tests;
 #[cfg(test)]
 mod price_tests;
 #[cfg(test)]

@@ -2,6 +2,7 @@
 
 use crate::same::is_same;
 use hsp_check::Reason;
+use hsp_classes::PriceReason;
 use hsp_faults::Fault;
 use hsp_names::HandleFault;
 use hsp_stream::{
@@ -32,9 +33,14 @@ fn all_have_lines(rt: &impl Abort, alloc: Global, cases: &[(StreamFault, &[u8], 
 
 #[test]
 fn faults_of_words_and_files_have_their_lines(rt: HostRuntime) {
-    let cases: [(StreamFault, &[u8], u8); 6] = [
+    let cases: [(StreamFault, &[u8], u8); 7] = [
         (StreamFault::BadUnit, b"hsplan-stream: BadUnit\n", 1),
         (StreamFault::BadFront, b"hsplan-stream: BadFront\n", 1),
+        (
+            StreamFault::Refused(PriceReason::NoSuchServer),
+            b"hsplan-stream: check: NoSuchServer\n",
+            3,
+        ),
         (
             StreamFault::Input(Fault::BadFronts),
             b"hsplan-stream: BadFronts\n",
@@ -152,9 +158,10 @@ fn is_displayed(rt: &impl Abort, alloc: Global, fault: &StreamFault, wanted: &st
 
 #[test]
 fn faults_are_displayed(rt: HostRuntime) {
-    let cases: [(StreamFault, &str); 5] = [
+    let cases: [(StreamFault, &str); 6] = [
         (StreamFault::BadUnit, "bad unit"),
         (StreamFault::BadFront, "bad front"),
+        (StreamFault::Refused(PriceReason::Load), "check: Load"),
         (StreamFault::Input(Fault::BadFronts), "bad fronts"),
         (
             StreamFault::Log(RowFault::Fields { row: 3 }),

@@ -1,7 +1,6 @@
 use Rattle.std.proofs.Common.{◌≡◌, ◌⊎◌, inl, inr, Ok, Err}
 use Rattle.std.proofs.lemmas.Result.{IfErr-weaker, err_from_is_err_and, on_ok_weaker}
 use Rattle.csv.specs.Records.{fields_of}
-use Rattle.hsp_csv.specs.Records.{Fields}
 use Rattle.hsp_stream.specs.KindsLog.{IsReadFault, OfLeft, OfLog, log_joined, rows_joined}
 use Rattle.hsp_stream.specs.declared.fault.StreamFault.{StreamFault}
 use Rattle.hsp_stream.proofs.KindsReading.{bad_header, behind_header}

@@ -4,26 +4,29 @@ use Rattle.hsp_stream.proofs.speaking.answer_rows.Goals as goal
 
 pub returns-in-Some-clause-answered : goal.returns-in-Some-clause-answered
 returns-in-Some-clause-answered g c =
-    ended c.args.responder.now c.requires.form c.requires.sums c.talk.new.responder c.in-Some.sums
+    ended g.D.QueryDispatcher.Takes g.D.QueryDispatcher.sums_of c.args.responder.now c.requires.form c.requires.refused
+    c.talk.new.responder c.in-Some.sums
     (g.P.Peer.known c.args.peer.now) (g.P.Peer.known c.talk.new.peer) c.in-Some.ensures.0
     c.in-Some.ensures.1 c.in-Ok.ensures.whole
 
 pub returns-in-None-clause-answered : goal.returns-in-None-clause-answered
 returns-in-None-clause-answered g c =
-    ended_early c.args.responder.now c.requires.form c.requires.sums c.talk.new.responder
+    ended_early g.D.QueryDispatcher.Takes g.D.QueryDispatcher.sums_of c.args.responder.now c.requires.form
+    c.requires.refused c.talk.new.responder
     (g.P.Peer.known c.args.peer.now)
     (g.P.Peer.known c.talk.new.peer) c.in-None.ensures c.in-Ok.ensures.whole
 
 pub returns-in-Err-clause-answered : goal.returns-in-Err-clause-answered
 returns-in-Err-clause-answered g c =
     rw c.fault_of.ensures
-    (stopped c.args.responder.now c.requires.form c.requires.sums c.talk.new.responder (g.P.Peer.known c.args.peer.now)
+    (stopped g.D.QueryDispatcher.Takes g.D.QueryDispatcher.sums_of c.args.responder.now c.requires.form
+    c.requires.refused c.talk.new.responder (g.P.Peer.known c.args.peer.now)
     (g.P.Peer.known c.talk.new.peer) c.in-Err.stop c.in-Err.ensures.stops)
 
 pub returns-in-Err-clause-handed : goal.returns-in-Err-clause-handed
 returns-in-Err-clause-handed g c =
     rw c.fault_of.ensures
-    (stop_hands (g.P.Peer.known c.args.peer.now) (g.P.Peer.known c.talk.new.peer) c.in-Err.stop
+    (stop_hands g.row.D-Sums.Denot (g.P.Peer.known c.args.peer.now) (g.P.Peer.known c.talk.new.peer) c.in-Err.stop
     c.in-Err.ensures.handed)
 
 pub returns-in-Err-clause-may_stop : goal.returns-in-Err-clause-may_stop

@@ -1,0 +1,6 @@
+mod Lines
+mod PriceTurns
+mod FrontWords
+mod Rooms
+mod PricesShown
+mod Always

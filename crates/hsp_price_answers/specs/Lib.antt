@@ -1,0 +1,7 @@
+pub mod Sums
+pub mod Lines
+pub mod FrontWords
+pub mod PriceAnswers
+pub mod PriceAnswerRun
+pub mod PricesShown
+pub mod Laws
