@@ -307,6 +307,34 @@ fn handles_that_are_asked_again_have_the_answers_of_new_ones(rt: HostRuntime) {
     ask_in_turn(&rt, alloc, &mut fresh, OTHERS);
 }
 
+// A query from this region is unknown. One that memory ran out for is asked again.
+fn get_unknown(
+    rt: &impl Abort,
+    alloc: Global,
+    dispatcher: &mut PriceDispatcher<'_>,
+    region: &[u8],
+) {
+    let handle = HandleRef::parse(b"10/3").expect(rt, "the handle is one");
+    let answer = match dispatcher.assign(alloc, region, handle) {
+        Ok(answer) => Ok(answer),
+        Err(_) => dispatcher.assign(alloc, region, handle),
+    };
+    is_same(rt, answer.ok(), Some(PriceAnswer::Unknown));
+}
+
+// There are more of them than a table of costs has regions. They take nothing.
+#[test]
+fn regions_without_a_cost_are_unknown(rt: HostRuntime) {
+    let alloc = rt.alloc();
+    let held = hold(&rt, alloc, b"", PLAN);
+    let mut dispatcher = begun(&rt, alloc, &held, 1, 0);
+    for number in 0..100u8 {
+        let region = [b'q', b'0' + number / 10, b'0' + number % 10];
+        get_unknown(&rt, alloc, &mut dispatcher, &region);
+    }
+    ask_a_class(&rt, alloc, &mut dispatcher);
+}
+
 // A dispatcher by this certificate has this fault.
 fn has_fault(rt: &impl Abort, alloc: Global, prices: &[u8], wanted: StartFault) {
     let held = hold(rt, alloc, b"", prices);
