@@ -268,7 +268,7 @@ const OTHERS: Asked = Asked {
     last_three: b"10/21",
 };
 
-fn query(region: &'static [u8], handle: &'static [u8]) -> Query {
+fn query_from(region: &'static [u8], handle: &'static [u8]) -> Query {
     Query { region, handle }
 }
 
@@ -279,44 +279,22 @@ fn ask_in_turn(rt: &impl Abort, alloc: Global, dispatcher: &mut PriceDispatcher<
     let far = PriceAnswer::Assigned(arc(1, 2, 3));
     let least = PriceAnswer::Assigned(arc(0, 1, 1));
     let unknown = PriceAnswer::Unknown;
-    get(rt, alloc, dispatcher, query(b"r2", asked.three), (1, near));
-    get(rt, alloc, dispatcher, query(b"r1", asked.one), (1, least));
-    get(
-        rt,
-        alloc,
-        dispatcher,
-        query(b"r2", asked.other_three),
-        (1, far),
-    );
-    get(
-        rt,
-        alloc,
-        dispatcher,
-        query(b"r1", asked.other_one),
-        (1, least),
-    );
-    get(rt, alloc, dispatcher, query(b"r1", asked.three), (1, least));
-    get(
-        rt,
-        alloc,
-        dispatcher,
-        query(b"r9", asked.three),
-        (1, unknown),
-    );
-    get(
-        rt,
-        alloc,
-        dispatcher,
-        query(b"r2", asked.last_three),
-        (1, far),
-    );
-    get(
-        rt,
-        alloc,
-        dispatcher,
-        query(b"r9", asked.other_three),
-        (1, unknown),
-    );
+    let third = query_from(b"r2", asked.three);
+    get(rt, alloc, dispatcher, third, (1, near));
+    let first = query_from(b"r1", asked.one);
+    get(rt, alloc, dispatcher, first, (1, least));
+    let other_third = query_from(b"r2", asked.other_three);
+    get(rt, alloc, dispatcher, other_third, (1, far));
+    let other_first = query_from(b"r1", asked.other_one);
+    get(rt, alloc, dispatcher, other_first, (1, least));
+    let near_third = query_from(b"r1", asked.three);
+    get(rt, alloc, dispatcher, near_third, (1, least));
+    let lost_third = query_from(b"r9", asked.three);
+    get(rt, alloc, dispatcher, lost_third, (1, unknown));
+    let last_third = query_from(b"r2", asked.last_three);
+    get(rt, alloc, dispatcher, last_third, (1, far));
+    let lost_other = query_from(b"r9", asked.other_three);
+    get(rt, alloc, dispatcher, lost_other, (1, unknown));
 }
 
 #[test]
@@ -327,6 +305,34 @@ fn handles_that_are_asked_again_have_the_answers_of_new_ones(rt: HostRuntime) {
     ask_in_turn(&rt, alloc, &mut again, SAME);
     let mut fresh = begun(&rt, alloc, &held, 1, 0);
     ask_in_turn(&rt, alloc, &mut fresh, OTHERS);
+}
+
+// A query from this region is unknown. One that memory ran out for is asked again.
+fn get_unknown(
+    rt: &impl Abort,
+    alloc: Global,
+    dispatcher: &mut PriceDispatcher<'_>,
+    region: &[u8],
+) {
+    let handle = HandleRef::parse(b"10/3").expect(rt, "the handle is one");
+    let answer = match dispatcher.assign(alloc, region, handle) {
+        Ok(answer) => Ok(answer),
+        Err(_) => dispatcher.assign(alloc, region, handle),
+    };
+    is_same(rt, answer.ok(), Some(PriceAnswer::Unknown));
+}
+
+// There are more of them than a table of costs has regions. They take nothing.
+#[test]
+fn regions_without_a_cost_are_unknown(rt: HostRuntime) {
+    let alloc = rt.alloc();
+    let held = hold(&rt, alloc, b"", PLAN);
+    let mut dispatcher = begun(&rt, alloc, &held, 1, 0);
+    for number in 0..100u8 {
+        let region = [b'q', b'0' + number / 10, b'0' + number % 10];
+        get_unknown(&rt, alloc, &mut dispatcher, &region);
+    }
+    ask_a_class(&rt, alloc, &mut dispatcher);
 }
 
 // A dispatcher by this certificate has this fault.

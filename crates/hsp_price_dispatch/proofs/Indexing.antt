@@ -18,13 +18,14 @@ use Rattle.hsp_instance.specs.declared.arc.Arc.{Arc}
 use Rattle.hsp_instance.proofs.ArcsWithin.{arcs_within}
 use Rattle.hsp_kinds.specs.Rows.{Service}
 use Rattle.hsp_price_text.specs.Claim.{Best}
-use Rattle.hsp_classes.specs.Least.{arcs_of, host_at, is_least, least_arcs, pay_over, price_at, servers_of}
+use Rattle.hsp_classes.specs.Least.{arcs_of, host_at, is_least, least_arcs, least_of, pay_over, price_at, servers_of}
 use Rattle.hsp_classes.proofs.Lists.{all_kept}
+use Rattle.hsp_dispatch.specs.Dispatch.{Entry}
 use Rattle.hsp_price_check.specs.ClassNumbers.{is_named}
 use Rattle.hsp_price_check.specs.Extras.{pay_by}
 use Rattle.hsp_price_check.specs.Passed.{class_at, no_class}
 use Rattle.hsp_price_dispatch.specs.Choosing.{LeadsWithin, answer_of, assigned, choice_among, choice_for}
-use Rattle.hsp_price_dispatch.specs.Choosing.{class_number, elsewhere, first_cell, or_full}
+use Rattle.hsp_price_dispatch.specs.Choosing.{class_number, elsewhere, first_cell, or_full, row_of}
 use Rattle.hsp_price_dispatch.specs.Holding.{Held, cell_at, one_given}
 use Rattle.hsp_price_dispatch.specs.Choosing.{left_with}
 use Rattle.hsp_price_dispatch.specs.Standing.{IsIndexOf, IsOfService}
@@ -202,6 +203,12 @@ pub chosen_for : (own : Held) (region handle : List ℕ) (arcs : List Arc) (by :
     → by ≡ choice_among own region arcs (least_arcs (pay_over own.service own.plan) arcs)
     → by ≡ choice_for own (record { region = region; handle = handle })
 chosen_for own region handle arcs by same is = rw same at is
+
+-- a query with no arc is answered by Unknown
+pub no_arcs_unknown : (own : Held) (entry : Entry) → arcs_of own.service (row_of entry) ≡ []
+    → choice_for own entry ≡ Unknown
+no_arcs_unknown own entry none =
+    ap (λ (list : List Arc). choice_among own entry.region list (least_of own.service own.plan (row_of entry))) none
 
 -- ---- one choice or the other
 

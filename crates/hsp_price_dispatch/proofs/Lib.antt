@@ -14,5 +14,6 @@ pub mod ClassParts
 pub mod Planned
 pub mod Greatest
 pub mod SeenArcs
+pub mod KnownRegions
 pub mod Choices
 pub mod Diverting

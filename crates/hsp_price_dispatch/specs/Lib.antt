@@ -2,6 +2,7 @@ pub mod Holding
 pub mod Choosing
 pub mod Taking
 pub mod Starting
+pub mod Regions
 pub mod Standing
 pub mod Laws
 pub mod Planned

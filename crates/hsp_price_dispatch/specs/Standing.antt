@@ -1,5 +1,6 @@
 -- What the lists beside a front's numbers hold.
-use Rattle.std.specs.Prelude.{◌≡◌, ◌≤◌, ◌<◌, ◌+◌, ℕ, List, [], Option, length, map, slice_index, All}
+use Rattle.std.specs.Prelude.{◌≡◌, ◌≤◌, ◌<◌, ◌+◌, ℕ, List, [], Option, length, map, slice_index, All, true}
+use Rattle.std.specs.List.{AllByRecursion}
 use Rattle.hsp_tables.specs.Costs.{AreCosts}
 use Rattle.hsp_instance.specs.RowArcs.{ArcsInTurn}
 use Rattle.hsp_kinds.specs.Rows.{Service}
@@ -15,6 +16,7 @@ use Rattle.hsp_price_check.specs.Passed.{class_at}
 use Rattle.hsp_price_check.specs.PlanPass.{AreNumbersOf}
 use Rattle.hsp_price_dispatch.specs.Choosing.{first_cell}
 use Rattle.hsp_price_dispatch.specs.Holding.{Held, held_at, host_held_at}
+use Rattle.hsp_price_dispatch.specs.Regions.{has_cost}
 use Rattle.hsp_price_dispatch.specs.Starting.{Fits}
 use Rattle.hsp_price_dispatch.specs.declared.choosing.Index.{Index}
 use Rattle.hsp_price_dispatch.specs.declared.starting.Accepted.{Accepted}
@@ -40,12 +42,13 @@ pub record IsIndexOf (own : Held) (index : Index) : Type 0 where
   pub cells : (k : ℕ) → k < length own.plan.classes
       → first_cell own.plan.classes k + length (class_at own.plan k).servers ≤ length own.cells
 
--- the arcs are looked for in the service, which is within its limits
+-- The arcs are looked for in the service, which is within its limits. Each region that is known has a cost at a site.
 pub record IsOfService (at : Service) (arcs : ArcsInTurn) : Type 0 where
   pub service : IsService at
   pub costs : AreCosts at.costs
   pub costs_are : arcs.costs ≡ at.costs
   pub sites_are : arcs.sites ≡ at.sites
+  pub regions : AllByRecursion (λ region. has_cost at region ≡ true) arcs.regions
 
 -- a plan that fits, the service's numbers, and what the classes bring to servers and hosts
 pub record IsAccepted (at : Service) (plan : Best) (accepted : Accepted) : Type 0 where

@@ -4,6 +4,7 @@ ghost use Rattle.std.specs.Prelude.{◌≡◌, ◌≤◌, ◌<◌, IfErr, IfOk, 
 ghost use Rattle.hsp_dispatch.specs.Shares.{query};
 ghost use Rattle.hsp_price_check.specs.Classes.{service_of};
 ghost use Rattle.hsp_price_dispatch.specs.Choosing.{LeadsWithin, answer_by, choice_for, left_by};
+ghost use Rattle.hsp_price_dispatch.specs.Regions.{has_cost};
 ghost use Rattle.hsp_price_dispatch.specs.Starting.{Fits, IsBegun, Stands};
 ghost use Rattle.hsp_price_dispatch.specs.Taking.{CanTake};
 
@@ -25,7 +26,9 @@ use std::marker::Model;
 /// and of the room that servers and hosts have beside these.
 ///
 /// It remembers where at most 65,536 queries may go, those whose region and handle have at most 256 octets together. So
-/// it hashes none of these handles again.
+/// it hashes none of these handles again. It also remembers what the regions that have a cost pay at each site. The
+/// table of costs has at most 64 regions, so its memory is bounded, whatever is asked. Of a region without a cost it
+/// remembers nothing.
 #[derive(Drop)]
 pub struct PriceDispatcher<'a> {
     arcs: RowArcs<'a>,
@@ -91,7 +94,15 @@ impl<'a> PriceDispatcher<'a> {
         })
     }
 
-    // What a query for a handle from a region is answered by, where no arcs of it were seen. Its arcs are remembered.
+    // Whether a query from a region has a cost at a site. A region that is known has one.
+    fn serves(&self, region: &[u8]) -> bool
+        ensures { result ≡ has_cost self.now.service region.now }
+    {
+        self.arcs.knows(region) || self.holding.has_cost(region)
+    }
+
+    // What a query for a handle from a region is answered by, where no arcs of it were seen. Its arcs are remembered,
+    // but nothing is of a region that has no cost.
     fn choose_new(
         &mut self,
         alloc: Global,
@@ -103,6 +114,9 @@ impl<'a> PriceDispatcher<'a> {
         ensures can { IfOk result (CanTake self.old) }
         ensures same { self.new ≡ self.old }
     {
+        if !self.serves(region) {
+            return Ok(Choice::Unknown);
+        }
         self.arcs.find(alloc, region, handle)?;
         let arcs = self.arcs.arcs();
         self.seen.remember(alloc, region, handle.bytes(), arcs)?;

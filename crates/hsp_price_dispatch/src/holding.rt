@@ -5,10 +5,12 @@ ghost use Rattle.hsp_check.specs.ArcFlows.{host_in};
 ghost use Rattle.hsp_classes.specs.Least.{host_at};
 ghost use Rattle.hsp_price_dispatch.specs.Choosing.{left_with};
 ghost use Rattle.hsp_price_dispatch.specs.Holding.{cell_at, has_room_at, is_free_at, with_given, with_query_at};
+ghost use Rattle.hsp_price_dispatch.specs.Regions.{has_cost};
 ghost use Rattle.hsp_price_dispatch.specs.Taking.{CanTake};
 
 use crate::answer::Choice;
 use crate::cells::{Cell, give_one};
+use crate::regions::has_cost;
 use crate::rooms::Rooms;
 use hsp_instance::Instance;
 use hsp_price_text::PricedPlan;
@@ -67,6 +69,13 @@ impl Holding<'_> {
         ensures below { IfSome result (λ h. h < length self.now.host_rooms) }
     {
         host_in(&self.server_hosts, server)
+    }
+
+    /// Whether a query from a region has a cost at a site.
+    pub(crate) fn has_cost(&self, region: &[u8]) -> bool
+        ensures { result ≡ has_cost self.now.service region.now }
+    {
+        has_cost(self.costs, self.instance.sites(), region)
     }
 
     /// The cells of all classes.

@@ -10,6 +10,7 @@ mod dispatcher;
 mod fault;
 mod holding;
 pub mod laws;
+mod regions;
 mod rooms;
 mod seen_arcs;
 mod starting;

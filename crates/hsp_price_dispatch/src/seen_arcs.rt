@@ -1,12 +1,18 @@
 // The arcs of rows that were seen, so that no handle is hashed again.
 
-ghost use Rattle.std.specs.Prelude.{◌≡◌, ◌++◌, ◌∷◌, [], IfNone, IfOk, IfSome, None, OnErr, OnOk, Some};
+ghost use Rattle.std.specs.Prelude.{◌≡◌, ◌++◌, ◌∷◌, [], IfNone, IfOk, IfSome, None, OnErr, OnOk, Some, true};
+ghost use Rattle.hsp_tally.specs.Seen.{is_left_out};
 ghost use Rattle.hsp_price_dispatch.specs.SeenArcs.{arcs_seen, with_arcs};
 
 use hsp_instance::Arc;
 use hsp_tally::SeenRows;
 use std::alloc::{AllocError, Global};
 use std::marker::Model;
+
+// The limits of `SeenRows`: the greatest number of rows, and the greatest length of a region and a handle together.
+const MOST_SEEN: usize = 65_536;
+
+const LONGEST_SEEN: usize = 256;
 
 // The arcs of a row.
 #[derive(Drop)]
@@ -81,6 +87,13 @@ impl SeenArcs {
         Some(list.as_slice())
     }
 
+    // Whether there are rows enough, or the names are too long to be kept.
+    fn is_past(&self, region: &[u8], handle: &[u8]) -> bool
+        ensures { result ≡ true → is_left_out self.now.rows region.now handle.now ≡ true }
+    {
+        self.rows.len() >= MOST_SEEN || region.len().saturating_add(handle.len()) > LONGEST_SEEN
+    }
+
     /// Puts in the arcs of a region and a handle. They are left out where there are rows enough, where the names are
     /// too long, and where there are such arcs. Where memory runs out nothing changes.
     pub(crate) fn remember(
@@ -94,6 +107,9 @@ impl SeenArcs {
             (self.new ≡ with_arcs self.old region.now handle.now arcs.now) }
         ensures kept { OnErr result (self.new ≡ self.old) }
     {
+        if self.is_past(region, handle) {
+            return Ok(());
+        }
         let number = self.rows.len();
         let list = ArcList::new(alloc, arcs)?;
         self.lists.reserve(1)?;

@@ -1,12 +1,15 @@
-use Rattle.std.proofs.Common.{◌≡◌, ◌∙◌, List, ap, length, subst, sym}
+use Rattle.std.proofs.Common.{◌≡◌, ◌∙◌, List, ap, false, length, subst, sym}
 use Rattle.std.specs.List.{AllByRecursion}
 use Rattle.std.proofs.lemmas.Result.{IfOk-weaker}
 use Rattle.hsp_names.specs.Lent.{octets_of}
 use Rattle.hsp_instance.specs.RowArcs.{IsWithin, row_named}
 use Rattle.hsp_instance.specs.declared.arc.Arc.{Arc}
 use Rattle.hsp_classes.specs.Least.{arcs_of}
+use Rattle.hsp_dispatch.specs.Shares.{query}
 use Rattle.hsp_price_dispatch.specs.Taking.{CanTake}
-use Rattle.hsp_price_dispatch.proofs.Indexing.{can_take_choice, found_arcs, row_within}
+use Rattle.hsp_price_dispatch.specs.Regions.{has_cost}
+use Rattle.hsp_price_dispatch.proofs.Indexing.{can_take_choice, found_arcs, no_arcs_unknown, row_within}
+use Rattle.hsp_price_dispatch.proofs.KnownRegions.{more_have, no_arcs}
 use Rattle.hsp_price_dispatch.proofs.SeenArcs.{put_has}
 use Rattle.hsp_price_dispatch.proofs.dispatcher.PriceDispatcher.choose_new.Goals as goal
 
@@ -36,11 +39,23 @@ invariant_of-self-2 c =
         costs = is.costs;
         costs_are = c.in_ok-find.ensures.costs ∙ is.costs_are;
         sites_are = c.in_ok-find.ensures.sites ∙ is.sites_are;
+        regions =
+            rw c.in_ok-find.ensures.regions
+            (more_have at region c.self.inside.arcs.regions is.regions
+            (rw (← c.self.view_is) at (sym c.serves.ensures ∙ c.if-not-serves.false)));
       },
       rw c.in_ok-remember.ensures.put
           (put_has c.self.inside.seen region c.bytes.result.now c.arcs-arcs.result.now at c.self.invariant.2
           (own ∙ ap (λ handle. arcs_of at (row_named region handle 1)) (sym c.bytes.ensures.octets))),
     )
+
+pub returns-then-not-serves-clause-choice : goal.returns-then-not-serves-clause-choice
+returns-then-not-serves-clause-choice c =
+    let octets = octets_of c.args.handle in
+    let none : has_cost c.args.self.now.service c.args.region.now ≡ false =
+    sym c.serves.ensures ∙ c.if-not-serves.true in
+    sym (no_arcs_unknown c.args.self.now (query c.args.region.now c.args.handle)
+    (no_arcs c.args.self.now.service (row_named c.args.region.now octets 1) none))
 
 pub returns-clause-can : goal.returns-clause-can
 returns-clause-can c =

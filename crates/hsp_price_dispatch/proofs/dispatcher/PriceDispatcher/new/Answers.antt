@@ -47,6 +47,7 @@ invariant_of-result c =
       costs = c.len-rows.ensures.rows;
       costs_are = c.new.ensures.costs;
       sites_are = c.new.ensures.sites ∙ c.sites.ensures.sites;
+      regions = rw c.new.ensures.regions tt;
     } in (
       index_is at plan c.args.front.fronts c.args.front.number c.in_ok-holding.holding c.in_ok-index.index begun
           is.within is.fits.shape.0 (rw is.numbers.server_hosts at c.in_ok-index.ensures.extras)
