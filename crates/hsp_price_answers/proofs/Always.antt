@@ -1,5 +1,5 @@
 -- By a plan that fits, a run ends by a fault of its talk at most.
-use Rattle.std.proofs.Common.{◌≡◌, ◌≢◌, ◌⊎◌, ℕ, List, Ok, Err, IfErr, Result, ap, inl, inr, refl, subst, sym}
+use Rattle.std.proofs.Common.{◌≡◌, ◌≢◌, ℕ, List, Ok, Err, IfErr, Result, ap, inl, inr, refl, subst, sym}
 use Rattle.hsp_cert.specs.declared.fault.CertFault.{CertFault}
 use Rattle.hsp_cert.specs.declared.fault.CertFault.TheVariants as cert_fault
 use Rattle.hsp_instance.specs.Instance.{Instance}
@@ -7,7 +7,6 @@ use Rattle.hsp_kinds.specs.Rows.{Service}
 use Rattle.hsp_price_text.specs.Certificate.{IsCertificate}
 use Rattle.hsp_price_text.specs.Claim.{Best}
 use Rattle.hsp_price_text.specs.Drafts.{reader}
-use Rattle.hsp_price_text.specs.Language.{Agrees}
 use Rattle.hsp_price_text.specs.Reading.{Means}
 use Rattle.hsp_price_text.specs.Text.{prices, text_of}
 use Rattle.hsp_price_text.specs.declared.certificate.PriceCertificate.{PriceCertificate}
@@ -18,8 +17,6 @@ use Rattle.hsp_dispatch.specs.declared.front_share.Front.{Front}
 use Rattle.hsp_price_dispatch.specs.Starting.{Fits, Stands}
 use Rattle.hsp_price_dispatch.specs.declared.fault.StartFault.{StartFault}
 use Rattle.hsp_price_dispatch.specs.declared.fault.StartFault.TheVariants as start
-use Rattle.hsp_faults.specs.declared.fault.Fault.{Fault}
-use Rattle.hsp_price_runs.specs.PriceRun.{IsCertificateIn}
 use Rattle.hsp_price_runs.proofs.Shown.{certificate_means}
 use Rattle.hsp_stream.specs.AnswersShown.{IsOfTalk}
 use Rattle.hsp_stream.specs.AnswerRun.{EndsTalk, Refuses}

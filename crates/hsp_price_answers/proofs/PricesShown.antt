@@ -1,23 +1,24 @@
 -- What a run that answers by prices shows.
 use Rattle.std.proofs.Common.{◌≡◌, ◌≢◌, ◌<◌, ◌≤◌, ◌∙◌, ◌⊎◌, ℕ, List, [], ◌∷◌, Ok, Err, IfErr, arith, inl}
 use Rattle.std.proofs.Common.{inr, refl, subst}
+use Rattle.std.specs.List.{Contains}
 use Rattle.hsp_tables.specs.Costs.{CostEntry}
 use Rattle.hsp_instance.specs.Instance.{Instance}
 use Rattle.hsp_kinds.specs.Rows.{Service}
 use Rattle.hsp_price_text.specs.Claim.{Best}
 use Rattle.hsp_price_text.specs.declared.certificate.PriceCertificate.{PriceCertificate}
 use Rattle.hsp_price_text.specs.declared.certificate.PriceCertificate.TheVariants.{Plan, Shortage}
+use Rattle.hsp_classes.specs.Least.{arcs_of, least_of}
 use Rattle.hsp_dispatch.specs.Dispatch.{Entry}
 use Rattle.hsp_dispatch.specs.declared.front_share.Front.{Front}
-use Rattle.hsp_price_dispatch.specs.Choosing.{choice_for, left_by, left_with}
+use Rattle.hsp_price_dispatch.specs.Choosing.{left_by, row_of}
 use Rattle.hsp_price_dispatch.specs.Holding.{Held, host_room_at}
 use Rattle.hsp_price_dispatch.specs.Laws.{answers_to, count_on, left_after}
 use Rattle.hsp_price_dispatch.specs.Starting.{Fits, IsBegun}
-use Rattle.hsp_price_dispatch.specs.declared.answer.Choice.{Choice}
-use Rattle.hsp_price_dispatch.specs.declared.answer.Choice.TheVariants as choices
 use Rattle.hsp_price_dispatch.specs.declared.fault.StartFault.{StartFault}
 use Rattle.hsp_price_dispatch.specs.declared.fault.StartFault.TheVariants as start
 use Rattle.hsp_price_dispatch.proofs.Arcs.{goes_over}
+use Rattle.hsp_price_dispatch.proofs.Planned.{plan_stays}
 use Rattle.hsp_price_dispatch.proofs.RoomTaken.{never_exceeds, same_service}
 use Rattle.hsp_faults.specs.declared.fault.Fault.TheVariants.{WrongKind}
 use Rattle.hsp_headline.specs.Headline.{Defines}
@@ -49,20 +50,6 @@ use Rattle.hsp_price_answers.proofs.Rooms.{host_room_low, room_low}
 left_service : (own : Held) (entries : List Entry) → (left_after own entries).service ≡ own.service
 left_service own [] = refl
 left_service own (entry ∷ entries) = left_service (left_by own entry) entries ∙ same_service own entry
-
--- no choice changes the plan
-plan_stays : (own : Held) (choice : Choice) → (left_with own choice).plan ≡ own.plan
-plan_stays own (choices.OfClass n arc) = refl
-plan_stays own (choices.Free arc) = refl
-plan_stays own (choices.Diverted arc) = refl
-plan_stays own choices.Full = refl
-plan_stays own choices.Unknown = refl
-
--- so it stays
-left_plan : (own : Held) (entries : List Entry) → (left_after own entries).plan ≡ own.plan
-left_plan own [] = refl
-left_plan own (entry ∷ entries) =
-    left_plan (left_by own entry) entries ∙ plan_stays own (choice_for own entry)
 
 -- ---- what is shown
 
@@ -109,9 +96,13 @@ module _ (front : Front) (inside : front.number < front.fronts) (inputs : Inputs
             ((never_exceeds own (queries_in asked)).1 h) in
             omega (arith, few, host_room_low at plan front.fronts front.number own some fits begun h l);
         assigned = λ earlier entry arc e.
-            rw (← service earlier, ← plan_of earlier) ((goes_over (left_after own earlier) entry arc).0 e);
+            let last = left_after own earlier in
+            let here = (goes_over last entry arc).0 e in
+            subst (λ (s : Service). Contains (least_of s plan (row_of entry)) arc) (service earlier)
+            (subst (λ (p : Best). Contains (least_of last.service p (row_of entry)) arc) (plan_of earlier) here);
         diverted = λ earlier entry arc e.
-            rw (← service earlier) ((goes_over (left_after own earlier) entry arc).1 e);
+            subst (λ (s : Service). Contains (arcs_of s (row_of entry)) arc) (service earlier)
+            ((goes_over (left_after own earlier) entry arc).1 e);
       })
     where
       -- the service and the plan are those at first
@@ -119,7 +110,7 @@ module _ (front : Front) (inside : front.number < front.fronts) (inputs : Inputs
       service earlier = left_service own earlier ∙ begun.service
 
       plan_of : (earlier : List Entry) → (left_after own earlier).plan ≡ plan
-      plan_of earlier = left_plan own earlier ∙ begun.plan_is
+      plan_of earlier = plan_stays own earlier ∙ begun.plan_is
 
   -- so it is by a certificate
   by_claim : (certificate : PriceCertificate) → IsCertificateIn octets (Ok certificate)

@@ -1,5 +1,5 @@
 -- The front that words spell.
-use Rattle.std.specs.Prelude.{ℕ, List, Result, Ok, option_map}
+use Rattle.std.specs.Prelude.{ℕ, Result, Ok, option_map}
 use Rattle.hsp_text.specs.Answers.{◌>>=◌}
 use Rattle.hsp_dispatch.specs.declared.front_share.Front.{Front}
 use Rattle.hsp_stream.specs.Words.{front_at, fronts_at, word_or}

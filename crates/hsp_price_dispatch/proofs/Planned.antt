@@ -562,7 +562,7 @@ plan_with own choice.Full = refl
 plan_with own choice.Unknown = refl
 
 -- whatever is asked
-plan_stays : (own : Held) (entries : List Entry) → (left_after own entries).plan ≡ own.plan
+pub plan_stays : (own : Held) (entries : List Entry) → (left_after own entries).plan ≡ own.plan
 plan_stays own [] = refl
 plan_stays own (entry ∷ entries) = plan_stays (left_by own entry) entries ∙ plan_with own (choice_for own entry)
 
