@@ -117,12 +117,13 @@ pub(crate) fn answer_log<S: FileSource, O: Output>(
     ensures handed { IsHandedOn (O.contents out.old) (O.handed out.old) (O.contents out.new)
         (O.handed out.new) result }
 {
+    let opened = open_log(alloc, files, &named.inputs, &named.plan, &named.log)?;
+    let portion = portion_words(alloc, unit, front)?;
     let OpenLog {
         inputs,
         certificate,
         log,
-    } = open_log(alloc, files, &named.inputs, &named.plan, &named.log)?;
-    let portion = portion_words(alloc, unit, front)?;
+    } = opened;
     let by = ByPlan {
         inputs,
         certificate,

@@ -2,7 +2,9 @@ use Rattle.hsp_stream_cli.proofs.Lent.{answered_keep}
 use Rattle.hsp_stream_cli.proofs.answering.ByPlanTalk.talk.Goals as goal
 
 pub returns-in-Ok-clause-lent : goal.returns-in-Ok-clause-lent
-returns-in-Ok-clause-lent g c = answered_keep _ _ _ _ c.in-Ok.ensures.answered
+returns-in-Ok-clause-lent g c =
+    answered_keep c.args.self.now.portion c.args.self.now.inputs c.deref.result.now _ c.in-Ok.ensures.answered
 
 pub returns-in-Err-clause-lent : goal.returns-in-Err-clause-lent
-returns-in-Err-clause-lent g c = answered_keep _ _ _ _ c.in-Err.ensures.answered
+returns-in-Err-clause-lent g c =
+    answered_keep c.args.self.now.portion c.args.self.now.inputs c.deref.result.now _ c.in-Err.ensures.answered

@@ -5,4 +5,4 @@ pub returns-in-Ok-clause-lent : goal.returns-in-Ok-clause-lent
 returns-in-Ok-clause-lent g c = placed_keep _ _ _ _ c.in-Ok.ensures.whole
 
 pub returns-in-Err-clause-lent : goal.returns-in-Err-clause-lent
-returns-in-Err-clause-lent g c = until_keep _ _ _ _ _ c.in-Err.ensures.stops
+returns-in-Err-clause-lent g c = until_keep _ _ _ _ c.in-Err.fault c.in-Err.ensures.stops
