@@ -11,6 +11,8 @@ from lib import programs
 HEAD = re.compile(r"^(?P<indent>(?:    )?)(?P<public>pub )?(?:pub\([a-z]+\) )?(?:const |final )*fn (?P<name>\w+)")
 HOLDS = re.compile(r"^(?:pub )?(?P<kind>impl|trait)(?:<[^{]*?>)? (?P<rest>.*?)\s*(?:where.*)?\{?$")
 ITEM = re.compile(r"^(?:pub(?:\(\w+\))? )?(?:const|static) (?P<name>\w+)")
+# What a talk asks of who answers in it.
+IN_TALKS = ("take", "take_query", "sums")
 USE = re.compile(r"^\s*ghost use Rattle\.(?P<crate>hsp\w+|hsplan)\.specs\.(?P<module>[\w.]+)\.\{(?P<names>[^}]*)\}")
 
 
@@ -165,8 +167,8 @@ def crate_functions(crate: str) -> list[Function]:
 
 
 def names_it(caller: Function, called: Function) -> bool:
-    """Whether a body names another function: by its type, as a member, or by its name. A desk of a talk, which takes
-    rows, is asked where it was made."""
+    """Whether a body names another function: by its type, as a member, or by its name. What takes the rows or the
+    queries of a talk is asked where it was made."""
     name = re.escape(called.name)
     if not called.owner:
         return any(
@@ -175,7 +177,7 @@ def names_it(caller: Function, called: Function) -> bool:
         )
     by_type = re.search(rf"\b{re.escape(called.owner)}(?:::<[^>]*>)?::{name}\b", caller.body)
     by_self = caller.owner == called.owner and re.search(rf"\b(?:self\.|Self::){name}\b", caller.body)
-    by_talk = called.name == "take" and re.search(rf"\b{re.escape(called.owner)}::new\b", caller.body)
+    by_talk = called.name in IN_TALKS and re.search(rf"\b{re.escape(called.owner)}::new\b", caller.body)
     return bool(by_type or by_self or by_talk or re.search(rf"\.{name}\(", caller.body))
 
 

@@ -71,8 +71,8 @@ module _ (front : Front) (it : Instance) (at : Service) (octets : List ℕ) (run
   text_always (inl none) = memory_always run none
   text_always (inr (Ok certificate, read, answered)) =
       let both : ◌≡◌ {A = Result PriceCertificate CertFault} (Ok certificate) (Ok (Plan plan)) =
-      one_answer prices reader takes octets (Ok certificate) (Ok (Plan plan)) (certificate_means octets certificate read)
-      means in
+      one_answer prices reader takes octets (Ok certificate) (Ok (Plan plan))
+      (certificate_means octets certificate read) means in
       claim_always certificate (cc both) answered
   text_always (inr (Err fault, (Ok certificate, meant, memory, e), none)) = absurd (cc e)
   text_always (inr (Err fault, (Err bad, meant, memory, e), none)) =

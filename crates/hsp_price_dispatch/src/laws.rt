@@ -3,7 +3,8 @@
 ghost use Rattle.hsp_price_dispatch.specs.Laws.{AnswersByItsOwn, AnswersByTheGreatestPart, EndsInTheSame};
 ghost use Rattle.hsp_price_dispatch.specs.Laws.{GivesTheGreatestPart, GoesByItsEntries, GoesOverItsArcs};
 ghost use Rattle.hsp_price_dispatch.specs.Laws.{IsDivertedLeast, IsFullWithoutRoom, IsUnknownWithoutCost, LeastAreArcs};
-ghost use Rattle.hsp_price_dispatch.specs.Laws.{NeverExceeds, NeverExceedsTogether, RoomsAddUp, TakesHostRoom, TakesRoom};
+ghost use Rattle.hsp_price_dispatch.specs.Laws.{NeverExceeds, NeverExceedsTogether, RoomsAddUp, TakesHostRoom};
+ghost use Rattle.hsp_price_dispatch.specs.Laws.{TakesRoom};
 ghost use Rattle.hsp_price_dispatch.specs.Planned.{IsServedByPlan};
 
 /// Each query that goes to a server takes one of its room and of its host's. So no server and no host gets more than

@@ -85,8 +85,8 @@ front_is fronts (Some word) n some e =
     ((whole_is MOST_FRONTS word n (omega arith) read.1).0, read.0)
 
 -- the decimal of a front is read as it
-pub front_is_read : (fronts : ℕ) (word : Option (List ℕ)) (n : ℕ) → SpellsOr word 0 n → n < fronts → fronts ≤ MOST_FRONTS
-    → word_or word 0 (front_at fronts) ≡ Ok n
+pub front_is_read : (fronts : ℕ) (word : Option (List ℕ)) (n : ℕ) → SpellsOr word 0 n → n < fronts
+    → fronts ≤ MOST_FRONTS → word_or word 0 (front_at fronts) ≡ Ok n
 front_is_read fronts None n is inside few = ap (λ k. Ok k) (sym is)
 front_is_read fronts (Some word) n is inside few =
     let there : below fronts (Ok n) ≡ Ok n = rw (lt-ltb n fronts inside) refl in

@@ -22,7 +22,8 @@ kept B (inl a) = inl a
 kept B (inr none) = absurd none
 
 -- a talk that stopped handed on all, or a write failed
-pub stop_hands : (S : Type 0) (old new : Known) (why : Stop NoHeader) → IsHandedOn old new ⊎ HasFailedWrite {X = Unit {0}} (Err why)
+pub stop_hands : (S : Type 0) (old new : Known) (why : Stop NoHeader)
+    → IsHandedOn old new ⊎ HasFailedWrite {X = Unit {0}} (Err why)
     → IsHandedOn old new ⊎ IsFailedWrite {X = S} (Err (fault_of why))
 stop_hands S old new stop.ReadFailed handed = kept ⊥ handed
 stop_hands S old new stop.WriteFailed handed = handed

@@ -19,7 +19,8 @@ AreGiven {D} Takes first (entry ∷ entries) last (line ∷ lines) =
 AreGiven Takes first [] last (line ∷ lines) = ⊥
 AreGiven Takes first (entry ∷ entries) last [] = ⊥
 
--- the lines of rows: of each query the next of the given ones, of a refused row its own, and none where nothing is asked
+-- the lines of rows: of each query the next of the given ones, of a refused row its own, and none of a row that asks
+-- nothing
 abbrev pub lines_in : List Asked → List (List ℕ) → List (List ℕ)
 lines_in [] given = []
 lines_in (nothing ∷ more) given = [] ∷ lines_in more given

@@ -114,7 +114,8 @@ fn row_status(fault: &RowFault) -> u8
 }
 
 /// The status that the program ends with at a fault: 5 for a log that can't be read to its end and for answers that
-/// can't be written, 4 where memory runs out, that of `hsplan` for a refused file, 3 for prices that don't fit, and otherwise 1.
+/// can't be written, 4 where memory runs out, that of `hsplan` for a refused file, 3 for prices that don't fit, and
+/// otherwise 1.
 pub fn stream_status(fault: &StreamFault) -> u8
     ensures { result ≡ status_in fault.now }
 {
