@@ -1,7 +1,7 @@
 -- A run gives back the writer that it was lent.
 use Rattle.std.proofs.Common.{◌≡◌, ◌⊎◌, inl, inr, ℕ, List, Option, Some, Result, Ok, Err, ap, subst, sym}
 use Rattle.std.specs.Borrow.{GName}
-use Rattle.hsp_cli.specs.declared.failure.Failure.TheVariants.{Usage, Memory, Read, Write, Refused}
+use Rattle.hsp_cli.specs.declared.failure.Failure.TheVariants.{Refused}
 use Rattle.hsp_cert.specs.Certificate.{Claim}
 use Rattle.hsp_cert.specs.Certificate.Claim.{best, short}
 use Rattle.hsp_dispatch.specs.declared.portion.Portion.{Portion}

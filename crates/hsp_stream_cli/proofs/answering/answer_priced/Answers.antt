@@ -10,7 +10,9 @@ returns-clause-answers g c =
       _,
       c.in_ok-priced.ensures.held,
       c.in_ok-log.ensures.held,
-      c.in_ok-front.front,
-      c.in_ok-front.ensures,
-      talks_weaker _ _ _ _ _ _ _ _ c.in_ok-log.ensures.reads c.talk_over.ensures.talks,
+      (
+        c.in_ok-front.front,
+        c.in_ok-front.ensures,
+        talks_weaker _ _ _ _ _ _ _ _ c.in_ok-log.ensures.reads c.talk_over.ensures.talks,
+      ),
     ))
