@@ -12,6 +12,7 @@ pub mod Begun
 pub mod FirstHeld
 pub mod ClassParts
 pub mod Planned
+pub mod AnswerCosts
 pub mod Greatest
 pub mod SeenArcs
 pub mod KnownRegions

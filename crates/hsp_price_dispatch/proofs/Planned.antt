@@ -554,7 +554,7 @@ nothing_where test (cell ∷ cells) all =
     omega (arith, sum_by-cons (λ (cell : Cell). if test cell.server then cell.left else 0) cell cells, here, more)
 
 -- the plan stays
-plan_with : (own : Held) (by : Choice) → (left_with own by).plan ≡ own.plan
+pub plan_with : (own : Held) (by : Choice) → (left_with own by).plan ≡ own.plan
 plan_with own (choice.OfClass n arc) = refl
 plan_with own (choice.Free arc) = refl
 plan_with own (choice.Diverted arc) = refl

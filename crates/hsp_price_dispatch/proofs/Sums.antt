@@ -98,7 +98,7 @@ shares_low fronts front test all some =
 -- ---- hosts
 
 -- a number, or 0, as a product
-as_times : (t : Bool) (n : ℕ) → (if t then 1 else 0) * n ≡ (if t then n else 0)
+pub as_times : (t : Bool) (n : ℕ) → (if t then 1 else 0) * n ≡ (if t then n else 0)
 as_times true n = omega arith
 as_times false n = omega arith
 

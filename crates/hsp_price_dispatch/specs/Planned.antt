@@ -1,15 +1,18 @@
 -- Queries that ask for no more than the plan has, at one front.
 use Rattle.std.specs.Prelude.{◌≡◌, ◌≤◌, ◌<◌, ◌+◌, ◌==◌, Bool, true, false, ℕ}
 use Rattle.std.specs.Prelude.{List, [], ◌∷◌, All, Option, None, Some, count_by}
-use Rattle.std.specs.Prelude.{is_some, length, sum, sum_by, if◌then◌else◌}
+use Rattle.std.specs.Prelude.{is_some, length, map, sum, sum_by, if◌then◌else◌}
 use Rattle.hsp_instance.specs.declared.arc.Arc.{Arc}
-use Rattle.hsp_check.specs.Plan.{is_on}
-use Rattle.hsp_kinds.specs.Rows.{Service}
+use Rattle.hsp_check.specs.Plan.{Feasible, Plan, is_on, total}
+use Rattle.hsp_kinds.specs.Rows.{Service, network_for}
 use Rattle.hsp_price_text.specs.Certificate.{IsCertificate}
 use Rattle.hsp_price_text.specs.Claim.{Best}
 use Rattle.hsp_price_text.specs.declared.certificate.PriceCertificate.TheVariants as certificate
 use Rattle.hsp_classes.specs.Least.{host_at, least_of, only_arc}
+use Rattle.hsp_classes.specs.Shown.{IsService}
 use Rattle.hsp_classes.specs.Sums.{host_load_at, load_at}
+use Rattle.hsp_classes.specs.Verdict.{IsVerdict}
+use Rattle.hsp_classes.specs.declared.verdict.PriceVerdict.TheVariants.{Yes}
 use Rattle.hsp_dispatch.specs.Dispatch.{Entry}
 use Rattle.hsp_price_check.specs.Passed.{class_at}
 use Rattle.hsp_price_dispatch.specs.Choosing.{class_number, row_of}
@@ -75,3 +78,22 @@ IsServedByPlan =
     × (((k : ℕ) → k < length plan.classes → asked_at at plan k entries ≡ sum (class_at plan k).amounts)
     → (j : ℕ) → count_at j (answers_to own entries)
     ≡ only_least_where at plan (λ i. i == j) entries + load_at at plan [] j)
+
+-- what a query costs: the cost of the arc that it goes over
+abbrev pub cost_of_answer : PriceAnswer → ℕ
+cost_of_answer (Assigned arc) = arc.cost
+cost_of_answer (Diverted arc) = arc.cost
+cost_of_answer Full = 0
+cost_of_answer Unknown = 0
+
+-- Where the certificate is valid for rows of one query each, and these queries ask for just what the plan has, their
+-- answers cost together what it states. No plan of the rows costs less.
+abbrev pub CostsWhatThePlanDoes : Type 0
+CostsWhatThePlanDoes =
+    (at : Service) (plan : Best) (own : Held) (entries : List Entry) → IsService at
+    → IsCertificate (certificate.Plan plan) → IsVerdict at (map row_of entries) (certificate.Plan plan) Yes
+    → IsBegun at plan 1 0 own → AreWithinPlan at plan entries
+    → ((k : ℕ) → k < length plan.classes → asked_at at plan k entries ≡ sum (class_at plan k).amounts)
+    → (sum_by cost_of_answer (answers_to own entries) ≡ plan.cost)
+    × ((x : Plan) → Feasible (network_for at (map row_of entries)) x
+    → sum_by cost_of_answer (answers_to own entries) ≤ total (network_for at (map row_of entries)) x)

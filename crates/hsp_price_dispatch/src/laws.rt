@@ -5,7 +5,9 @@ ghost use Rattle.hsp_price_dispatch.specs.Laws.{GivesTheGreatestPart, GoesByItsE
 ghost use Rattle.hsp_price_dispatch.specs.Laws.{IsDivertedLeast, IsFullWithoutRoom, IsUnknownWithoutCost, LeastAreArcs};
 ghost use Rattle.hsp_price_dispatch.specs.Laws.{NeverExceeds, NeverExceedsTogether, RoomsAddUp, TakesHostRoom};
 ghost use Rattle.hsp_price_dispatch.specs.Laws.{TakesRoom};
-ghost use Rattle.hsp_price_dispatch.specs.Planned.{IsServedByPlan};
+ghost use Rattle.hsp_price_dispatch.specs.Planned.{CostsWhatThePlanDoes, IsServedByPlan};
+
+use hsp_classes::laws::plan_is_shown;
 
 /// Each query that goes to a server takes one of its room and of its host's. So no server and no host gets more than
 /// its room at the beginning, whatever is asked.
@@ -69,6 +71,14 @@ pub fn front_apart()
 pub fn served_by_plan()
     ensures { IsServedByPlan }
 {}
+
+/// Where the certificate of a plan is valid for queries, each of them a row, and they ask for just what the plan has,
+/// the answers of one front cost together what the plan does. No plan of these rows costs less.
+pub fn costs_what_the_plan_does()
+    ensures { CostsWhatThePlanDoes }
+{
+    plan_is_shown();
+}
 
 /// Two interleavings of the same fronts' lists end in the same at each front.
 pub fn order_of_fronts()
