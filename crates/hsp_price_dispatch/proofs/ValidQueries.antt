@@ -34,8 +34,8 @@ use Rattle.hsp_dispatch.specs.Dispatch.{Entry}
 use Rattle.hsp_price_check.specs.ClassNumbers.{is_named}
 use Rattle.hsp_price_check.specs.Passed.{class_at, no_class}
 use Rattle.hsp_price_dispatch.specs.Choosing.{class_number, row_of}
-use Rattle.hsp_price_dispatch.specs.Planned.{AreWithinPlan, CostsWhatThePlanDoes, ValidIsWithinPlan, asked_at, has_only, has_place}
-use Rattle.hsp_price_dispatch.specs.Planned.{is_number, is_placed, only_least_where}
+use Rattle.hsp_price_dispatch.specs.Planned.{AreWithinPlan, CostsWhatThePlanDoes, ValidIsWithinPlan, asked_at}
+use Rattle.hsp_price_dispatch.specs.Planned.{has_only, has_place, is_number, is_placed, only_least_where}
 use Rattle.hsp_price_dispatch.specs.Starting.{capacity_at, limit_at}
 use Rattle.hsp_price_dispatch.proofs.AnswerCosts.{by_terms, costs, load_rows, no_terms, one_term}
 use Rattle.hsp_price_dispatch.proofs.Fronts.{sends_there}

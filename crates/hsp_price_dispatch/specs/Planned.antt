@@ -94,7 +94,8 @@ ValidIsWithinPlan =
     → AreWithinPlan at plan entries
     × ((k : ℕ) → k < length plan.classes → asked_at at plan k entries ≡ sum (class_at plan k).amounts)
 
--- So one front assigns each of them. Together they cost what the certificate states, and no plan of the rows costs less.
+-- So one front assigns each of them. Their answers cost together what the certificate states, and no plan of the rows
+-- costs less.
 abbrev pub CostsWhatThePlanDoes : Type 0
 CostsWhatThePlanDoes =
     (at : Service) (plan : Best) (own : Held) (entries : List Entry) → IsService at

@@ -3,7 +3,8 @@
 ghost use Rattle.hsp_price_dispatch.specs.Laws.{AnswersByItsOwn, AnswersByTheGreatestPart, EndsInTheSame};
 ghost use Rattle.hsp_price_dispatch.specs.Laws.{GivesTheGreatestPart, GoesByItsEntries, GoesOverItsArcs};
 ghost use Rattle.hsp_price_dispatch.specs.Laws.{IsDivertedLeast, IsFullWithoutRoom, IsUnknownWithoutCost, LeastAreArcs};
-ghost use Rattle.hsp_price_dispatch.specs.Laws.{NeverExceeds, NeverExceedsTogether, RoomsAddUp, TakesHostRoom, TakesRoom};
+ghost use Rattle.hsp_price_dispatch.specs.Laws.{NeverExceeds, NeverExceedsTogether, RoomsAddUp, TakesHostRoom};
+ghost use Rattle.hsp_price_dispatch.specs.Laws.{TakesRoom};
 ghost use Rattle.hsp_price_dispatch.specs.Planned.{CostsWhatThePlanDoes, IsServedByPlan, ValidIsWithinPlan};
 
 use hsp_classes::laws::plan_is_shown;
