@@ -1,15 +1,16 @@
 -- What answers cost together, where the plan's certificate is valid for the queries.
 use Rattle.std.proofs.Common.{◌≡◌, ◌<◌, ◌≤◌, ◌+◌, ◌*◌, ◌==◌, ◌∙◌, ℕ, Bool, true, List, [], ◌∷◌, All, Option, None, Some}
-use Rattle.std.proofs.Common.{ap, arith, eq-eqb, if◌then◌else◌, inl, inr, leb-true, length, map, nat_le, mul-add, mul-one, mul-zero}
-use Rattle.std.proofs.Common.{mul_comm, ne_eqb, one-mul, refl, slice_index, subst, sum, sum_by, sym, zero-mul}
+use Rattle.std.proofs.Common.{ap, arith, eq-eqb, if◌then◌else◌, inl, inr, leb-true, length, map, mul-add, mul-one}
+use Rattle.std.proofs.Common.{mul-zero, mul_comm, nat_le, ne_eqb, one-mul, refl, slice_index, subst, sum, sum_by, sym, zero-mul}
 use Rattle.std.specs.List.{AllByRecursion, Contains, count_by}
 use Rattle.std.proofs.lemmas.Bool.{cases_lt, true≢false}
 use Rattle.std.proofs.lemmas.List.{get_or_past, length-map}
-use Rattle.std.proofs.lemmas.List.Elements.{All-filter, All-head, All-tail, All-weaker, filter_passes}
+use Rattle.std.proofs.lemmas.List.Elements.{All-filter, All-from_recursion, All-head, All-tail, All-weaker}
+use Rattle.std.proofs.lemmas.List.Elements.{filter_passes}
 use Rattle.std.proofs.lemmas.List.Sums.{AllPass-from_list_all, sum_by-cons}
 use Rattle.hsp_transport.specs.Sums.{sum_below, times}
 use Rattle.hsp_transport.proofs.Rowwise.{same_by, turned}
-use Rattle.hsp_transport.proofs.Summing.{sum_below_one, sum_below_same, sum_below_zero, sum_by_add}
+use Rattle.hsp_transport.proofs.Summing.{sum_below_one, sum_below_same, sum_below_zero, sum_by_add, sum_by_same_all}
 use Rattle.hsp_check.specs.Plan.{Feasible, Plan, is_on, total}
 use Rattle.hsp_check.specs.Prices.{at_host}
 use Rattle.hsp_instance.specs.Instance.{Host, Row, Server}
@@ -19,18 +20,18 @@ use Rattle.hsp_price_text.specs.Certificate.{IsCertificate}
 use Rattle.hsp_price_text.specs.Claim.{Best}
 use Rattle.hsp_price_text.specs.declared.certificate.PriceCertificate.TheVariants as certificate
 use Rattle.hsp_classes.specs.Least.{arcs_of, host_at, is_least, least_arcs, least_of, only_arc, pay_over, price_at}
-use Rattle.hsp_classes.specs.Shown.{IsShownBy, PlanIsShown}
+use Rattle.hsp_classes.specs.Shown.{IsShownBy}
 use Rattle.hsp_classes.specs.Sums.{brings, first_pay, host_load_at, least_pay, load_at, paid_in_all, row_load}
 use Rattle.hsp_classes.specs.Verdict.{IsVerdict}
 use Rattle.hsp_classes.specs.declared.verdict.PriceReason.TheVariants as reason
 use Rattle.hsp_classes.specs.declared.verdict.PriceVerdict.TheVariants.{Yes}
-use Rattle.hsp_classes.proofs.Lists.{same_sum, sum_map}
+use Rattle.hsp_classes.proofs.Lists.{sum_map}
 use Rattle.hsp_dispatch.specs.Dispatch.{Entry}
 use Rattle.hsp_price_check.specs.Passed.{class_at}
 use Rattle.hsp_price_dispatch.specs.Choosing.{answer_by, choice_for, left_by, row_of}
 use Rattle.hsp_price_dispatch.specs.Holding.{Held}
 use Rattle.hsp_price_dispatch.specs.Laws.{answers_to, count_at, count_on, goes_to}
-use Rattle.hsp_price_dispatch.specs.Planned.{AreWithinPlan, CostsWhatThePlanDoes, asked_at, cost_of_answer, has_only}
+use Rattle.hsp_price_dispatch.specs.Planned.{AreWithinPlan, asked_at, cost_of_answer, has_only}
 use Rattle.hsp_price_dispatch.specs.Planned.{is_assigned, only_least_where}
 use Rattle.hsp_price_dispatch.specs.Starting.{Fits, IsBegun}
 use Rattle.hsp_price_dispatch.specs.declared.answer.PriceAnswer.{PriceAnswer}
@@ -49,14 +50,13 @@ times_sum c f (x ∷ xs) =
     sum_by-cons (λ a. c * f a) x xs ∙ ap (λ n. c * f x + n) (times_sum c f xs)
     ∙ sym (ap (λ n. c * n) (sum_by-cons f x xs) ∙ mul-add c (f x) (sum_by f xs))
 
--- what each weighs by the tests that it passes, test by test
-by_tests : {A : Type 0} (v : A → ℕ) (t : ℕ → A → Bool) (w : ℕ → ℕ) (n : ℕ) (xs : List A)
-    → AllByRecursion (λ a. v a ≡ sum_below n (λ j. w j * one_if (t j a))) xs
-    → sum_by v xs ≡ sum_below n (λ j. w j * count_by (t j) xs)
-by_tests v t w n xs all =
-    same_sum v (λ a. sum_below n (λ j. w j * one_if (t j a))) xs all ∙ turned (λ j a. w j * one_if (t j a)) xs n
-    ∙ sum_below_same n (λ j. sum_by (λ a. w j * one_if (t j a)) xs) (λ j. w j * count_by (t j) xs)
-    (λ j l. times_sum (w j) (λ a. one_if (t j a)) xs)
+-- what each weighs by its terms, term by term
+pub by_terms : {A : Type 0} (v : A → ℕ) (f : ℕ → A → ℕ) (w : ℕ → ℕ) (n : ℕ) (xs : List A)
+    → All (λ a. v a ≡ sum_below n (λ j. w j * f j a)) xs → sum_by v xs ≡ sum_below n (λ j. w j * sum_by (f j) xs)
+by_terms v f w n xs all =
+    sum_by_same_all v (λ a. sum_below n (λ j. w j * f j a)) xs all ∙ turned (λ j a. w j * f j a) xs n
+    ∙ sum_below_same n (λ j. sum_by (λ a. w j * f j a) xs) (λ j. w j * sum_by (f j) xs)
+    (λ j l. times_sum (w j) (f j) xs)
 
 -- where none of several passes the first doesn't, and none of the others does
 none_count : {A : Type 0} (t : A → Bool) (x : A) (xs : List A) → count_by t (x ∷ xs) ≡ 0
@@ -66,7 +66,7 @@ none_count t x xs e =
     (omega (arith, split, e), omega (arith, split, e))
 
 -- a sum of which only one term counts
-one_term : (n : ℕ) (w : ℕ → ℕ) (i : ℕ) → ((j : ℕ) → n ≤ j → one_if (i == j) ≡ 0)
+pub one_term : (n : ℕ) (w : ℕ → ℕ) (i : ℕ) → ((j : ℕ) → n ≤ j → one_if (i == j) ≡ 0)
     → sum_below n (λ j. w j * one_if (i == j)) ≡ w i
 one_term n w i none =
     let here : one_if (i == i) ≡ 1 = rw (eq-eqb i i refl) refl in
@@ -109,7 +109,7 @@ test_weight test Full = refl
 test_weight test Unknown = refl
 
 -- nothing for an answer that goes nowhere
-no_terms : (n : ℕ) (w : ℕ → ℕ) → 0 ≡ sum_below n (λ j. w j * 0)
+pub no_terms : (n : ℕ) (w : ℕ → ℕ) → 0 ≡ sum_below n (λ j. w j * 0)
 no_terms n w = sym (sum_below_zero n (λ j. w j * 0) (λ j l. mul-zero (w j)))
 
 -- the weight of an answer, server by server
@@ -133,7 +133,8 @@ server_terms n w (a ∷ given) none = (
 server_sum : (n : ℕ) (w : ℕ → ℕ) (given : List PriceAnswer) → ((j : ℕ) → n ≤ j → count_at j given ≡ 0)
     → sum_by (weight_of w) given ≡ sum_below n (λ j. w j * count_at j given)
 server_sum n w given none =
-    by_tests (weight_of w) (λ j. goes_to (λ k. k == j)) w n given (server_terms n w given none)
+    by_terms (weight_of w) (λ j a. one_if (goes_to (λ k. k == j) a)) w n given
+    (All-from_recursion _ given (server_terms n w given none))
 
 module _ (at : Service) where
   -- the weight of an answer's host
@@ -160,8 +161,8 @@ module _ (at : Service) where
   host_sum : (m : ℕ) (q : ℕ → ℕ) (given : List PriceAnswer) → ((h : ℕ) → m ≤ h → count_on at h given ≡ 0)
       → sum_by (weight_of (λ j. at_host (host_at at j) q)) given ≡ sum_below m (λ h. q h * count_on at h given)
   host_sum m q given none =
-      by_tests (weight_of (λ j. at_host (host_at at j) q)) (λ h. goes_to (λ k. is_on (host_at at k) h)) q m given
-      (host_weights m q given none)
+      by_terms (weight_of (λ j. at_host (host_at at j) q)) (λ h a. one_if (goes_to (λ k. is_on (host_at at k) h) a)) q m
+      given (All-from_recursion _ given (host_weights m q given none))
 
   -- what goes to the servers of a host, server by server
   count_on_is : (n h : ℕ) (given : List PriceAnswer) → ((j : ℕ) → n ≤ j → count_at j given ≡ 0)
@@ -281,7 +282,7 @@ module _ (at : Service) (plan : Best) where
   only_brings j (Some arc) = refl
 
   -- what rows and classes bring to a server
-  load_rows : (entries : List Entry) (j : ℕ)
+  pub load_rows : (entries : List Entry) (j : ℕ)
       → load_at at plan (map row_of entries) j
       ≡ only_least_where at plan (λ i. i == j) entries + load_at at plan [] j
   load_rows entries j =
@@ -383,8 +384,8 @@ module _ (at : Service) (plan : Best) (own : Held) (entries : List Entry)
   no_less : (x : Plan) → Feasible (network_for at rows) x → sum_by cost_of_answer given ≤ total (network_for at rows) x
   no_less x feasible = omega (arith, cost_is, shown.1.cost, shown.1.best.least x feasible)
 
--- the answers to queries of a valid plan cost what it does
-pub costs_what_the_plan_does : PlanIsShown → CostsWhatThePlanDoes
-costs_what_the_plan_does shows at plan own entries is text valid begun within exact =
-    let shown = shows at (map row_of entries) plan is text valid in
-    (cost_is at plan own entries text valid begun within exact shown, no_less at plan own entries text valid begun within exact shown)
+  -- what the law says
+  pub costs : All (λ answer. is_assigned answer ≡ true) given × (sum_by cost_of_answer given ≡ plan.cost)
+      × ((x : Plan) → Feasible (network_for at rows) x
+      → sum_by cost_of_answer given ≤ total (network_for at rows) x)
+  costs = ((served_by_plan at plan own entries text fits begun within).0, cost_is, no_less)

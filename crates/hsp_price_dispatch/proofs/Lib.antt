@@ -13,6 +13,7 @@ pub mod FirstHeld
 pub mod ClassParts
 pub mod Planned
 pub mod AnswerCosts
+pub mod ValidQueries
 pub mod Greatest
 pub mod SeenArcs
 pub mod KnownRegions

@@ -86,14 +86,22 @@ cost_of_answer (Diverted arc) = arc.cost
 cost_of_answer Full = 0
 cost_of_answer Unknown = 0
 
--- Where the certificate is valid for rows of one query each, and these queries ask for just what the plan has, their
--- answers cost together what it states. No plan of the rows costs less.
+-- Where the certificate is valid for queries, each of them a row, they ask for just what the plan has.
+abbrev pub ValidIsWithinPlan : Type 0
+ValidIsWithinPlan =
+    (at : Service) (plan : Best) (entries : List Entry) → IsService at → IsCertificate (certificate.Plan plan)
+    → IsVerdict at (map row_of entries) (certificate.Plan plan) Yes
+    → AreWithinPlan at plan entries
+    × ((k : ℕ) → k < length plan.classes → asked_at at plan k entries ≡ sum (class_at plan k).amounts)
+
+-- So one front assigns each of them. Their answers cost together what the certificate states, and no plan of the rows
+-- costs less.
 abbrev pub CostsWhatThePlanDoes : Type 0
 CostsWhatThePlanDoes =
     (at : Service) (plan : Best) (own : Held) (entries : List Entry) → IsService at
     → IsCertificate (certificate.Plan plan) → IsVerdict at (map row_of entries) (certificate.Plan plan) Yes
-    → IsBegun at plan 1 0 own → AreWithinPlan at plan entries
-    → ((k : ℕ) → k < length plan.classes → asked_at at plan k entries ≡ sum (class_at plan k).amounts)
-    → (sum_by cost_of_answer (answers_to own entries) ≡ plan.cost)
+    → IsBegun at plan 1 0 own
+    → All (λ answer. is_assigned answer ≡ true) (answers_to own entries)
+    × (sum_by cost_of_answer (answers_to own entries) ≡ plan.cost)
     × ((x : Plan) → Feasible (network_for at (map row_of entries)) x
     → sum_by cost_of_answer (answers_to own entries) ≤ total (network_for at (map row_of entries)) x)

@@ -5,7 +5,7 @@ ghost use Rattle.hsp_price_dispatch.specs.Laws.{GivesTheGreatestPart, GoesByItsE
 ghost use Rattle.hsp_price_dispatch.specs.Laws.{IsDivertedLeast, IsFullWithoutRoom, IsUnknownWithoutCost, LeastAreArcs};
 ghost use Rattle.hsp_price_dispatch.specs.Laws.{NeverExceeds, NeverExceedsTogether, RoomsAddUp, TakesHostRoom};
 ghost use Rattle.hsp_price_dispatch.specs.Laws.{TakesRoom};
-ghost use Rattle.hsp_price_dispatch.specs.Planned.{CostsWhatThePlanDoes, IsServedByPlan};
+ghost use Rattle.hsp_price_dispatch.specs.Planned.{CostsWhatThePlanDoes, IsServedByPlan, ValidIsWithinPlan};
 
 use hsp_classes::laws::plan_is_shown;
 
@@ -72,10 +72,11 @@ pub fn served_by_plan()
     ensures { IsServedByPlan }
 {}
 
-/// Where the certificate of a plan is valid for queries, each of them a row, and they ask for just what the plan has,
-/// the answers of one front cost together what the plan does. No plan of these rows costs less.
+/// Queries for which the certificate of a plan is valid, each of them a row, ask for just what the plan has. So one
+/// front assigns each. Together they cost what the certificate states, and no plan of these rows costs less.
 pub fn costs_what_the_plan_does()
-    ensures { CostsWhatThePlanDoes }
+    ensures within { ValidIsWithinPlan }
+    ensures costs { CostsWhatThePlanDoes }
 {
     plan_is_shown();
 }
