@@ -1,7 +1,8 @@
 -- What answers cost together, where the plan's certificate is valid for the queries.
 use Rattle.std.proofs.Common.{◌≡◌, ◌<◌, ◌≤◌, ◌+◌, ◌*◌, ◌==◌, ◌∙◌, ℕ, Bool, true, List, [], ◌∷◌, All, Option, None, Some}
 use Rattle.std.proofs.Common.{ap, arith, eq-eqb, if◌then◌else◌, inl, inr, leb-true, length, map, mul-add, mul-one}
-use Rattle.std.proofs.Common.{mul-zero, mul_comm, nat_le, ne_eqb, one-mul, refl, slice_index, subst, sum, sum_by, sym, zero-mul}
+use Rattle.std.proofs.Common.{mul-zero, mul_comm, nat_le, ne_eqb, one-mul, refl}
+use Rattle.std.proofs.Common.{slice_index, subst, sum, sum_by, sym, zero-mul}
 use Rattle.std.specs.List.{AllByRecursion, Contains, count_by}
 use Rattle.std.proofs.lemmas.Bool.{cases_lt, true≢false}
 use Rattle.std.proofs.lemmas.List.{get_or_past, length-map}
