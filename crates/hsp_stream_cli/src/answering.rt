@@ -86,16 +86,19 @@ fn front_choice(alloc: Global, front: &Option<FrontWords<'_>>) -> Result<FrontCh
     }
 }
 
-// The words of a portion: the unit, and the number of fronts with that of one of them.
-fn portion_words(
-    alloc: Global,
-    unit: &Option<Word<'_>>,
-    front: &Option<FrontWords<'_>>,
-) -> Result<PortionWords, AllocError>
-    ensures { IfOk result (IsPortion unit.now front.now) }
+/// The words of a portion: the unit, and the number of fronts with that of one of them.
+#[derive(Clone, Copy)]
+pub(crate) struct AskedPortion<'p, 'w> {
+    pub(crate) unit: &'p Option<Word<'w>>,
+    pub(crate) front: &'p Option<FrontWords<'w>>,
+}
+
+// The octets of these words.
+fn portion_words(alloc: Global, asked: AskedPortion<'_, '_>) -> Result<PortionWords, AllocError>
+    ensures { IfOk result (IsPortion asked.entry.unit.now asked.entry.front.now) }
 {
-    let unit = octets_of(alloc, unit)?;
-    let FrontChoice { fronts, front } = front_choice(alloc, front)?;
+    let unit = octets_of(alloc, asked.unit)?;
+    let FrontChoice { fronts, front } = front_choice(alloc, asked.front)?;
     Ok(PortionWords {
         unit,
         fronts,
@@ -108,17 +111,16 @@ pub(crate) fn answer_log<S: FileSource, O: Output>(
     alloc: Global,
     files: &S,
     named: &PlanFiles<'_>,
-    unit: &Option<Word<'_>>,
-    front: &Option<FrontWords<'_>>,
+    asked: AskedPortion<'_, '_>,
     out: &mut O,
 ) -> Ended
-    ensures answers { AnswersLog (S.disk files.now) O.may_fail named.now unit.now front.now
-        (O.contents out.old) (O.contents out.new) result }
+    ensures answers { AnswersLog (S.disk files.now) O.may_fail named.now asked.entry.unit.now
+        asked.entry.front.now (O.contents out.old) (O.contents out.new) result }
     ensures handed { IsHandedOn (O.contents out.old) (O.handed out.old) (O.contents out.new)
         (O.handed out.new) result }
 {
     let opened = open_log(alloc, files, &named.inputs, &named.plan, &named.log)?;
-    let portion = portion_words(alloc, unit, front)?;
+    let portion = portion_words(alloc, asked)?;
     let OpenLog {
         inputs,
         certificate,

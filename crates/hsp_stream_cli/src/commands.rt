@@ -4,7 +4,7 @@ ghost use Rattle.std.specs.Prelude.{map, string_bytes};
 ghost use Rattle.hsp_stream_cli.specs.Commands.{CarriesOut, Obeys};
 ghost use Rattle.hsp_stream_cli.specs.Printing.{IsHandedOn};
 
-use crate::answering::{answer_log, answer_priced};
+use crate::answering::{AskedPortion, answer_log, answer_priced};
 use crate::checking::check_prices;
 use crate::faults::list_faults;
 use crate::placing::state_places;
@@ -33,9 +33,10 @@ fn carry_out<S: FileSource, O: Output>(
         StreamOrder::Version => print(out, VERSION),
         StreamOrder::Kinds { files, unit } => print_kinds(alloc, source, files, unit, out),
         StreamOrder::Places { files } => state_places(alloc, source, files, out),
-        StreamOrder::Answer { files, unit, front } => answer_log(
-            alloc, source, files, unit, front, out,
-        ),
+        StreamOrder::Answer { files, unit, front } => {
+            let asked = AskedPortion { unit, front };
+            answer_log(alloc, source, files, asked, out)
+        }
         StreamOrder::AnswerPrices { files, front } => answer_priced(
             alloc, source, files, front, out,
         ),
