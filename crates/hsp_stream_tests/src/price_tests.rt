@@ -54,27 +54,28 @@ fn inputs_of(alloc: Global) -> Result<Inputs, AllocError> {
     })
 }
 
-type Judged = Result<PriceVerdict, StreamFault>;
-
-// What the run gives.
-fn judged_once<R: Read + Drop>(alloc: Global, prices: &[u8], log: R) -> Judged {
-    let Ok(inputs) = inputs_of(alloc) else {
-        return Err(StreamFault::OutOfMemory);
-    };
-    price_check_run(alloc, &inputs, prices, log)
+// The same, once more where memory ran out.
+fn held_inputs(rt: &impl Abort, alloc: Global) -> Inputs {
+    match inputs_of(alloc) {
+        Ok(inputs) => inputs,
+        Err(AllocError) => inputs_of(alloc).expect(rt, "there is memory"),
+    }
 }
 
-// The same, once more where memory ran out.
-fn judged<R: Read + Copy + Drop>(alloc: Global, prices: &[u8], log: R) -> Judged {
-    match judged_once(alloc, prices, log) {
-        Err(StreamFault::OutOfMemory) => judged_once(alloc, prices, log),
+type Judged = Result<PriceVerdict, StreamFault>;
+
+// What the run gives, once more where memory ran out.
+fn judged<R: Read + Copy + Drop>(rt: &impl Abort, alloc: Global, prices: &[u8], log: R) -> Judged {
+    let inputs = held_inputs(rt, alloc);
+    match price_check_run(alloc, &inputs, prices, log) {
+        Err(StreamFault::OutOfMemory) => price_check_run(alloc, &inputs, prices, log),
         ended => ended,
     }
 }
 
 // The run over the log has this end.
 fn ends(rt: &impl Abort, alloc: Global, prices: &[u8], log: &[u8], wanted: Judged) {
-    is_same(rt, judged(alloc, prices, Rows::only(log)), wanted);
+    is_same(rt, judged(rt, alloc, prices, Rows::only(log)), wanted);
 }
 
 #[test]
@@ -133,19 +134,16 @@ fn a_fault_of_the_log_comes_before_the_verdict(rt: HostRuntime) {
         fails: true,
     };
     let failed = Err(StreamFault::Log(RowFault::ReadFailed));
-    is_same(&rt, judged(alloc, PLAN, failing), failed);
+    is_same(&rt, judged(&rt, alloc, PLAN, failing), failed);
 }
 
 // The line of a verdict, once more where memory ran out.
 fn has_line(rt: &impl Abort, alloc: Global, verdict: PriceVerdict, wanted: &[u8]) {
     let line = match price_verdict_line(alloc, verdict) {
-        Ok(line) => Ok(line),
-        Err(_) => price_verdict_line(alloc, verdict),
+        Ok(line) => line,
+        Err(AllocError) => price_verdict_line(alloc, verdict).expect(rt, "there is memory"),
     };
-    match line {
-        Ok(line) => is_same(rt, line.as_slice(), wanted),
-        Err(_) => is_same(rt, true, false),
-    }
+    is_same(rt, line.as_slice(), wanted);
 }
 
 #[test]
@@ -160,35 +158,24 @@ fn a_verdict_has_a_line_and_a_status(rt: HostRuntime) {
 
 type Reported = Result<PriceReport, StreamFault>;
 
-// What the run of a report gives.
-fn reported_once<R: Read + Drop>(
-    alloc: Global,
-    prices: &[u8],
-    kind: PriceReportKind,
-    log: R,
-) -> Reported {
-    let Ok(inputs) = inputs_of(alloc) else {
-        return Err(StreamFault::OutOfMemory);
-    };
-    price_report_run(alloc, &inputs, prices, kind, log)
-}
-
-// The same, once more where memory ran out.
+// What the run of a report gives, once more where memory ran out.
 fn reported<R: Read + Copy + Drop>(
+    rt: &impl Abort,
     alloc: Global,
     prices: &[u8],
     kind: PriceReportKind,
     log: R,
 ) -> Reported {
-    match reported_once(alloc, prices, kind, log) {
-        Err(StreamFault::OutOfMemory) => reported_once(alloc, prices, kind, log),
+    let inputs = held_inputs(rt, alloc);
+    match price_report_run(alloc, &inputs, prices, kind, log) {
+        Err(StreamFault::OutOfMemory) => price_report_run(alloc, &inputs, prices, kind, log),
         ended => ended,
     }
 }
 
 // The report of the plan is this text.
 fn shows(rt: &impl Abort, alloc: Global, kind: PriceReportKind, log: &[u8], wanted: &[u8]) {
-    match reported(alloc, PLAN, kind, Rows::only(log)) {
+    match reported(rt, alloc, PLAN, kind, Rows::only(log)) {
         Ok(PriceReport::Shown(text)) => is_same(rt, text.as_slice(), wanted),
         ended => is_same(rt, ended, Err(StreamFault::BadUnit)),
     }
@@ -198,7 +185,7 @@ fn shows(rt: &impl Abort, alloc: Global, kind: PriceReportKind, log: &[u8], want
 fn shows_none(rt: &impl Abort, alloc: Global, prices: &[u8], log: &[u8], wanted: StreamFault) {
     is_same(
         rt,
-        reported(alloc, prices, PriceReportKind::Load, Rows::only(log)),
+        reported(rt, alloc, prices, PriceReportKind::Load, Rows::only(log)),
         Err(wanted),
     );
 }
@@ -232,9 +219,9 @@ fn reports_show_loads_and_regions_by_the_rows_of_a_log(rt: HostRuntime) {
 fn a_report_of_a_certificate_that_is_not_valid_is_the_reason(rt: HostRuntime) {
     let alloc = rt.alloc();
     for kind in [PriceReportKind::Load, PriceReportKind::Region] {
-        let ended = reported(alloc, TOO_CHEAP, kind, Rows::only(DEMAND));
+        let ended = reported(&rt, alloc, TOO_CHEAP, kind, Rows::only(DEMAND));
         is_same(&rt, ended, Ok(PriceReport::Refused(PriceReason::Cost)));
-        let ended = reported(alloc, SET, kind, Rows::only(DEMAND));
+        let ended = reported(&rt, alloc, SET, kind, Rows::only(DEMAND));
         is_same(&rt, ended, Ok(PriceReport::Refused(PriceReason::DemandSum)));
     }
 }
@@ -262,20 +249,35 @@ struct Held {
     certificate: PriceCertificate,
 }
 
-fn made(alloc: Global) -> Option<Held> {
-    let inputs = inputs_of(alloc).ok()?;
-    Some(Held {
-        instance: instance_in(alloc, &inputs).ok()?,
-        costs: costs_in(alloc, COSTS).ok()?,
-        certificate: read_prices(alloc, PLAN).ok()?,
-    })
+// Each of these once more where memory ran out.
+
+fn held_instance(rt: &impl Abort, alloc: Global) -> Instance {
+    let inputs = held_inputs(rt, alloc);
+    match instance_in(alloc, &inputs) {
+        Ok(instance) => instance,
+        Err(_) => instance_in(alloc, &inputs).expect(rt, "the texts are right"),
+    }
 }
 
-// The same, once more where memory ran out.
+fn held_costs(rt: &impl Abort, alloc: Global) -> Costs {
+    match costs_in(alloc, COSTS) {
+        Ok(costs) => costs,
+        Err(_) => costs_in(alloc, COSTS).expect(rt, "the texts are right"),
+    }
+}
+
+fn held_certificate(rt: &impl Abort, alloc: Global) -> PriceCertificate {
+    match read_prices(alloc, PLAN) {
+        Ok(certificate) => certificate,
+        Err(_) => read_prices(alloc, PLAN).expect(rt, "the texts are right"),
+    }
+}
+
 fn hold(rt: &impl Abort, alloc: Global) -> Held {
-    match made(alloc) {
-        Some(held) => held,
-        None => made(alloc).expect(rt, "the texts are right"),
+    Held {
+        instance: held_instance(rt, alloc),
+        costs: held_costs(rt, alloc),
+        certificate: held_certificate(rt, alloc),
     }
 }
 
