@@ -3,16 +3,18 @@
 // 10/1 may go to the servers 1 and 4, 10/2 to 0 and 3, and 10/3 to 1 and 2. The servers 0 and 1 take 10 and 6, and
 // 2, 3 and 4 take 2, 10 and 10.
 
+ghost use Rattle.std.specs.Prelude.{◌<◌};
+
 use crate::building::instance_by;
 use crate::same::is_same;
 use hsp_dispatch::front_share::Front;
 use hsp_instance::{Arc, Instance};
 use hsp_names::HandleRef;
 use hsp_price_dispatch::{PriceAnswer, PriceDispatcher, StartFault};
-use hsp_price_text::{PriceCertificate, read_prices};
+use hsp_price_text::{PriceCertificate, PricedPlan, read_prices};
 use hsp_tables::{Costs, read_costs};
 use hsp_test_support::service::{CAPACITY, COSTS, DEMAND, HOST, SETTINGS};
-use std::alloc::Global;
+use std::alloc::{AllocError, Global};
 use std::process::Abort;
 
 // The server 1 has the price 1. Of the queries from r2 for 10/3 one goes there, and two go to the server 2.
@@ -48,56 +50,95 @@ struct Held {
     certificate: PriceCertificate,
 }
 
-// The worked service with these hosts, and a certificate. The host takes 8.
-fn made(alloc: Global, hosts: &[u8], prices: &[u8]) -> Option<Held> {
-    let mut settings = Vec::from_slice(alloc, SETTINGS).ok()?;
-    settings.extend_from_slice(hosts).ok()?;
-    Some(Held {
-        instance: instance_by(alloc, &settings, DEMAND, COSTS, CAPACITY)?,
-        costs: read_costs(alloc, COSTS).ok()?,
-        certificate: read_prices(alloc, prices).ok()?,
-    })
+// The settings of the worked service with these hosts. The host takes 8.
+fn settings_of(alloc: Global, hosts: &[u8]) -> Result<Vec<u8>, AllocError> {
+    let mut settings = Vec::from_slice(alloc, SETTINGS)?;
+    settings.extend_from_slice(hosts)?;
+    Ok(settings)
 }
 
-// The same, once more where memory ran out.
-fn hold(rt: &impl Abort, alloc: Global, hosts: &[u8], prices: &[u8]) -> Held {
-    match made(alloc, hosts, prices) {
-        Some(held) => held,
-        None => made(alloc, hosts, prices).expect(rt, "the texts are right"),
+// Each of these once more where memory ran out.
+
+fn held_instance(rt: &impl Abort, alloc: Global, hosts: &[u8]) -> Instance {
+    let settings = match settings_of(alloc, hosts) {
+        Ok(settings) => settings,
+        Err(AllocError) => settings_of(alloc, hosts).expect(rt, "there is memory"),
+    };
+    match instance_by(alloc, &settings, DEMAND, COSTS, CAPACITY) {
+        Some(instance) => instance,
+        None => instance_by(alloc, &settings, DEMAND, COSTS, CAPACITY).expect(
+            rt,
+            "the texts are right",
+        ),
     }
 }
+
+fn held_costs(rt: &impl Abort, alloc: Global) -> Costs {
+    match read_costs(alloc, COSTS) {
+        Ok(costs) => costs,
+        Err(_) => read_costs(alloc, COSTS).expect(rt, "the texts are right"),
+    }
+}
+
+fn held_certificate(rt: &impl Abort, alloc: Global, prices: &[u8]) -> PriceCertificate {
+    match read_prices(alloc, prices) {
+        Ok(certificate) => certificate,
+        Err(_) => read_prices(alloc, prices).expect(rt, "the texts are right"),
+    }
+}
+
+fn hold(rt: &impl Abort, alloc: Global, hosts: &[u8], prices: &[u8]) -> Held {
+    Held {
+        instance: held_instance(rt, alloc, hosts),
+        costs: held_costs(rt, alloc),
+        certificate: held_certificate(rt, alloc, prices),
+    }
+}
+
+// A single front, and each of two.
+const ONLY: Front = Front {
+    fronts: 1,
+    number: 0,
+};
+
+const FIRST_OF_TWO: Front = Front {
+    fronts: 2,
+    number: 0,
+};
+
+const SECOND_OF_TWO: Front = Front {
+    fronts: 2,
+    number: 1,
+};
 
 type Started<'a> = Result<PriceDispatcher<'a>, StartFault>;
 
-// A front before its first query. There are two of them at most.
-fn start_once(alloc: Global, held: &Held, fronts: u32, number: u32) -> Started<'_> {
-    let PriceCertificate::Plan(plan) = &held.certificate else {
-        return Err(StartFault::OutOfMemory);
-    };
-    if number >= fronts {
-        return Err(StartFault::OutOfMemory);
+// The plan of a certificate.
+fn plan_in(certificate: &PriceCertificate) -> Option<&PricedPlan> {
+    match certificate {
+        PriceCertificate::Plan(plan) => Some(plan),
+        PriceCertificate::Shortage(_) => None,
     }
-    let front = Front { fronts, number };
-    PriceDispatcher::new(alloc, &held.instance, &held.costs, plan, front)
 }
 
-// The same, once more where memory ran out.
-fn start(alloc: Global, held: &Held, fronts: u32, number: u32) -> Started<'_> {
-    match start_once(alloc, held, fronts, number) {
-        Err(StartFault::OutOfMemory) => start_once(alloc, held, fronts, number),
+// A front before its first query, once more where memory ran out.
+fn start<'a>(rt: &impl Abort, alloc: Global, held: &'a Held, front: Front) -> Started<'a>
+    requires { front.number < front.fronts }
+{
+    let plan = plan_in(&held.certificate).expect(rt, "the certificate is a plan's");
+    match PriceDispatcher::new(alloc, &held.instance, &held.costs, plan, front) {
+        Err(StartFault::OutOfMemory) => {
+            PriceDispatcher::new(alloc, &held.instance, &held.costs, plan, front)
+        }
         started => started,
     }
 }
 
 // The same of a plan that fits.
-fn begun<'a>(
-    rt: &impl Abort,
-    alloc: Global,
-    held: &'a Held,
-    fronts: u32,
-    number: u32,
-) -> PriceDispatcher<'a> {
-    start(alloc, held, fronts, number).expect(rt, "the plan fits")
+fn begun<'a>(rt: &impl Abort, alloc: Global, held: &'a Held, front: Front) -> PriceDispatcher<'a>
+    requires { front.number < front.fronts }
+{
+    start(rt, alloc, held, front).expect(rt, "the plan fits")
 }
 
 // ---- queries
@@ -166,7 +207,7 @@ fn ask_a_class(rt: &impl Abort, alloc: Global, dispatcher: &mut PriceDispatcher<
 fn a_class_goes_by_its_amounts_and_then_into_free_room(rt: HostRuntime) {
     let alloc = rt.alloc();
     let held = hold(&rt, alloc, b"", PLAN);
-    let mut dispatcher = begun(&rt, alloc, &held, 1, 0);
+    let mut dispatcher = begun(&rt, alloc, &held, ONLY);
     ask_a_class(&rt, alloc, &mut dispatcher);
 }
 
@@ -188,7 +229,7 @@ fn ask_too_much(rt: &impl Abort, alloc: Global, dispatcher: &mut PriceDispatcher
 fn room_that_is_held_goes_last(rt: HostRuntime) {
     let alloc = rt.alloc();
     let held = hold(&rt, alloc, b"", PLAN);
-    let mut dispatcher = begun(&rt, alloc, &held, 1, 0);
+    let mut dispatcher = begun(&rt, alloc, &held, ONLY);
     ask_too_much(&rt, alloc, &mut dispatcher);
 }
 
@@ -207,7 +248,7 @@ fn ask_a_host(rt: &impl Abort, alloc: Global, dispatcher: &mut PriceDispatcher<'
 fn a_host_may_fill_before_its_servers(rt: HostRuntime) {
     let alloc = rt.alloc();
     let held = hold(&rt, alloc, HOST, HOSTED_PLAN);
-    let mut dispatcher = begun(&rt, alloc, &held, 1, 0);
+    let mut dispatcher = begun(&rt, alloc, &held, ONLY);
     ask_a_host(&rt, alloc, &mut dispatcher);
 }
 
@@ -234,9 +275,9 @@ fn ask_the_second(rt: &impl Abort, alloc: Global, dispatcher: &mut PriceDispatch
 fn fronts_have_their_shares(rt: HostRuntime) {
     let alloc = rt.alloc();
     let held = hold(&rt, alloc, b"", PLAN);
-    let mut first = begun(&rt, alloc, &held, 2, 0);
+    let mut first = begun(&rt, alloc, &held, FIRST_OF_TWO);
     ask_the_first(&rt, alloc, &mut first);
-    let mut second = begun(&rt, alloc, &held, 2, 1);
+    let mut second = begun(&rt, alloc, &held, SECOND_OF_TWO);
     ask_the_second(&rt, alloc, &mut second);
 }
 
@@ -301,9 +342,9 @@ fn ask_in_turn(rt: &impl Abort, alloc: Global, dispatcher: &mut PriceDispatcher<
 fn handles_that_are_asked_again_have_the_answers_of_new_ones(rt: HostRuntime) {
     let alloc = rt.alloc();
     let held = hold(&rt, alloc, b"", PLAN);
-    let mut again = begun(&rt, alloc, &held, 1, 0);
+    let mut again = begun(&rt, alloc, &held, ONLY);
     ask_in_turn(&rt, alloc, &mut again, SAME);
-    let mut fresh = begun(&rt, alloc, &held, 1, 0);
+    let mut fresh = begun(&rt, alloc, &held, ONLY);
     ask_in_turn(&rt, alloc, &mut fresh, OTHERS);
 }
 
@@ -327,7 +368,7 @@ fn get_unknown(
 fn regions_without_a_cost_are_unknown(rt: HostRuntime) {
     let alloc = rt.alloc();
     let held = hold(&rt, alloc, b"", PLAN);
-    let mut dispatcher = begun(&rt, alloc, &held, 1, 0);
+    let mut dispatcher = begun(&rt, alloc, &held, ONLY);
     for number in 0..100u8 {
         let region = [b'q', b'0' + number / 10, b'0' + number % 10];
         get_unknown(&rt, alloc, &mut dispatcher, &region);
@@ -338,7 +379,7 @@ fn regions_without_a_cost_are_unknown(rt: HostRuntime) {
 // A dispatcher by this certificate has this fault.
 fn has_fault(rt: &impl Abort, alloc: Global, prices: &[u8], wanted: StartFault) {
     let held = hold(rt, alloc, b"", prices);
-    let fault = match start(alloc, &held, 1, 0) {
+    let fault = match start(rt, alloc, &held, ONLY) {
         Ok(_dispatcher) => None,
         Err(fault) => Some(fault),
     };
