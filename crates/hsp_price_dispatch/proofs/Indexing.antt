@@ -1,6 +1,6 @@
 -- What servers cost beside arcs, and where the cells of a class stand, by the lists that a front keeps for it.
 use Rattle.std.proofs.Common.{◌≡◌, ◌≤◌, ◌<◌, ◌+◌, ◌∙◌, ℕ, List, [], ◌∷◌, length, map, position, slice_index, All}
-use Rattle.std.proofs.Common.{None, Option, Some, ap, arith, filter, inl, inr, length-set, refl, subst, sym, Bool}
+use Rattle.std.proofs.Common.{None, Option, Some, ap, ap₂, arith, filter, inl, inr, length-set, refl, subst, sym, Bool}
 use Rattle.std.specs.Str.{bytes_eq}
 use Rattle.std.specs.List.{AllByRecursion}
 use Rattle.std.proofs.Math.Path.{fun_ext}
@@ -21,14 +21,15 @@ use Rattle.hsp_price_text.specs.Claim.{Best}
 use Rattle.hsp_classes.specs.Least.{arcs_of, host_at, is_least, least_arcs, least_of, pay_over, price_at, servers_of}
 use Rattle.hsp_classes.proofs.Lists.{all_kept}
 use Rattle.hsp_dispatch.specs.Dispatch.{Entry}
-use Rattle.hsp_price_check.specs.ClassNumbers.{is_named}
+use Rattle.hsp_price_check.specs.ClassNumbers.{HasClasses, is_named}
 use Rattle.hsp_price_check.specs.Extras.{pay_by}
 use Rattle.hsp_price_check.specs.Passed.{class_at, no_class}
-use Rattle.hsp_price_dispatch.specs.Choosing.{LeadsWithin, answer_of, assigned, choice_among, choice_for}
-use Rattle.hsp_price_dispatch.specs.Choosing.{class_number, elsewhere, first_cell, or_full, row_of}
+use Rattle.hsp_price_dispatch.specs.Choosing.{Least, LeadsWithin, answer_of, assigned, assigned_over, choice_among}
+use Rattle.hsp_price_dispatch.specs.Choosing.{choice_for, choice_over, class_number, elsewhere, least_for}
+use Rattle.hsp_price_dispatch.specs.Choosing.{or_full, row_of}
 use Rattle.hsp_price_dispatch.specs.Holding.{Held, cell_at, one_given}
 use Rattle.hsp_price_dispatch.specs.Choosing.{left_with}
-use Rattle.hsp_price_dispatch.specs.Standing.{IsIndexOf, IsOfService}
+use Rattle.hsp_price_dispatch.specs.Standing.{ClassIsThere, IsIndexOf, IsOfService}
 use Rattle.hsp_price_dispatch.specs.Taking.{CanTake}
 use Rattle.hsp_price_dispatch.specs.declared.answer.Choice.{Choice}
 use Rattle.hsp_price_dispatch.specs.declared.answer.Choice.TheVariants.{OfClass, Free, Diverted, Full, Unknown}
@@ -52,7 +53,7 @@ several_have plan region (arc ∷ []) many = absurd (omega arith)
 several_have plan region (arc ∷ other ∷ more) many = refl
 
 -- which has as many servers
-pub class_found : (plan : Best) (region : List ℕ) (least : List Arc) (k : ℕ)
+class_found : (plan : Best) (region : List ℕ) (least : List Arc) (k : ℕ)
     → position (is_named region (servers_of least)) plan.classes ≡ Some k
     → (k < length plan.classes) × (length (class_at plan k).servers ≡ length least)
 class_found plan region least k found =
@@ -64,17 +65,22 @@ class_found plan region least k found =
     (bytes_eq-Decides (class_at plan k).servers (servers_of least)).0 own.1 in
     (at.0, ap (λ (list : List ℕ). length list) same ∙ length-map least (λ arc. arc.server))
 
-module _ (own : Held) (index : Index) (is : IsIndexOf own index) where
-  -- the cells of the class of a row are there
-  pub cells_there : (region : List ℕ) (least : List Arc) (k : ℕ)
-      → position (is_named region (servers_of least)) own.plan.classes ≡ Some k
-      → (k < length index.firsts.items) × (slice_index index.firsts.items k + length least ≤ length own.cells)
-      × (slice_index index.firsts.items k ≡ first_cell own.plan.classes k)
-  cells_there region least k found =
-      let at = class_found own.plan region least k found in
-      let first = is.firsts k at.0 in
-      (omega (arith, at.0, is.firsts_many), omega (arith, is.cells k at.0, at.1, first), first)
+-- whichever it is
+is_there : (plan : Best) (region : List ℕ) (least : List Arc) (o : Option ℕ)
+    → position (is_named region (servers_of least)) plan.classes ≡ o → ClassIsThere plan least o
+is_there plan region least None found = tt
+is_there plan region least (Some k) found = class_found plan region least k found
 
+-- so the class of a row is there, if it has one
+pub row_class_there : (plan : Best) (region : List ℕ) (least : List Arc)
+    → ClassIsThere plan least (class_number plan region least)
+row_class_there plan region [] = tt
+row_class_there plan region (arc ∷ []) = tt
+row_class_there plan region (arc ∷ other ∷ more) =
+    is_there plan region (arc ∷ other ∷ more)
+    (position (is_named region (servers_of (arc ∷ other ∷ more))) plan.classes) refl
+
+module _ (own : Held) (index : Index) (is : IsIndexOf own index) where
   -- ---- least arcs
 
   -- past the servers there is no price
@@ -143,6 +149,28 @@ module _ (own : Held) (index : Index) (is : IsIndexOf own index) where
   index_stays Full = is
   index_stays Unknown = is
 
+-- ---- one choice or the other
+
+-- the first, where there is one
+pub or_first : (by : Choice) (a b : Option Choice) → Some by ≡ a → Some by ≡ or_else a b
+or_first by a b e = rw (← e) refl
+
+-- and otherwise the second
+pub or_second : (a b y : Option Choice) → None ≡ a → y ≡ b → y ≡ or_else a b
+or_second a b y e f = rw (← e) f
+
+-- the choice that is found, or Full
+pub full_first : (by : Choice) (a b : Option Choice) → Some by ≡ a → by ≡ or_full (or_else a b)
+full_first by a b e = rw (← e) refl
+
+-- the second choice is found where the first is not
+pub full_second : (by : Choice) (a b : Option Choice) → None ≡ a → Some by ≡ b → by ≡ or_full (or_else a b)
+full_second by a b e f = rw (← e, ← f) refl
+
+-- and Full where neither is
+pub full_none : (a b : Option Choice) → None ≡ a → None ≡ b → Full ≡ or_full (or_else a b)
+full_none a b e f = rw (← e, ← f) refl
+
 -- ---- the choice
 
 -- of arcs that a test keeps what held before
@@ -189,6 +217,21 @@ row_within at arcs is row =
     arcs_within at.costs is.costs.keyed.each row (length at.servers) 0 0 at.sites is.service.sites.each
     (omega (arith, is.service.servers.count))
 
+-- so there is room for what a query is answered by
+pub can_take_answer : (own : Held) (arcs : ArcsInTurn) → IsOfService own.service arcs → (region handle : List ℕ)
+    → CanTake own (choice_for own (record { region = region; handle = handle }))
+can_take_answer own arcs is region handle =
+    let row = row_named region handle 1 in
+    can_take_choice own region (arcs_of own.service row) (row_within own.service arcs is row)
+
+-- the least arcs of a query lead to servers that are there
+pub least_for_within : (own : Held) (arcs : ArcsInTurn) → IsOfService own.service arcs → (region handle : List ℕ)
+    → AllByRecursion (IsWithin (length own.service.servers)) (least_for own.service own.plan region handle).arcs
+least_for_within own arcs is region handle =
+    let row = row_named region handle 1 in
+    kept_within (length own.service.servers) (is_least (pay_over own.service own.plan) (arcs_of own.service row))
+    (arcs_of own.service row) (row_within own.service arcs is row)
+
 -- arcs that are found for a query are its own
 pub found_arcs : (at : Service) (own : ArcsInTurn) → IsOfService at own → (region handle : List ℕ) (arcs : List Arc)
     → AreArcsOf own.costs own.sites region handle arcs → arcs ≡ arcs_of at (row_named region handle 1)
@@ -197,12 +240,14 @@ found_arcs at own is region handle arcs found =
     found 1 ∙ ap (λ (costs : List CostEntry). arcs_from costs row 0 0 own.sites) is.costs_are
     ∙ ap (λ (sites : List Site). arcs_from at.costs row 0 0 sites) is.sites_are
 
--- what is chosen by a query's arcs is what it is answered by
-pub chosen_for : (own : Held) (region handle : List ℕ) (arcs : List Arc) (by : Choice)
-    → arcs ≡ arcs_of own.service (row_named region handle 1)
+-- what is found over least arcs is what the query is answered by
+among_least : (own : Held) (region : List ℕ) (arcs : List Arc) (by : Choice)
+    → Some by ≡ assigned own region (least_arcs (pay_over own.service own.plan) arcs)
     → by ≡ choice_among own region arcs (least_arcs (pay_over own.service own.plan) arcs)
-    → by ≡ choice_for own (record { region = region; handle = handle })
-chosen_for own region handle arcs by same is = rw same at is
+among_least own region [] by e = absurd (cc (e))
+among_least own region (arc ∷ arcs) by e =
+    full_first by (assigned own region (least_arcs (pay_over own.service own.plan) (arc ∷ arcs)))
+    (elsewhere own (arc ∷ arcs)) e
 
 -- a query with no arc is answered by Unknown
 pub no_arcs_unknown : (own : Held) (entry : Entry) → arcs_of own.service (row_of entry) ≡ []
@@ -210,45 +255,52 @@ pub no_arcs_unknown : (own : Held) (entry : Entry) → arcs_of own.service (row_
 no_arcs_unknown own entry none =
     ap (λ (list : List Arc). choice_among own entry.region list (least_of own.service own.plan (row_of entry))) none
 
--- ---- one choice or the other
+-- ---- least arcs that were seen
 
--- the first, where there is one
-pub or_first : (by : Choice) (a b : Option Choice) → Some by ≡ a → Some by ≡ or_else a b
-or_first by a b e = rw (← e) refl
-
--- and otherwise the second
-pub or_second : (a b y : Option Choice) → None ≡ a → y ≡ b → y ≡ or_else a b
-or_second a b y e f = rw (← e) f
-
--- the choice that is found, or Full
-pub full_first : (by : Choice) (a b : Option Choice) → Some by ≡ a → by ≡ or_full (or_else a b)
-full_first by a b e = rw (← e) refl
-
--- the second choice is found where the first is not
-pub full_second : (by : Choice) (a b : Option Choice) → None ≡ a → Some by ≡ b → by ≡ or_full (or_else a b)
-full_second by a b e f = rw (← e, ← f) refl
-
--- and Full where neither is
-pub full_none : (a b : Option Choice) → None ≡ a → None ≡ b → Full ≡ or_full (or_else a b)
-full_none a b e f = rw (← e, ← f) refl
-
--- ---- lists of least arcs
-
-module _ (own : Held) (index : Index) (is : IsIndexOf own index) (arcs list items : List Arc) (extras : List ℕ)
-    (shown : list ≡ items) (filled : items ≡ least_arcs (pay_by extras) arcs) (same : extras ≡ index.extras.items)
+module _ (own : Held) (region handle : List ℕ) (least : Least)
+    (seen : least ≡ least_for own.service own.plan region handle)
   where
-    -- a list that was filled with least arcs by the numbers has the least arcs
-    pub least_list : list ≡ least_arcs (pay_over own.service own.plan) arcs
-    least_list =
-        shown ∙ filled ∙ ap (λ own_extras. least_arcs (pay_by own_extras) arcs) same ∙ least_is own index is arcs
+    -- what is found over them is what the query is answered by
+    pub seen_answers : (by : Choice) → Some by ≡ assigned_over own least
+        → by ≡ choice_for own (record { region = region; handle = handle })
+    seen_answers by e =
+        among_least own region (arcs_of own.service (row_named region handle 1)) by (e ∙ ap (assigned_over own) seen)
 
-    -- which lead to servers that are there
-    pub least_within : AllByRecursion (IsWithin (length own.service.servers)) arcs
-        → AllByRecursion (IsWithin (length own.service.servers)) list
-    least_within within =
-        subst (λ (own_list : List Arc). AllByRecursion (IsWithin (length own.service.servers)) own_list) (sym
-        least_list)
-        (kept_within (length own.service.servers) (is_least (pay_over own.service own.plan) arcs) arcs within)
+    -- their class is there
+    pub seen_class : ClassIsThere own.plan least.arcs least.class
+    seen_class =
+        subst (λ (l : Least). ClassIsThere own.plan l.arcs l.class) (sym seen)
+        (row_class_there own.plan region (least_of own.service own.plan (row_named region handle 1)))
+
+    -- they lead to servers that are there
+    pub seen_within : (arcs : ArcsInTurn) → IsOfService own.service arcs
+        → AllByRecursion (IsWithin (length own.service.servers)) least.arcs
+    seen_within arcs is =
+        subst (λ (l : Least). AllByRecursion (IsWithin (length own.service.servers)) l.arcs) (sym seen)
+        (least_for_within own arcs is region handle)
+
+-- ---- least arcs that were found
+
+module _ (own : Held) (index : Index) (is : IsIndexOf own index) (region handle : List ℕ) (arcs least : List Arc)
+    (class : Option ℕ) (arcs_are : arcs ≡ arcs_of own.service (row_named region handle 1))
+    (filled : least ≡ least_arcs (pay_by index.extras.items) arcs)
+    (named : (plan : Best) → HasClasses plan.classes index.classes.entries → class ≡ class_number plan region least)
+  where
+    -- they are the query's own
+    least_is_own : least ≡ least_of own.service own.plan (row_named region handle 1)
+    least_is_own =
+        filled ∙ least_is own index is arcs ∙ ap (λ list. least_arcs (pay_over own.service own.plan) list) arcs_are
+
+    -- with its class
+    pub found_least : record { arcs = least; class = class } ≡ least_for own.service own.plan region handle
+    found_least =
+        ap₂ (λ (list : List Arc) (o : Option ℕ). record { arcs = list; class = o }) least_is_own
+        (named own.plan is.classes ∙ ap (class_number own.plan region) least_is_own)
+
+    -- what is chosen by them is what the query is answered by
+    pub found_answers : (by : Choice) → by ≡ choice_over own (record { arcs = least; class = class }) arcs
+        → by ≡ choice_for own (record { region = region; handle = handle })
+    found_answers by chosen = chosen ∙ ap₂ (choice_over own) found_least arcs_are
 
 -- what can be taken leads to a server that is there
 pub answer_within : (own : Held) (choice : Choice) → CanTake own choice

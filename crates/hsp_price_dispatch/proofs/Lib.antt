@@ -15,7 +15,7 @@ pub mod Planned
 pub mod AnswerCosts
 pub mod ValidQueries
 pub mod Greatest
-pub mod SeenArcs
+pub mod SeenLeast
 pub mod KnownRegions
 pub mod Choices
 pub mod Diverting

@@ -6,6 +6,7 @@ use Rattle.hsp_instance.specs.Building.{or_else}
 use Rattle.hsp_instance.specs.Instance.{Row}
 use Rattle.hsp_instance.specs.RowArcs.{row_named}
 use Rattle.hsp_instance.specs.declared.arc.Arc.{Arc}
+use Rattle.hsp_kinds.specs.Rows.{Service}
 use Rattle.hsp_price_text.specs.Claim.{Best, Class}
 use Rattle.hsp_classes.specs.Least.{arcs_of, least_arcs, least_of, pay_over, servers_of}
 use Rattle.hsp_classes.specs.Sums.{sends}
@@ -22,7 +23,12 @@ use Rattle.hsp_price_dispatch.specs.declared.choosing.Place.{Place}
 use Rattle.hsp_price_dispatch.specs.declared.choosing.Wanted.{Wanted}
 use Rattle.hsp_price_dispatch.specs.declared.choosing.Wanted.TheVariants as wanted
 
--- ---- by a class
+-- ---- least arcs
+
+-- least arcs, and the number of their class, if they have one
+pub record Least : Type 0 where
+  pub arcs : List Arc
+  pub class : Option ℕ
 
 -- the class of a region and several least arcs
 abbrev pub class_number : Best → List ℕ → List Arc → Option ℕ
@@ -30,6 +36,16 @@ class_number plan region [] = None
 class_number plan region (arc ∷ []) = None
 class_number plan region (arc ∷ other ∷ more) =
     position (is_named region (servers_of (arc ∷ other ∷ more))) plan.classes
+
+-- arcs with the class of a region and them
+abbrev pub with_class : Best → List ℕ → List Arc → Least
+with_class plan region arcs = record { arcs = arcs; class = class_number plan region arcs }
+
+-- the least arcs of a query for a handle from a region
+abbrev pub least_for : Service → Best → List ℕ → List ℕ → Least
+least_for at plan region handle = with_class plan region (least_of at plan (row_named region handle 1))
+
+-- ---- by a class
 
 -- the number of the first cell of a class: there is a cell for each server of the classes before it
 abbrev pub first_cell : List Class → ℕ → ℕ
@@ -116,14 +132,20 @@ or_full None = choice.Full
 or_full (Some by) = by
 
 -- by a class, and otherwise by free room over one of the least arcs
+abbrev pub assigned_over : Held → Least → Option Choice
+assigned_over own least = or_else (by_class own least.arcs least.class) (by_room own least.arcs)
+
 abbrev pub assigned : Held → List ℕ → List Arc → Option Choice
-assigned own region least = or_else (by_class own least (class_number own.plan region least)) (by_room own least)
+assigned own region least = assigned_over own (with_class own.plan region least)
+
+-- what a query with these least arcs, and these arcs, is answered by
+abbrev pub choice_over : Held → Least → List Arc → Choice
+choice_over own least [] = choice.Unknown
+choice_over own least (arc ∷ arcs) = or_full (or_else (assigned_over own least) (elsewhere own (arc ∷ arcs)))
 
 -- what a query from a region with these arcs and least arcs is answered by
 abbrev pub choice_among : Held → List ℕ → List Arc → List Arc → Choice
-choice_among own region [] least = choice.Unknown
-choice_among own region (arc ∷ arcs) least =
-    or_full (or_else (assigned own region least) (elsewhere own (arc ∷ arcs)))
+choice_among own region arcs least = choice_over own (with_class own.plan region least) arcs
 
 -- the row of an entry, which asks for one query
 abbrev pub row_of : Entry → Row

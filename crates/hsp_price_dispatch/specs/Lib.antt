@@ -6,4 +6,4 @@ pub mod Regions
 pub mod Standing
 pub mod Laws
 pub mod Planned
-pub mod SeenArcs
+pub mod SeenLeast

@@ -1,8 +1,10 @@
 -- What the lists beside a front's numbers hold.
-use Rattle.std.specs.Prelude.{◌≡◌, ◌≤◌, ◌<◌, ◌+◌, ℕ, List, [], Option, length, map, slice_index, All, true}
+use Rattle.std.specs.Prelude.{◌≡◌, ◌≤◌, ◌<◌, ◌+◌, ℕ, List, [], None, Option, Some, length, map, slice_index, All}
+use Rattle.std.specs.Prelude.{true, ⊤}
 use Rattle.std.specs.List.{AllByRecursion}
 use Rattle.hsp_tables.specs.Costs.{AreCosts}
 use Rattle.hsp_instance.specs.RowArcs.{ArcsInTurn}
+use Rattle.hsp_instance.specs.declared.arc.Arc.{Arc}
 use Rattle.hsp_kinds.specs.Rows.{Service}
 use Rattle.hsp_price_text.specs.Claim.{Best}
 use Rattle.hsp_price_text.specs.Certificate.{IsCertificate}
@@ -61,3 +63,8 @@ pub record IsAccepted (at : Service) (plan : Best) (accepted : Accepted) : Type 
   pub host_loads_many : length accepted.host_loads.items ≡ length at.hosts
   pub host_loads : (h : ℕ) → h < length at.hosts
       → slice_index accepted.host_loads.items h ≡ host_load_at at plan [] h
+
+-- if there is a class, it is one of the plan, with a server for each of the arcs
+abbrev pub ClassIsThere : Best → List Arc → Option ℕ → Type 0
+ClassIsThere plan arcs None = ⊤
+ClassIsThere plan arcs (Some k) = (k < length plan.classes) × (length (class_at plan k).servers ≡ length arcs)

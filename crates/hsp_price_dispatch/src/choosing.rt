@@ -1,21 +1,25 @@
 // What a query is answered by.
 
-ghost use Rattle.std.specs.Prelude.{◌≡◌, ◌≤◌, ◌<◌, ◌+◌, IfOk, OnOk, drop, filter, length, vec_len};
+ghost use Rattle.std.specs.Prelude.{◌≡◌, ◌≤◌, ◌<◌, ◌+◌, IfOk, OnOk, drop, filter, length};
 ghost use Rattle.std.specs.List.{AllByRecursion};
 ghost use Rattle.hsp_instance.specs.RowArcs.{IsWithin};
-ghost use Rattle.hsp_classes.specs.Least.{least_arcs, pay_over};
+ghost use Rattle.hsp_classes.specs.Least.{least_arcs};
 ghost use Rattle.hsp_price_check.specs.Extras.{pay_by};
 ghost use Rattle.hsp_price_check.specs.LeastPay.{AreLow};
-ghost use Rattle.hsp_price_dispatch.specs.Choosing.{assigned, at_first, by_class, by_place};
-ghost use Rattle.hsp_price_dispatch.specs.Choosing.{by_room, can_give, choice_among};
+ghost use Rattle.hsp_price_text.specs.Claim.{Best};
+ghost use Rattle.hsp_price_check.specs.ClassNumbers.{HasClasses};
+ghost use Rattle.hsp_price_dispatch.specs.Choosing.{assigned_over, at_first, by_class, by_place};
+ghost use Rattle.hsp_price_dispatch.specs.Choosing.{by_room, can_give, choice_over};
 ghost use Rattle.hsp_price_dispatch.specs.Choosing.{class_number, elsewhere, fuller, fullest, has_wanted};
 ghost use Rattle.hsp_price_dispatch.specs.Choosing.{has_wanted_at, is_fuller, place_at, places_from};
-ghost use Rattle.hsp_price_dispatch.specs.Standing.{IsIndexOf};
+ghost use Rattle.hsp_price_dispatch.specs.SeenLeast.{lent_least};
+ghost use Rattle.hsp_price_dispatch.specs.Standing.{ClassIsThere, IsIndexOf};
 ghost use Rattle.hsp_price_dispatch.specs.declared.answer.Choice.TheVariants.{Diverted as over};
 
 use crate::answer::Choice;
 use crate::cells::Cell;
 use crate::holding::Holding;
+use crate::seen_least::LentLeast;
 use hsp_instance::Arc;
 use hsp_price_check::{fill_least, fill_servers, find_class};
 use hsp_tally::FirstNumbers;
@@ -130,28 +134,17 @@ fn by_place(place: Option<Place>) -> Option<Choice>
     }
 }
 
-// By the class of the region and these least arcs, where there is one that can give.
-fn by_class(
-    holding: &Holding<'_>,
-    index: &Index,
-    servers: &mut Vec<u32>,
-    region: &[u8],
-    least: &[Arc],
-) -> Result<Option<Choice>, AllocError>
+// By the class of these least arcs, where there is one that can give.
+fn by_class(holding: &Holding<'_>, index: &Index, least: LentLeast<'_>) -> Option<Choice>
     requires index { IsIndexOf holding.now index.now }
-    requires within { AllByRecursion (IsWithin (length holding.now.service.servers)) least.now }
-    ensures { IfOk result (λ by. by ≡ by_class holding.now least.now
-        (class_number holding.now.plan region.now least.now)) }
+    requires within { AllByRecursion (IsWithin (length holding.now.service.servers))
+        least.arcs.now }
+    requires class { ClassIsThere holding.now.plan least.arcs.now least.class }
+    ensures { result ≡ by_class holding.now least.entry.arcs.now least.entry.class }
 {
-    if least.len() < 2 {
-        return Ok(None);
-    }
-    fill_servers(servers, least)?;
-    let Some(class) = find_class(&index.classes, region, servers) else {
-        return Ok(None);
-    };
+    let class = least.class?;
     let first = index.firsts[class as usize];
-    Ok(by_place(fullest(holding, first, least)))
+    by_place(fullest(holding, first, least.arcs))
 }
 
 // By free room over the first of the arcs that leads to some.
@@ -230,46 +223,68 @@ fn elsewhere(
     divert(&mut scratch.least, &scratch.passing, &index.extras)
 }
 
-// By a class or by free room over the least arcs.
-fn assigned(
-    holding: &Holding<'_>,
+/// By a class or by free room over the least arcs.
+pub(crate) fn assigned(holding: &Holding<'_>, index: &Index, least: LentLeast<'_>) -> Option<Choice>
+    requires index { IsIndexOf holding.now index.now }
+    requires within { AllByRecursion (IsWithin (length holding.now.service.servers))
+        least.arcs.now }
+    requires class { ClassIsThere holding.now.plan least.arcs.now least.class }
+    ensures { result ≡ assigned_over holding.now (lent_least least.entry) }
+{
+    match by_class(holding, index, least) {
+        Some(choice) => Some(choice),
+        None => by_room(holding, least.arcs),
+    }
+}
+
+/// Writes the least of a row's arcs over what the list had, and returns the number of their class, if they have one.
+pub(crate) fn find_least(
     index: &Index,
     scratch: &mut Scratch,
     region: &[u8],
     arcs: &[Arc],
-) -> Result<Option<Choice>, AllocError>
-    requires index { IsIndexOf holding.now index.now }
-    requires within { AllByRecursion (IsWithin (length holding.now.service.servers)) arcs.now }
-    ensures { IfOk result (λ by. by ≡ assigned holding.now region.now
-        (least_arcs (pay_over holding.now.service holding.now.plan) arcs.now)) }
+) -> Result<Option<u32>, AllocError>
+    requires within { AllByRecursion (IsWithin (length index.now.extras.items)) arcs.now }
+    requires low { AreLow index.now.extras.items }
+    ensures least { OnOk result (scratch.new.least.items
+        ≡ least_arcs (pay_by index.now.extras.items) arcs.now) }
+    ensures class { IfOk result (λ class. (plan : Best)
+        → HasClasses plan.classes index.now.classes.entries
+        → class ≡ class_number plan region.now scratch.new.least.items) }
 {
     fill_least(&mut scratch.least, arcs, &index.extras)?;
-    let least = scratch.least.as_slice();
-    let by = by_class(holding, index, &mut scratch.servers, region, least)?;
-    match by {
-        Some(choice) => Ok(Some(choice)),
-        None => Ok(by_room(holding, least)),
+    if scratch.least.len() < 2 {
+        return Ok(None);
     }
+    fill_servers(&mut scratch.servers, &scratch.least)?;
+    Ok(find_class(&index.classes, region, &scratch.servers))
 }
 
-/// What a query from the region with these arcs is answered by.
+/// What a query with these arcs is answered by, whose least arcs were written. They have the class with this number,
+/// if there is one.
 pub(crate) fn choose(
     holding: &Holding<'_>,
     index: &Index,
     scratch: &mut Scratch,
-    region: &[u8],
+    class: Option<u32>,
     arcs: &[Arc],
 ) -> Result<Choice, AllocError>
     requires index { IsIndexOf holding.now index.now }
     requires within { AllByRecursion (IsWithin (length holding.now.service.servers)) arcs.now }
-    ensures { IfOk result (λ choice. choice ≡ choice_among holding.now region.now arcs.now
-        (least_arcs (pay_over holding.now.service holding.now.plan) arcs.now)) }
+    requires least_within { AllByRecursion (IsWithin (length holding.now.service.servers))
+        scratch.old.least.items }
+    requires class { ClassIsThere holding.now.plan scratch.old.least.items class }
+    ensures { IfOk result (λ choice. choice ≡ choice_over holding.now
+        (record { arcs = scratch.old.least.items; class = class }) arcs.now) }
 {
     if arcs.is_empty() {
         return Ok(Choice::Unknown);
     }
-    let least = assigned(holding, index, scratch, region, arcs)?;
-    if let Some(choice) = least {
+    let least = LentLeast {
+        arcs: &scratch.least,
+        class,
+    };
+    if let Some(choice) = assigned(holding, index, least) {
         return Ok(choice);
     }
     let other = elsewhere(holding, index, scratch, arcs)?;

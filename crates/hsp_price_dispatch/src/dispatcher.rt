@@ -9,10 +9,10 @@ ghost use Rattle.hsp_price_dispatch.specs.Starting.{Fits, IsBegun, Stands};
 ghost use Rattle.hsp_price_dispatch.specs.Taking.{CanTake};
 
 use crate::answer::{Choice, PriceAnswer};
-use crate::choosing::{Index, Scratch, choose};
+use crate::choosing::{Index, Scratch, assigned, choose, find_least};
 use crate::fault::StartFault;
 use crate::holding::Holding;
-use crate::seen_arcs::SeenArcs;
+use crate::seen_least::{LentLeast, SeenLeast};
 use crate::starting::{ServiceRef, accept, begin, index_of};
 use hsp_dispatch::front_share::Front;
 use hsp_instance::{Instance, RowArcs};
@@ -25,14 +25,14 @@ use std::marker::Model;
 /// A front that answers queries for any handle by a certificate by prices. It has a share of each amount of a class,
 /// and of the room that servers and hosts have beside these.
 ///
-/// It remembers where at most 65,536 queries may go, those whose region and handle have at most 256 octets together. So
-/// it hashes none of these handles again. It also remembers what the regions that have a cost pay at each site. The
-/// table of costs has at most 64 regions, so its memory is bounded, whatever is asked. Of a region without a cost it
-/// remembers nothing.
+/// It remembers over which arcs at most 65,536 queries pay least, those whose region and handle have at most 256 octets
+/// together. So it hashes none of these handles again, as long as one of these arcs can be taken. It also remembers
+/// what the regions that have a cost pay at each site. The table of costs has at most 64 regions, so its memory is
+/// bounded, whatever is asked. Of a region without a cost it remembers nothing.
 #[derive(Drop)]
 pub struct PriceDispatcher<'a> {
     arcs: RowArcs<'a>,
-    seen: SeenArcs,
+    seen: SeenLeast,
     holding: Holding<'a>,
     index: Index,
     scratch: Scratch,
@@ -40,7 +40,7 @@ pub struct PriceDispatcher<'a> {
 
 impl<'a> Model for PriceDispatcher<'a> {
     ghost use Rattle.hsp_price_dispatch.specs.Holding.{Held};
-    ghost use Rattle.hsp_price_dispatch.specs.SeenArcs.{HaveTheirArcs};
+    ghost use Rattle.hsp_price_dispatch.specs.SeenLeast.{HaveTheirLeast};
     ghost use Rattle.hsp_price_dispatch.specs.Standing.{IsIndexOf, IsOfService};
 
     ghost Value = { Held };
@@ -49,7 +49,7 @@ impl<'a> Model for PriceDispatcher<'a> {
 
     ghost invariant = { λ d. IsIndexOf d.holding d.index
         × IsOfService d.holding.service d.arcs
-        × HaveTheirArcs d.holding.service d.seen };
+        × HaveTheirLeast d.holding.service d.holding.plan d.seen };
 }
 
 impl<'a> PriceDispatcher<'a> {
@@ -83,7 +83,7 @@ impl<'a> PriceDispatcher<'a> {
         let holding = begin(alloc, service, plan, accepted, front)?;
         Ok(PriceDispatcher {
             arcs: RowArcs::new(alloc, instance.sites(), costs),
-            seen: SeenArcs::new(alloc),
+            seen: SeenLeast::new(alloc),
             holding,
             index,
             scratch: Scratch {
@@ -101,7 +101,7 @@ impl<'a> PriceDispatcher<'a> {
         self.arcs.knows(region) || self.holding.has_cost(region)
     }
 
-    // What a query for a handle from a region is answered by, where no arcs of it were seen. Its arcs are remembered,
+    // What a query for a handle from a region is answered by, whose handle is hashed. Its least arcs are remembered,
     // but nothing is of a region that has no cost.
     fn choose_new(
         &mut self,
@@ -119,8 +119,13 @@ impl<'a> PriceDispatcher<'a> {
         }
         self.arcs.find(alloc, region, handle)?;
         let arcs = self.arcs.arcs();
-        self.seen.remember(alloc, region, handle.bytes(), arcs)?;
-        choose(&self.holding, &self.index, &mut self.scratch, region, arcs)
+        let class = find_least(&self.index, &mut self.scratch, region, arcs)?;
+        let least = LentLeast {
+            arcs: &self.scratch.least,
+            class,
+        };
+        self.seen.remember(alloc, region, handle.bytes(), least)?;
+        choose(&self.holding, &self.index, &mut self.scratch, class, arcs)
     }
 
     // What a query for a handle from a region is answered by.
@@ -135,8 +140,10 @@ impl<'a> PriceDispatcher<'a> {
         ensures can { IfOk result (CanTake self.old) }
         ensures same { self.new ≡ self.old }
     {
-        if let Some(arcs) = self.seen.find(region, handle.bytes()) {
-            return choose(&self.holding, &self.index, &mut self.scratch, region, arcs);
+        if let Some(least) = self.seen.find(region, handle.bytes()) {
+            if let Some(choice) = assigned(&self.holding, &self.index, least) {
+                return Ok(choice);
+            }
         }
         self.choose_new(alloc, region, handle)
     }

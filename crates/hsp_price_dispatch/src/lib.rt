@@ -12,7 +12,7 @@ mod holding;
 pub mod laws;
 mod regions;
 mod rooms;
-mod seen_arcs;
+mod seen_least;
 mod starting;
 
 pub use answer::PriceAnswer;

@@ -148,8 +148,10 @@ pub struct RowAsker {
 }
 
 impl RowAsker {
-    /// One that has read nothing yet.
-    pub fn new(alloc: Global) -> RowAsker {
+    /// One that has read nothing yet, and keeps no octets.
+    pub fn new(alloc: Global) -> RowAsker
+        ensures { result.body.items ≡ [] }
+    {
         RowAsker {
             reader: RowReader::new(alloc),
             body: Vec::new(alloc),

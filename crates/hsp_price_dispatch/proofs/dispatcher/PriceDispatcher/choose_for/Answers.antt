@@ -1,49 +1,53 @@
-use Rattle.std.proofs.Common.{◌≡◌, ◌∙◌, List, ap, length, subst, sym}
-use Rattle.std.specs.List.{AllByRecursion}
-use Rattle.std.proofs.lemmas.Result.{IfOk-weaker}
+use Rattle.std.proofs.Common.{◌≡◌, ◌∙◌, ap, sym}
 use Rattle.hsp_names.specs.Lent.{octets_of}
-use Rattle.hsp_instance.specs.RowArcs.{IsWithin, row_named}
-use Rattle.hsp_instance.specs.declared.arc.Arc.{Arc}
-use Rattle.hsp_classes.specs.Least.{arcs_of}
-use Rattle.hsp_price_dispatch.specs.Taking.{CanTake}
-use Rattle.hsp_price_dispatch.proofs.Indexing.{can_take_choice, chosen_for, row_within}
-use Rattle.hsp_price_dispatch.proofs.SeenArcs.{found_own}
+use Rattle.hsp_price_dispatch.specs.Choosing.{least_for}
+use Rattle.hsp_price_dispatch.specs.SeenLeast.{lent_least}
+use Rattle.hsp_price_dispatch.proofs.Indexing.{can_take_answer, seen_answers, seen_class, seen_within}
+use Rattle.hsp_price_dispatch.proofs.SeenLeast.{found_own}
 use Rattle.hsp_price_dispatch.proofs.dispatcher.PriceDispatcher.choose_for.Goals as goal
 
-pub choose-requires-clause-within : goal.choose-requires-clause-within
-choose-requires-clause-within c =
-    let at = c.self.inside.holding.service in
+pub assigned-requires-clause-within : goal.assigned-requires-clause-within
+assigned-requires-clause-within c =
+    let own = c.self.inside.holding in
     let region = c.args.region.now in
     let octets = c.bytes.result.now in
-    let own : c.in-Some.arcs.now ≡ arcs_of at (row_named region octets 1) =
-    found_own c.self.inside.seen region octets c.in-Some.arcs.now at c.self.invariant.2 c.in-Some.ensures.found in
-    subst (λ (arcs : List Arc). AllByRecursion (IsWithin (length at.servers)) arcs) (sym own)
-    (row_within at c.self.inside.arcs c.self.invariant.1 (row_named region octets 1))
+    let least = lent_least c.in-Some.least in
+    let seen : least ≡ least_for own.service own.plan region octets =
+    found_own c.self.inside.seen region octets least own.service own.plan c.self.invariant.2 c.in-Some.ensures.found in
+    seen_within own region octets least seen c.self.inside.arcs c.self.invariant.1
 
-pub returns-in-Some-clause-choice : goal.returns-in-Some-clause-choice
-returns-in-Some-clause-choice c =
-    let held = c.self.inside.holding in
-    let at = held.service in
+pub assigned-requires-clause-class : goal.assigned-requires-clause-class
+assigned-requires-clause-class c =
+    let own = c.self.inside.holding in
     let region = c.args.region.now in
     let octets = c.bytes.result.now in
-    let own : c.in-Some.arcs.now ≡ arcs_of at (row_named region (octets_of c.args.handle) 1) =
-    found_own c.self.inside.seen region octets c.in-Some.arcs.now at c.self.invariant.2 c.in-Some.ensures.found
-    ∙ ap (λ handle. arcs_of at (row_named region handle 1)) c.bytes.ensures.octets in
-    rw (← c.self.view_is)
-    (IfOk-weaker c.choose.result _ _
-    (λ by chosen. chosen_for held region (octets_of c.args.handle) c.in-Some.arcs.now by own chosen) c.choose.ensures)
+    let least = lent_least c.in-Some.least in
+    seen_class own region octets least
+    (found_own c.self.inside.seen region octets least own.service own.plan c.self.invariant.2 c.in-Some.ensures.found)
 
-pub returns-in-Some-clause-can : goal.returns-in-Some-clause-can
-returns-in-Some-clause-can c =
-    let held = c.self.inside.holding in
-    let at = held.service in
+pub returns-in-Some-assigned-clause-choice : goal.returns-in-Some-assigned-clause-choice
+returns-in-Some-assigned-clause-choice c =
+    let own = c.self.inside.holding in
+    let region = c.args.region.now in
+    let octets = octets_of c.args.handle in
+    let least = lent_least c.in-Some.least in
+    let seen : least ≡ least_for own.service own.plan region octets =
+    found_own c.self.inside.seen region c.bytes.result.now least own.service own.plan c.self.invariant.2
+    c.in-Some.ensures.found
+    ∙ ap (least_for own.service own.plan region) c.bytes.ensures.octets in
+    rw (← c.self.view_is)
+    (seen_answers own region octets least seen c.in-Some-assigned.choice
+    (sym c.in-Some-assigned.is ∙ c.assigned.ensures))
+
+pub returns-in-Some-assigned-clause-can : goal.returns-in-Some-assigned-clause-can
+returns-in-Some-assigned-clause-can c =
+    let own = c.self.inside.holding in
     let region = c.args.region.now in
     let octets = c.bytes.result.now in
-    let own : c.in-Some.arcs.now ≡ arcs_of at (row_named region octets 1) =
-    found_own c.self.inside.seen region octets c.in-Some.arcs.now at c.self.invariant.2 c.in-Some.ensures.found in
-    let within : AllByRecursion (IsWithin (length at.servers)) c.in-Some.arcs.now =
-    subst (λ (arcs : List Arc). AllByRecursion (IsWithin (length at.servers)) arcs) (sym own)
-    (row_within at c.self.inside.arcs c.self.invariant.1 (row_named region octets 1)) in
-    rw (← c.self.view_is)
-    (IfOk-weaker c.choose.result _ (CanTake held)
-    (λ by chosen. rw chosen (can_take_choice held region c.in-Some.arcs.now within)) c.choose.ensures)
+    let least = lent_least c.in-Some.least in
+    let seen : least ≡ least_for own.service own.plan region octets =
+    found_own c.self.inside.seen region octets least own.service own.plan c.self.invariant.2 c.in-Some.ensures.found in
+    let is =
+    seen_answers own region octets least seen c.in-Some-assigned.choice
+    (sym c.in-Some-assigned.is ∙ c.assigned.ensures) in
+    rw (← c.self.view_is) (rw is (can_take_answer own c.self.inside.arcs c.self.invariant.1 region octets))
