@@ -2,7 +2,7 @@ pub mod Lists
 pub mod Once
 mod TableSums
 mod Sites
-mod ServerArcs
+pub mod ServerArcs
 mod LeastPay
 pub mod ClassKinds
 pub mod GivenClasses

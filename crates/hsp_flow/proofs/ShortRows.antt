@@ -43,7 +43,7 @@ not_later k (flag ∷ flags) i l =
     ∙ not_later (k + 1) flags i (omega arith)
 
 -- a row is among the flagged ones where its flag is set
-flagged_is : (j : ℕ) (flags : List Bool) (i : ℕ)
+pub flagged_is : (j : ℕ) (flags : List Bool) (i : ℕ)
     → list_any (λ r. r == j + i) (flagged_from j flags) ≡ slice_index_or flags i false
 flagged_is j [] i = refl
 flagged_is j (flag ∷ flags) zero =
@@ -58,7 +58,7 @@ flagged_is j (flag ∷ flags) (suc i) =
     ∙ flagged_is (j + 1) flags i
 
 -- flagged rows are rows that are there
-flags_within : (j : ℕ) (flags : List Bool) → AllByRecursion (λ r. r < j + length flags) (flagged_from j flags)
+pub flags_within : (j : ℕ) (flags : List Bool) → AllByRecursion (λ r. r < j + length flags) (flagged_from j flags)
 flags_within j [] = tt
 flags_within j (flag ∷ flags) =
     let more : AllByRecursion (λ r. r < j + suc (length flags)) (flagged_from (j + 1) flags) =

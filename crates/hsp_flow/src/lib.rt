@@ -14,3 +14,4 @@ mod spreading;
 
 pub use hsp_shortest_paths::{Frontier, HeapFrontier, ScanFrontier, SearchEffort};
 pub use planning::{Effort, solve, solve_counted, solve_proposed, solve_with};
+pub use shortfall::flagged;

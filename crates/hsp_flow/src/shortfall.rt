@@ -15,8 +15,12 @@ use hsp_instance::Instance;
 use hsp_network::{Network, capacity_of_set, sum_flagged};
 use std::alloc::{AllocError, Global};
 
-// The numbers of the flagged sources.
-fn flagged(alloc: Global, flags: &[bool]) -> Result<Vec<u32>, AllocError>
+/// The numbers whose flags are set, in ascending order.
+///
+/// # Errors
+///
+/// An `AllocError` where memory runs out.
+pub fn flagged(alloc: Global, flags: &[bool]) -> Result<Vec<u32>, AllocError>
     requires { length flags.now < 2 ^ 32 }
     ensures { IfOk result (λ numbers. numbers.items ≡ flagged_from 0 flags.now) }
 {

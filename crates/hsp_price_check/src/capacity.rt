@@ -25,7 +25,7 @@ fn rooms_of(alloc: Global, capacities: &[u64], flags: &[bool]) -> Result<Vec<u12
 }
 
 /// What the flagged servers take, those of a host no more than its limit.
-pub(crate) fn capacity_of_set(
+pub fn capacity_of_set(
     alloc: Global,
     numbers: &ServiceNumbers,
     flags: &[bool],

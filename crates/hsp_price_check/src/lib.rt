@@ -16,6 +16,7 @@ mod regions;
 mod set_pass;
 mod sums;
 
+pub use capacity::capacity_of_set;
 pub use checking::{PriceCheck, are_there};
 pub use class_costs::class_loads;
 pub use extras::extras_of;
@@ -23,3 +24,4 @@ pub use fault::PassFault;
 pub use finding::{class_numbers, find_class};
 pub use least::{fill_least, fill_servers};
 pub use numbers::{ServiceNumbers, numbers_of};
+pub use set_pass::are_caught;

@@ -25,8 +25,8 @@ pub(crate) struct SetPass<'a> {
     pub(crate) demand: u128,
 }
 
-// Whether each arc leads to a flagged server.
-fn are_caught(flags: &[bool], arcs: &[Arc]) -> bool
+/// Whether each arc leads to a flagged server. There is a flag for each server.
+pub fn are_caught(flags: &[bool], arcs: &[Arc]) -> bool
     requires { AllByRecursion (IsWithin (length flags.now)) arcs.now }
     ensures { result ≡ list_all (λ arc. flag_at flags.now arc.server) arcs.now }
 {

@@ -1,0 +1,13 @@
+mod ColumnSteps
+pub mod GroupNetwork
+mod SentFlows
+mod ClassSteps
+mod ClassEntries
+mod ClassTurns
+mod ClassesShown
+mod FlowCosts
+pub mod PlanParts
+mod FlowTotals
+mod ReachedServers
+mod CaughtDemand
+mod ShortageParts

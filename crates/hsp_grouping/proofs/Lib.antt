@@ -1,0 +1,3 @@
+mod Joining
+mod Finding
+pub mod OwnArcs

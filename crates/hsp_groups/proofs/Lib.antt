@@ -1,0 +1,16 @@
+pub mod Beside
+pub mod Parted
+pub mod RowLeast
+pub mod SentFlows
+pub mod LeastFlows
+pub mod RowPairs
+pub mod GroupRows
+pub mod GroupSums
+pub mod MetFlows
+pub mod PlanSums
+pub mod PlacedRows
+pub mod GroupsBest
+pub mod ShortSums
+pub mod ShortArcs
+pub mod ShortRows
+pub mod ShortShown

@@ -1,0 +1,11 @@
+mod Halves
+mod ArcEntries
+mod KeptArcs
+mod LeastTests
+mod RowKeeping
+mod RowPlaces
+mod RowPushing
+mod Settling
+mod Passing
+pub mod StillRows
+pub mod SameShapes

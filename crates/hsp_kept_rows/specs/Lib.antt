@@ -1,0 +1,4 @@
+pub mod Regions
+pub mod Entries
+pub mod Keeping
+pub mod Held

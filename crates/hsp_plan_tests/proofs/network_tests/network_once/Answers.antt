@@ -1,0 +1,14 @@
+use Rattle.std.proofs.Common.{◌≡◌, List, arith, length, subst}
+use Rattle.std.specs.List.{AllByRecursion}
+use Rattle.hsp_groups.specs.Groups.{Group}
+use Rattle.hsp_group_plans.specs.Solving.{HasArcsWithin}
+use Rattle.hsp_plan_tests.proofs.Fillings.{groups_fit}
+use Rattle.hsp_plan_tests.proofs.network_tests.network_once.Goals as goal
+
+pub returns-clause-arcs : goal.returns-clause-arcs
+returns-clause-arcs c =
+    let groups = c.in_ok-groups.groups.items in
+    let many : c.len.result ≡ length c.in_ok-numbers.numbers.server_hosts.items = omega (arith, c.len.ensures) in
+    subst (λ n. AllByRecursion (HasArcsWithin n) groups) many
+    (subst (λ (all : List Group). AllByRecursion (HasArcsWithin c.len.result) all) c.deref.ensures.value
+    (groups_fit c.len.result c.deref.result.now (c.all_lead_within.ensures c.if-not-all_lead_within.false)))

@@ -1,0 +1,131 @@
+// Certificates by prices of rows that are held. What each says is worked by hand. All are the only valid ones.
+
+ghost use Rattle.hsp_price_plan.specs.Planning.{AreOfSome};
+
+use crate::filling::{Asked, Filled, held_rows, row_of};
+use crate::judging::{is_valid, says};
+use crate::keeping::keep_least;
+use crate::service::{HOST, Held, NARROW, ROOMY, hold};
+use hsp_price_plan::plan_rows;
+use hsp_price_text::PriceCertificate;
+use std::alloc::Global;
+use std::process::Abort;
+
+// The certificate of the rows, once more where memory ran out.
+fn planned(rt: &impl Abort, alloc: Global, filled: &mut Filled) -> PriceCertificate
+    requires { AreOfSome filled.old.numbers filled.old.rows.rows }
+{
+    match plan_rows(alloc, &filled.numbers, &mut filled.rows) {
+        Ok(certificate) => certificate,
+        Err(_) => plan_rows(alloc, &filled.numbers, &mut filled.rows).expect(rt, "there is one"),
+    }
+}
+
+// Rows of the service, none of whose arcs is kept at first, have this certificate.
+fn gets(rt: &impl Abort, alloc: Global, held: &Held, rows: &[Asked], wanted: &[u8]) {
+    let mut none_kept = held_rows(rt, alloc, held, rows);
+    let certificate = planned(rt, alloc, &mut none_kept);
+    says(rt, alloc, &certificate, wanted);
+    is_valid(rt, alloc, held, &certificate, rows);
+}
+
+// So have rows that keep the cheapest arcs at first.
+fn gets_by_cheapest(rt: &impl Abort, alloc: Global, held: &Held, rows: &[Asked], wanted: &[u8]) {
+    let mut some_kept = held_rows(rt, alloc, held, rows);
+    keep_least(rt, &mut some_kept, &[0, 0, 0]);
+    let certificate = planned(rt, alloc, &mut some_kept);
+    says(rt, alloc, &certificate, wanted);
+    is_valid(rt, alloc, held, &certificate, rows);
+}
+
+// From r1 all 7 go to A at 1 each, and from r2 5 go to B at 1 each: 12. No server is full, so no price is above 0.
+#[test]
+fn all_rows_go_to_their_cheapest_server_where_there_is_room(rt: HostRuntime) {
+    let alloc = rt.alloc();
+    let held = hold(&rt, alloc, b"", ROOMY);
+    let rows = [
+        row_of(b"r1", b"10/1", 3),
+        row_of(b"r1", b"10/2", 4),
+        row_of(b"r2", b"10/1", 5),
+    ];
+    let wanted = b"HSPLAN PRICES 1\nPLAN\ncost 12\nserver 0 0\nserver 1 0\nserver 2 0\nEND\n";
+    gets(&rt, alloc, &held, &rows, wanted);
+    gets_by_cheapest(&rt, alloc, &held, &rows, wanted);
+}
+
+// From r1 both handles ask for 7 together and have the servers 0 and 2. The server 0 takes 5 of them at 1 each, and 2
+// go to the server 2 at 10 each. So a query pays 10 at both, and the server 0 has the price 9. From r2 6 go to the
+// server 1 at 1 each: 5 + 20 + 6 = 31.
+fn tied() -> [Asked; 3] {
+    [
+        row_of(b"r1", b"10/1", 3),
+        row_of(b"r2", b"10/2", 6),
+        row_of(b"r1", b"10/3", 4),
+    ]
+}
+
+const TIED_PLAN: &[u8] =
+    b"HSPLAN PRICES 1\nPLAN\ncost 31\nserver 0 9\nserver 1 0\nserver 2 0\nclass r1 0 5 2 2\nEND\n";
+
+#[test]
+fn a_full_server_has_a_price(rt: HostRuntime) {
+    let alloc = rt.alloc();
+    let held = hold(&rt, alloc, b"", NARROW);
+    gets(&rt, alloc, &held, &tied(), TIED_PLAN);
+}
+
+#[test]
+fn rows_that_keep_their_cheapest_arcs_have_the_same_plan(rt: HostRuntime) {
+    let alloc = rt.alloc();
+    let held = hold(&rt, alloc, b"", NARROW);
+    gets_by_cheapest(&rt, alloc, &held, &tied(), TIED_PLAN);
+}
+
+// The host of the servers 1 and 2 takes 5. From r3 one query can only go there, to the server 1. From r2 4 of 7 go to
+// the server 2 at 1 each, and 3 to the server 0 at 10 each: 1 + 4 + 30 = 35. A query from r2 pays 10 at both, so the
+// host has the price 9.
+#[test]
+fn a_full_host_has_a_price(rt: HostRuntime) {
+    let alloc = rt.alloc();
+    let held = hold(&rt, alloc, HOST, ROOMY);
+    let rows = [
+        row_of(b"r2", b"10/1", 4),
+        row_of(b"r3", b"10/4", 1),
+        row_of(b"r2", b"10/3", 3),
+    ];
+    let wanted = b"HSPLAN PRICES 1\nPLAN\ncost 35\nserver 0 0\nserver 1 0\nserver 2 0\nhost 0 9\n\
+        class r2 0 3 2 4\nEND\n";
+    gets(&rt, alloc, &held, &rows, wanted);
+    gets_by_cheapest(&rt, alloc, &held, &rows, wanted);
+}
+
+// The servers 0 and 2 take 5 and 10. Of 10/1 16 queries can go nowhere else, and of 10/2 one can go to the server 1.
+#[test]
+fn rows_that_ask_for_too_much_have_a_short_set(rt: HostRuntime) {
+    let alloc = rt.alloc();
+    let held = hold(&rt, alloc, b"", NARROW);
+    let rows = [row_of(b"r1", b"10/1", 16), row_of(b"r1", b"10/2", 1)];
+    let wanted = b"HSPLAN PRICES 1\nSHORT\nserver 0\nserver 2\ndemand 16\ncapacity 15\nEND\n";
+    gets(&rt, alloc, &held, &rows, wanted);
+    gets_by_cheapest(&rt, alloc, &held, &rows, wanted);
+}
+
+// The host takes 5 of what the servers 1 and 2 could. From r3 6 queries can only go to the server 1.
+#[test]
+fn a_host_may_be_short(rt: HostRuntime) {
+    let alloc = rt.alloc();
+    let held = hold(&rt, alloc, HOST, ROOMY);
+    let rows = [row_of(b"r2", b"10/1", 2), row_of(b"r3", b"10/4", 6)];
+    let wanted = b"HSPLAN PRICES 1\nSHORT\nserver 1\ndemand 6\ncapacity 5\nEND\n";
+    gets(&rt, alloc, &held, &rows, wanted);
+    gets_by_cheapest(&rt, alloc, &held, &rows, wanted);
+}
+
+#[test]
+fn no_rows_cost_nothing(rt: HostRuntime) {
+    let alloc = rt.alloc();
+    let held = hold(&rt, alloc, b"", NARROW);
+    let wanted = b"HSPLAN PRICES 1\nPLAN\ncost 0\nserver 0 0\nserver 1 0\nserver 2 0\nEND\n";
+    gets(&rt, alloc, &held, &[], wanted);
+    gets_by_cheapest(&rt, alloc, &held, &[], wanted);
+}

@@ -1,0 +1,4 @@
+pub mod HeldRows
+pub mod PlanShown
+pub mod ShortShown
+pub mod Lasting

@@ -1,0 +1,74 @@
+use Rattle.std.proofs.Common.{◌≡◌, ◌∙◌, All, Bool, IfSome, List, ap, arith, inl, inr, length, map, subst, sym}
+use Rattle.hsp_transport.specs.Lists.{flag_at}
+use Rattle.hsp_groups.specs.Groups.{AreGroupsOf}
+use Rattle.hsp_groups.specs.Rows.{with_leaving}
+use Rattle.hsp_kept_rows.specs.Held.{AreWithin, HeldRows}
+use Rattle.hsp_kept_rows.proofs.StillRows.{leaving_leaves}
+use Rattle.hsp_group_plans.specs.Shortage.{IsShortageFor, IsShortagePast}
+use Rattle.hsp_price_plan.specs.Planning.{IsPast}
+use Rattle.hsp_price_plan.proofs.HeldRows.{held_still, rows_within}
+use Rattle.hsp_price_plan.proofs.PlanShown.{all_settled}
+use Rattle.hsp_price_plan.proofs.ShortShown.{short_valid}
+use Rattle.hsp_price_plan.proofs.rounds.short_round.Goals as goal
+
+pub keep_leaving-requires : goal.keep_leaving-requires
+keep_leaving-requires c =
+    let numbers = c.args.numbers.now in
+    let many : length numbers.server_hosts.items ≡ length c.deref.result.now =
+    omega (arith, c.in_ok-reached.ensures.many, c.deref.ensures.len) in
+    subst (λ n. AreWithin n c.args.rows.now.rows) many (rows_within numbers c.args.rows.now.rows c.requires.rows)
+
+pub returns-then-keep_leaving-gt0-clause-lasts : goal.returns-then-keep_leaving-gt0-clause-lasts
+returns-then-keep_leaving-gt0-clause-lasts c =
+    let set = flag_at c.deref.result.now in
+    rw c.keep_leaving.ensures.kept
+    (held_still (with_leaving set) (leaving_leaves set) c.args.numbers.now c.args.rows.now.rows)
+
+pub returns-in-Some-clause-valid : goal.returns-in-Some-clause-valid
+returns-in-Some-clause-valid c =
+    let numbers = c.args.numbers.now in
+    let groups = c.args.groups.now in
+    let kept = c.args.rows.now.rows in
+    let reached = c.in_ok-reached.reached.items in
+    let same : c.keep_leaving.new.self ≡ c.args.rows.now =
+    c.keep_leaving.ensures.settled (omega (arith, c.if-keep_leaving-gt0.false)) in
+    let settled : map (with_leaving (flag_at c.deref.result.now)) kept ≡ kept =
+    ap (λ (held : HeldRows). held.rows) (sym c.keep_leaving.ensures.kept ∙ same) in
+    let leaving : All (λ row. with_leaving (flag_at reached) row ≡ row) kept =
+    subst (λ (flags : List Bool). All (λ row. with_leaving (flag_at flags) row ≡ row) kept) c.deref.ensures.value
+    (all_settled (with_leaving (flag_at c.deref.result.now)) kept settled) in
+    let found : IfSome c.in_ok-short.field-0 (IsShortageFor numbers groups reached) =
+    subst (λ (flags : List Bool). IfSome c.in_ok-short.field-0 (IsShortageFor numbers groups flags))
+    c.deref-2.ensures.value c.in_ok-short.ensures.short in
+    short_valid numbers kept groups c.args.set.now reached c.in-Some.short c.requires.groups c.requires.short
+    c.in_ok-reached.ensures.reached leaving (rw c.in-Some.is at found)
+
+pub returns-clause-fault : goal.returns-clause-fault
+returns-clause-fault c =
+    let numbers = c.args.numbers.now in
+    let groups = c.args.groups.now in
+    let kept = c.args.rows.now.rows in
+    let reached = c.in_ok-reached.reached.items in
+    let same : c.keep_leaving.new.self ≡ c.args.rows.now =
+    c.keep_leaving.ensures.settled (omega (arith, c.if-keep_leaving-gt0.false)) in
+    let settled : map (with_leaving (flag_at c.deref.result.now)) kept ≡ kept =
+    ap (λ (held : HeldRows). held.rows) (sym c.keep_leaving.ensures.kept ∙ same) in
+    let leaving : All (λ row. with_leaving (flag_at reached) row ≡ row) kept =
+    subst (λ (flags : List Bool). All (λ row. with_leaving (flag_at flags) row ≡ row) kept) c.deref.ensures.value
+    (all_settled (with_leaving (flag_at c.deref.result.now)) kept settled) in
+    let past : IsShortagePast numbers groups reached =
+    subst (λ (flags : List Bool). IsShortagePast numbers groups flags) c.deref-2.ensures.value
+    (rw c.in-None.is at c.in_ok-short.ensures.none) in
+    subst (λ (held : HeldRows). AreGroupsOf held.rows groups × IsPast numbers held.rows groups) (sym same) (
+      c.requires.groups,
+      inr
+          (inl
+          (record {
+            set = c.args.set.now;
+            short = c.requires.short;
+            reached = reached;
+            are = c.in_ok-reached.ensures.reached;
+            leaving = leaving;
+            past = past;
+          })),
+    )
