@@ -2,7 +2,8 @@
 
 _hsp_commands() {
     case $1 in
-        "") echo "demand doctor fleet new plan sites view whatif --help --version" ;;
+        "") echo "demand doctor export fleet new plan sites steer view whatif --help --version" ;;
+        export) echo "haproxy --help" ;;
         fleet) echo "demand dispatch --help" ;;
         "doctor --") echo "locate site plan check dispatch report kinds places answer faults" ;;
     esac
@@ -12,11 +13,13 @@ _hsp_options() {
     case $1 in
         "demand") echo "--regions --into --output --log --format --regex --client --handle --path --from --to --busiest-hour --time --prefix --elsewhere --by --unit --settings --values --costs --help" ;;
         "doctor") echo "--settings --demand --costs --capacity --values --strict --json --help" ;;
+        "export haproxy") echo "--settings --demand --costs --capacity --values --into --regions --elsewhere --listen --certificate --trusted --watch --socket --proxy --help" ;;
         "fleet demand") echo "--regions --into --output --keep --format --regex --client --handle --path --from --to --busiest-hour --time --prefix --elsewhere --by --unit --settings --values --costs --workers --scheduler --tls-ca --tls-cert --tls-key --installed --patience --help" ;;
         "fleet dispatch") echo "--fronts --plan --any-handle --unit --workers --scheduler --tls-ca --tls-cert --tls-key --installed --patience --help" ;;
         "new") echo "--example --help" ;;
         "plan") echo "--settings --demand --costs --capacity --values --unit --all --output --no-save --csv --json --help" ;;
         "sites") echo "--into --name --capacity --help" ;;
+        "steer") echo "--settings --demand --costs --capacity --values --into --every --period --metrics --once --status --help" ;;
         "view") echo "--settings --demand --costs --capacity --values --before --unit --title --output --help" ;;
         "whatif") echo "--settings --demand --costs --capacity --values --server --from --to --points --step --unit --csv --chart --help" ;;
         "doctor -- locate") echo "--option --servers --settings --values" ;;
@@ -36,10 +39,10 @@ _hsp_options() {
 _hsp_values() {
     case $1 in
         "sites --capacity") echo - ;;
-        *" --regions" | *" --output" | *" -o" | *" --log" | *" --settings" | *" --values" | *" --costs" | *" --demand" | *" --capacity" | *" --tls-ca" | *" --tls-cert" | *" --tls-key" | *" --plan" | *" --chart" | *" --prices") echo -f ;;
+        *" --regions" | *" --output" | *" -o" | *" --log" | *" --settings" | *" --values" | *" --costs" | *" --demand" | *" --capacity" | *" --certificate" | *" --socket" | *" --tls-ca" | *" --tls-cert" | *" --tls-key" | *" --plan" | *" --metrics" | *" --chart" | *" --prices") echo -f ;;
         *" --into" | *" --before") echo -d ;;
         *" --format") echo "-W auto server proxy json csv" ;;
-        *" --regex" | *" --client" | *" --handle" | *" --path" | *" --from" | *" --to" | *" --time" | *" --prefix" | *" --elsewhere" | *" --by" | *" --unit" | *" --keep" | *" --workers" | *" --scheduler" | *" --patience" | *" --fronts" | *" --name" | *" --title" | *" --server" | *" --points" | *" --step" | *" --servers" | *" --index" | *" --front") echo - ;;
+        *" --regex" | *" --client" | *" --handle" | *" --path" | *" --from" | *" --to" | *" --time" | *" --prefix" | *" --elsewhere" | *" --by" | *" --unit" | *" --listen" | *" --trusted" | *" --watch" | *" --keep" | *" --workers" | *" --scheduler" | *" --patience" | *" --fronts" | *" --name" | *" --every" | *" --period" | *" --title" | *" --server" | *" --points" | *" --step" | *" --servers" | *" --index" | *" --front") echo - ;;
         *" --option") echo "-W na local handle" ;;
         *" --kind") echo "-W load region shortage" ;;
     esac
@@ -49,8 +52,10 @@ _hsp_values() {
 _hsp_words() {
     case $1 in
         "doctor") echo -d ;;
+        "export haproxy") echo -d ;;
         "new") echo -d ;;
         "plan") echo -d ;;
+        "steer") echo -d ;;
         "view") echo -d ;;
         "whatif") echo -d ;;
         *) echo -f ;;
@@ -60,6 +65,9 @@ _hsp_words() {
 _hsp() {
     local current=${COMP_WORDS[COMP_CWORD]} before=${COMP_WORDS[COMP_CWORD - 1]} command=${COMP_WORDS[1]}
     local group= first=1 at values IFS=$' \t\n'
+    if ((COMP_CWORD > 1)) && [[ $command == export ]]; then
+        group=export first=2 command="export ${COMP_WORDS[2]}"
+    fi
     if ((COMP_CWORD > 1)) && [[ $command == fleet ]]; then
         group=fleet first=2 command="fleet ${COMP_WORDS[2]}"
     fi

@@ -8,8 +8,8 @@ import io
 import json
 import os
 import sys
-from collections.abc import Callable, Iterator, Mapping
-from typing import Any, TypeVar
+from collections.abc import Callable, Iterator
+from typing import Any
 
 import click
 
@@ -18,23 +18,21 @@ from hsp import __version__
 from hsp.base.files import refuse_clashes, replace_all
 from hsp.base.grammar import COMMANDS, program_of
 from hsp.base.groups import Group
-from hsp.base.numbers import listed, some
-from hsp.base.paths import path_in, shell_word
+from hsp.base.numbers import some
+from hsp.base.paths import path_in
 from hsp.base.programs import Missing, Programs, Refused
 from hsp.base.signals import Stopped, stopping
-from hsp.base.text import colored, escaped, give, say, show_progress, visible
+from hsp.base.text import colored, escaped, give, say, show_progress
 from hsp.doctor import Examined, examined, examined_words
 from hsp.doctor.cut_short import cut_short
-from hsp.doctor.doubts import OLD_PLAN
-from hsp.doctor.mark_doubts import MUCH_ADDED
 from hsp.doctor.next_step import next_lines, next_step
 from hsp.doctor.printing import json_of as findings_json
 from hsp.doctor.printing import lines as finding_lines
+from hsp.doctor.service_folder import read_in, sound, with_files
 from hsp.fleet.command import fleet
 from hsp.intake import bring
 from hsp.plans.answering import answer_lines, in_units
 from hsp.plans.charts import drawn
-from hsp.plans.marks import TITLES
 from hsp.plans.page import View, changes_between, render
 from hsp.plans.plans import (
     Planned,
@@ -47,28 +45,17 @@ from hsp.plans.plans import (
     with_gains,
     with_purchase,
 )
-from hsp.plans.service import NAMES, VALUES, Service
+from hsp.plans.service import Service
 from hsp.plans.sources import sources_of
 from hsp.plans.terminal import head, plan_lines, shortage_lines
 from hsp.plans.whatif import Changes, full_servers, server_named, sizes, standard
 from hsp.plans.whatif import csv_of as cases_csv
 from hsp.plans.whatif import lines as case_lines
+from hsp.proxy.command import export
+from hsp.proxy.steer import steer
 
-Command = TypeVar("Command", bound=Callable[..., Any])
 OUTPUT = click.Path(dir_okay=False, readable=False)
 OUT_OF_MEMORY = 4
-
-
-class Folder(click.Path):
-    """A folder of a service, which is there."""
-
-    def __init__(self) -> None:
-        super().__init__(exists=True, file_okay=False)
-
-    def convert(self, value: Any, param: click.Parameter | None, context: click.Context | None) -> Any:
-        if os.path.isfile(value):
-            self.fail(f"'{value}' is a file: give its folder, or the file behind its option", param, context)
-        return super().convert(value, param, context)
 
 
 @contextlib.contextmanager
@@ -172,20 +159,6 @@ def main(context: click.Context) -> None:
             click.echo(context.get_help())
 
 
-def with_files(command: Command) -> Command:
-    """Adds the folder, and the options for other files."""
-    for role in ("values", "capacity", "costs", "demand", "settings"):
-        words = "the value list that the settings refer to" if role == "values" else f"in place of DIR's {role}"
-        command = click.option(f"--{role}", metavar="FILE", help=words)(command)
-    return click.argument("folder", metavar="[DIR]", default=".", type=Folder())(command)
-
-
-def read_in(folder: str, given: Mapping[str, str | None]) -> list[str]:
-    """The files of a folder that a command may read."""
-    names = {**NAMES, "values": VALUES, "titles": TITLES}
-    return [given.get(role) or path_in(folder, name) for role, name in names.items()]
-
-
 def write(path: str, text: str) -> None:
     """Writes the whole text, or nothing."""
     replace_all({path: text.encode("utf-8")})
@@ -203,27 +176,6 @@ def progress(number: int) -> Callable[[], None]:
         show_progress(f"planning: {done} of {number}" if done < number else "")
 
     return one_more
-
-
-def sound(
-    folder: str, programs: Programs, given: dict[str, str | None], title: str | None = None, cost: str | None = None
-) -> Service:
-    """Reads a folder in which hsplan has no fault; otherwise prints the faults, and ends. Warnings are one line.
-
-    An old plan is none of these, since the commands that ask plan anew.
-    """
-    found = examined(folder, programs, given, title, cost)
-    if not found.service:
-        for line in list(finding_lines(found.errors))[:-1]:
-            say(line, err=True)
-        sys.exit(found.status)
-    warnings = [warning for warning in found.warnings if warning.group != OLD_PLAN]
-    for warning in (warning for warning in warnings if warning.group == MUCH_ADDED):
-        say(f"hsp: {warning.message}; {warning.remedy}", err=True)
-    if warnings:
-        titles = visible(listed(dict.fromkeys(warning.message for warning in warnings), 2))
-        say(f"hsp: {some(len(warnings), 'warning')}: {titles} (hsp doctor {visible(shell_word(folder))})", err=True)
-    return found.service
 
 
 def shares_of(plan: Planned) -> list[tuple[str, str, int, float]]:
@@ -550,7 +502,7 @@ def doctor(context: click.Context, folder: str, strict: bool, as_json: bool, **g
     sys.exit(found.status or int(strict and bool(found.warnings)))
 
 
-for other in (bring.new, bring.sites, bring.demand, fleet):
+for other in (bring.new, bring.sites, bring.demand, export, steer, fleet):
     main.add_command(other)
 
 

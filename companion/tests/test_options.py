@@ -34,6 +34,8 @@ OPTIONS = {
         "--step": (10.0, 0.1, 1000),
     },
     "sites": {"--capacity": (0, 0, 1_000_000_000)},
+    "export haproxy": {"--watch": ("127.0.0.1:8405", None, None)},
+    "steer": {"--every": (10.0, 0.1, 86_400), "--period": (3600.0, 1, 31_622_400)},
     "demand": LOG,
     "fleet demand": {**LOG, **FLEET},
     "fleet dispatch": {"--fronts": (None, 1, 64), "--unit": (None, 1, 1_000_000), **FLEET},

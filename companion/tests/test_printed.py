@@ -126,6 +126,7 @@ def _alone(tmp_path: Path, monkeypatch: pytest.MonkeyPatch) -> None:
     (tmp_path / "here").mkdir()
     monkeypatch.chdir(tmp_path / "here")
     monkeypatch.setattr("hsp.cli.shown_findings", with_ends)
+    monkeypatch.setattr("hsp.proxy.command.LONGEST_SOCKET", 1000)  # the test's own folder may have a long path
     own = {"EXAMPLES": str(TOP / "examples"), "FILES": FILES, "SOURCE_DATE_EPOCH": "1795770000", "COLUMNS": "100"}
     for name, value in own.items():
         monkeypatch.setenv(name, value)

@@ -5,7 +5,8 @@ compares what the commands print with what the documents show.
 The commands are those of the blocks marked `console`. The lines of such a block are a transcript, as
 tools/lib/transcripts.py describes it. The commands of one document run in turn in one shell. In a manual page the
 commands are the examples between `.EX` and `.EE`. They run in bash; those of the README and of docs/use run in dash
-and zsh as well, where these are installed.
+and zsh as well, where these are installed. A block marked `console` with a word behind it, as `console haproxy`, runs
+where a program of that name and curl are installed.
 
 It fails where
 
@@ -43,6 +44,17 @@ Found = tuple[list[str], int]
 Block = tuple[str | None, list[str]]
 
 PAGES = ("docs/use/hsplan.1", "docs/use/hsplan-stream.1", "docs/use/hsp.1")
+
+
+def is_console(mark: str | None) -> bool:
+    """Whether a block has commands."""
+    return (mark or "").split()[:1] == ["console"]
+
+
+def lacking(mark: str) -> list[str]:
+    """The programs that the commands of a block need, and that are not installed here."""
+    wanted = mark.split()[1:]
+    return [it for it in [*wanted, *(["curl"] if wanted else [])] if not shutil.which(it)]
 
 
 def rows(text: str) -> list[list[str]]:
@@ -166,7 +178,7 @@ def unmarked() -> Found:
         (path, it)
         for path in documents()
         for mark, block in blocks(programs.text_of(path))
-        if mark != "console"
+        if not is_console(mark)
         for it in block
     ]
     return [
@@ -248,17 +260,17 @@ def wrong_kit() -> Found:
     return [] if fine else [f"README.md does not name this machine's kit: {said}"], 1
 
 
+def steps_in(path: str) -> list[transcripts.Step]:
+    """The commands of a document. Where a block needs a program that is not installed, a line names it."""
+    found = [(mark or "", lines) for mark, lines in blocks(programs.text_of(path)) if is_console(mark)]
+    for name in sorted({it for mark, _ in found for it in lacking(mark)}):
+        print(f"{name} IS NOT INSTALLED HERE: the commands of {path} that need it were not tried")
+    return [step for mark, lines in found if not lacking(mark) for step in transcripts.steps_of(lines)]
+
+
 def wrong_commands(program: str) -> Found:
     """The commands of the documents that print something other than the documents show, and how many there are."""
-    found = {
-        path: [
-            step
-            for mark, lines in blocks(programs.text_of(path))
-            if mark == "console"
-            for step in transcripts.steps_of(lines)
-        ]
-        for path in documents()
-    }
+    found = {path: steps_in(path) for path in documents()}
     found.update({page: manual_steps(page) for page in PAGES})
     faults = [
         fault for path, steps in found.items() if steps for fault in transcripts.faults_of(path, steps, program)

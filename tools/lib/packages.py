@@ -15,9 +15,9 @@ import subprocess
 import sys
 
 NEEDED = (
-    "bzip2 chromium chromium-driver fonts-dejavu-core graphviz mypy openssl parallel procps python3-click "
-    "python3-distributed python3-hypothesis python3-jinja2 python3-maxminddb python3-pil python3-pytest "
-    "python3-pytest-xdist python3-selenium xz-utils"
+    "bzip2 chromium chromium-driver curl fonts-dejavu-core graphviz haproxy mypy openssl parallel procps "
+    "python3-click python3-distributed python3-hypothesis python3-jinja2 python3-maxminddb python3-pil "
+    "python3-pytest python3-pytest-xdist python3-selenium xz-utils"
 ).split()
 WANTED = "dash fish mandoc zsh".split()
 

@@ -192,6 +192,10 @@ class Programs:
         self._numbers = itertools.count(1)
         self._divided: dict[tuple[str, int], str] = {}
 
+    def close(self) -> None:
+        """Takes away the files that were made on the way."""
+        self._folder.cleanup()
+
     def put(self, text: str | bytes, suffix: str = ".txt") -> str:
         """Writes a file, and returns its path."""
         path = os.path.join(self._folder.name, f"{os.getpid()}-{next(self._numbers)}{suffix}")

@@ -9,6 +9,7 @@ import unicodedata
 from collections import Counter, defaultdict
 from collections.abc import Iterable, Iterator
 from dataclasses import dataclass, field, replace
+from typing import Any
 from urllib.parse import unquote
 
 from hsp.base.grammar import GREATEST_CAPACITY, HEADERS
@@ -16,6 +17,7 @@ from hsp.base.numbers import listed, some
 from hsp.base.paths import path_in, shell_word
 from hsp.base.programs import Programs
 from hsp.base.spelling import near
+from hsp.base.unfit import Unfit
 from hsp.doctor.accepting import is_named, needless
 from hsp.doctor.findings import WARNING, Finding, Place, Text, Words, decoded, found, quoted, read_text
 from hsp.doctor.mark_doubts import mark_doubts
@@ -23,6 +25,7 @@ from hsp.doctor.rows import Row, Table, table_of
 from hsp.doctor.toml_places import value_of
 from hsp.plans.marks import KEYS as MARK_KEYS
 from hsp.plans.marks import TABLE, TITLES
+from hsp.plans.proxied import PROXY, PROXY_KEYS, proxied_of
 from hsp.plans.service import ACCEPT, NAMES, TITLE_KEYS, VALUES, Service, dotted, newer_than
 
 # A demand beyond so many times all capacity, or a capacity beyond so many times the demand, has likely another unit.
@@ -383,8 +386,10 @@ def titles(read: Read) -> None:
         return
     text = read_text(path)
     said = tomllib.loads(decoded(text.octets))
-    whole = (*TITLE_KEYS, ACCEPT, TABLE)
-    for own, known in ((said, whole), (said.get(TABLE, {}), MARK_KEYS)):
+    whole = (*TITLE_KEYS, ACCEPT, TABLE, PROXY)
+    own_proxy = said.get(PROXY, {})
+    proxied = own_proxy if isinstance(own_proxy, dict) else {}
+    for own, known in ((said, whole), (said.get(TABLE, {}), MARK_KEYS), (proxied, PROXY_KEYS)):
         for key in [name for name in own if name not in known]:
             meant = near(key, known, 0.6)
             remedy = f"write {meant}" if meant else "take it out"
@@ -393,6 +398,17 @@ def titles(read: Read) -> None:
             place = text.match(rf"^\s*\[?\"?({re.escape(key)})\b") or Place()
             message, name = f"the key {quoted(key)} of {TITLES} is not read", f"unknown key {key}"
             read.doubt(text, place, Words(message, remedy, f"hsp reads {listed(known, 9)}", mark, name=name))
+    odd_proxy(read, text, own_proxy)
+
+
+def odd_proxy(read: Read, text: Text, table: Any) -> None:
+    """A table of a proxy that `hsp export` refuses."""
+    try:
+        proxied_of(table)
+    except Unfit as fault:
+        place = text.match(r"^\s*\[?\"?(proxy)\b") or Place()
+        words = Words("hsp export refuses the table of a proxy", "mend it", fault.message, name="table of a proxy")
+        read.doubt(text, place, words)
 
 
 # What makes the whole plan meaningless, what loses queries, and the rest.

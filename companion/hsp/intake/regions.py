@@ -92,6 +92,8 @@ class Networks:
                 above = next(at for at, begin, _ in rows if _network(path, at, begin) == (family, first, prefix))
                 both = f"{shown(region.decode())} here and {shown(other.decode())} in line {above}"
                 raise Unfit(f"{path}: line {line}: {network} has two regions, {both}; take one of the lines out")
+        # The regions by family, first address and prefix, as the table has them.
+        self.found = found
         self._ranges = {
             family: ranges(((*key, region) for key, region in networks.items()), BITS[family])
             for family, networks in found.items()
@@ -235,15 +237,30 @@ def _base(path: str, by: str, own: bytes | None) -> Database | Networks:
     return Database(path, by, own) if DATABASE_MARK in octets[-TAIL:] else Networks(path, octets, own)
 
 
-def regions_in(path: str, by: str, elsewhere: str | None, programs: Programs | None = None) -> Seek:
-    """How regions are found by a file: a table of networks or a database. hsplan is asked for their names."""
-    found = _base(path, by, os.fsencode(elsewhere) if elsewhere else None)
+def _judged(found: Database | Networks, path: str, elsewhere: str | None, programs: Programs) -> None:
+    """Asks hsplan for the names of regions, where they are known."""
     places = {elsewhere: "--elsewhere"} if elsewhere else {}
     if isinstance(found, Networks):
         places |= {name: f"{path}: line {line}" for name, line in found.names.items()}
+    named(places, programs)
+
+
+def regions_in(path: str, by: str, elsewhere: str | None, programs: Programs | None = None) -> Seek:
+    """How regions are found by a file: a table of networks or a database. hsplan is asked for their names."""
+    found = _base(path, by, os.fsencode(elsewhere) if elsewhere else None)
     if programs:
-        named(places, programs)
+        _judged(found, path, elsewhere, programs)
     return found.seek
+
+
+def networks_in(path: str, elsewhere: str | None, programs: Programs) -> Networks:
+    """A table of networks, of whose regions hsplan is asked for the names."""
+    octets = whole(path)
+    if DATABASE_MARK in octets[-TAIL:]:
+        raise Unfit(f"{path}: HAProxy reads no MaxMind database; give a table network,region")
+    found = Networks(path, octets, os.fsencode(elsewhere) if elsewhere else None)
+    _judged(found, path, elsewhere, programs)
+    return found
 
 
 def _tail(path: str) -> bytes:

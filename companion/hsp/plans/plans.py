@@ -5,9 +5,10 @@ from __future__ import annotations
 
 import os
 from collections import Counter
-from collections.abc import Callable, Iterable, Sequence
+from collections.abc import Callable, Iterable, Mapping, Sequence
 from dataclasses import dataclass, field, replace
 from fractions import Fraction
+from typing import Any
 
 from hsp.base.grammar import GREATEST_COST, HEADERS, MOST_SERVERS, MOST_SITES
 from hsp.base.numbers import some
@@ -118,11 +119,16 @@ def _shares(service: Service, certificate: Certificate) -> Shares:
     return dict(shares)
 
 
+def servers_at(service: Service, host: Mapping[str, Any]) -> list[Server]:
+    """The servers that run on a host of the settings."""
+    return [server for server in service.servers if server.address == host["address"].lower()]
+
+
 def _hosts(service: Service, loads: list[int]) -> list[Host]:
     prices = service.certificate.prices("host")
     found = []
     for host, price in zip(service.settings.get("host", []), prices):
-        own = [server for server in service.servers if server.address == host["address"].lower()]
+        own = servers_at(service, host)
         load, limit = sum(loads[server.number] for server in own), host["limit"]
         found.append(Host(dotted(host["address"]), limit, load, price, own, 0 < limit < load + service.unit))
     return found

@@ -1,0 +1,167 @@
+"""The commands of `hsp export`: a plan as files of another program, which answers by it."""
+
+from __future__ import annotations
+
+import os
+import re
+import sys
+from dataclasses import dataclass
+from typing import Any
+
+import click
+
+from hsp.base.files import locked, refuse_clashes, replace_all
+from hsp.base.groups import Group
+from hsp.base.numbers import listed, some
+from hsp.base.paths import path_in, shell_word
+from hsp.base.programs import Missing, Programs
+from hsp.base.text import say
+from hsp.base.unfit import Unfit, shown
+from hsp.doctor.service_folder import read_in, sound, with_files
+from hsp.plans.marks import TITLES
+from hsp.plans.proxied import CHECK, PROXY, Proxied, is_address, network_of, proxied_in
+from hsp.plans.service import Service
+from hsp.proxy.addresses import targets_of, twins
+from hsp.proxy.config import CONFIG, LONGEST_SOCKET, SOCKET, Frame, files_of, refuse_others
+from hsp.proxy.kinds import shares_of
+from hsp.proxy.networks import Map, map_of
+
+LISTEN, WATCH = "127.0.0.1:8080", "127.0.0.1:8405"
+SHORTAGE = 3
+
+
+@click.group(cls=Group)
+def export() -> None:
+    """Writes a plan as files of a program that answers by it."""
+
+
+@dataclass(frozen=True)
+class Words:
+    """The options of `hsp export haproxy`, without the files of the service."""
+
+    into: str
+    regions: str | None
+    elsewhere: str | None
+    listen: tuple[str, ...]
+    trusted: tuple[str, ...]
+    watch: str
+    socket: str | None
+    certificate: str | None
+    is_proxy: bool
+
+    def over(self, said: Proxied, folder: str) -> Proxied:
+        """What the folder says, where these words don't say otherwise."""
+        regions = self.regions or said.regions
+        if not regions:
+            remedy = f'give --regions, or write regions = "networks.csv" below [{PROXY}] in {path_in(folder, TITLES)}'
+            raise Unfit(f"no networks: {remedy}")
+        if not os.path.isfile(regions):
+            raise Missing(f"{regions}: no such file")
+        return Proxied(
+            regions,
+            self.elsewhere or said.elsewhere,
+            said.check,
+            said.authority,
+            self.listen or said.listen or (LISTEN,),
+            self.trusted or said.trusted,
+            said.urls,
+        )
+
+
+def _networks(texts: tuple[str, ...]) -> tuple[str, ...]:
+    """The networks of trusted proxies."""
+    found = [network_of(text) for text in texts]
+    for text, network in zip(texts, found):
+        if network is None:
+            raise Unfit(f"trusted: {shown(text)} isn't a network such as 192.0.2.0/24")
+    return tuple(filter(None, found))
+
+
+def frame_of(words: Words, said: Proxied) -> Frame:
+    """How the proxy stands in its network, where each word can stand in a configuration."""
+    for address in (*said.listen, words.watch):
+        if not is_address(address):
+            raise Unfit(f"{shown(address)} is no address to listen at, such as 127.0.0.1:8080, *:80 or [::1]:8080")
+    if said.check and not CHECK.fullmatch(said.check):
+        raise Unfit(f"check: {shown(said.check)} is no path such as /api/handles/0.NA/20.500.1234")
+    socket = os.path.abspath(words.socket or os.path.join(words.into, SOCKET))
+    if len(os.fsencode(socket)) > LONGEST_SOCKET:
+        raise Unfit(f"{socket}: a socket has a path of at most {LONGEST_SOCKET} octets; give --socket")
+    certificate = os.path.abspath(words.certificate) if words.certificate else ""
+    authority = os.path.abspath(said.authority) if said.authority else ""
+    trusted = _networks(said.trusted)
+    return Frame(said.listen, words.watch, socket, certificate, authority, trusted, said.check, words.is_proxy)
+
+
+def checked(folder: str, programs: Programs, given: dict[str, str | None]) -> Service:
+    """A folder with its plan, which hsplan has checked. Ends with status 3 where the plan is a shortage."""
+    service = sound(folder, programs, given)
+    if not service.sites:
+        raise Unfit(f"{service.inputs.settings}: no site, so nobody can answer")
+    if not service.certificate.is_plan:
+        say(f"hsp: not all queries can be served, and there is no plan: hsp plan {shell_word(folder)}", err=True)
+        sys.exit(SHORTAGE)
+    verdict = programs.verdict(service.inputs, service.plan_file)
+    if verdict != "yes":
+        raise Unfit(f"hsplan check says {verdict} to hsplan's own plan: please report this with your files")
+    return service
+
+
+def warnings(service: Service, networks: Map, same: list[list[str]]) -> list[str]:
+    """What is accepted and seldom meant: regions that nobody asks from or that no site serves, and servers of one
+    URL."""
+    lines = []
+    served = {region for region, _ in service.costs}
+    costless = [region for region in networks.regions if region not in served]
+    if costless:
+        lines.append(f"{listed(costless)}: no cost at any site, so clients there are answered 503")
+    unseen = [region for region in service.regions if region not in networks.regions]
+    if unseen:
+        lines.append(f"{listed(unseen)}: no network, so no client is of there, and the plan has queries of it")
+    return lines + [f"{listed(names)} have one URL, so nothing tells them apart" for names in same]
+
+
+@export.command()
+@with_files
+@click.option(
+    "--into", metavar="PROXY", required=True, type=click.Path(file_okay=False), help="the folder that is written"
+)
+@click.option("--regions", metavar="FILE", help="a table network,region")
+@click.option("--elsewhere", metavar="REGION", help="of clients that have no region")
+@click.option("--listen", metavar="ADDRESS", multiple=True, help=f"where clients ask; {LISTEN} if it isn't given")
+@click.option("--certificate", metavar="FILE", help="and its key, in PEM: clients ask by TLS")
+@click.option("--trusted", metavar="NETWORK", multiple=True, help="of proxies whose X-Forwarded-For counts")
+@click.option("--watch", metavar="ADDRESS", default=WATCH, show_default=True, help="of statistics and /metrics")
+@click.option("--socket", metavar="FILE", help=f"of HAProxy's runtime, in place of PROXY/{SOCKET}")
+@click.option("--proxy", "is_proxy", is_flag=True, help="fetch answers from the servers, in place of redirects")
+def haproxy(folder: str, **given: Any) -> None:
+    """Writes files by which HAProxy answers by the plan.
+
+    The plan is made and checked anew. HAProxy (2.6 or later) redirects each query to the server that the plan names
+    for the client's region and the handle. Networks and URLs may stand below [proxy] in hsp.toml.
+    """
+    own = {key: given.pop(key) for key in Words.__annotations__}
+    words = Words(**own)
+    said = words.over(proxied_in(folder), folder)
+    inputs = [*read_in(folder, given), said.regions]
+    programs = Programs()
+    frame = frame_of(words, said)
+    networks = map_of(said.regions, said.elsewhere, programs)
+    service = checked(folder, programs, given)
+    targets = targets_of(service, said.urls, programs)
+    contents = files_of(service, targets, networks.lines, frame)
+    refuse_clashes(inputs, [path_in(words.into, name) for name in contents])
+    os.makedirs(words.into, exist_ok=True)
+    with locked([words.into]):
+        refuse_others(words.into, contents)
+        replace_all({path_in(words.into, name): octets for name, octets in contents.items()})
+    for line in warnings(service, networks, twins(targets)):
+        say(f"hsp: {line}", err=True)
+    config = path_in(words.into, CONFIG)
+    sizes = [
+        some(len(shares_of(service)), "kind"),
+        some(len(targets), "server"),
+        some(networks.number, "network"),
+    ]
+    say(f"{config}  {', '.join(sizes)}; check yes")
+    say(f"next: haproxy -c -f {shell_word(config)}")

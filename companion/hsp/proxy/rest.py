@@ -1,0 +1,186 @@
+"""The plan of what is left of a period: the demand by the time left, and the room that servers and hosts still have.
+
+One rule serves the start, a restart, a lost server and its return. The plan is hsplan's, and hsplan checks it.
+It counts in parts of a query, or in several queries, so that rounding makes no shortage.
+"""
+
+from __future__ import annotations
+
+import math
+from collections import Counter
+from collections.abc import Collection, Iterable, Mapping
+from dataclasses import dataclass, replace
+
+from hsp.base.grammar import GREATEST_CAPACITY, GREATEST_COUNT, HEADERS, MOST_SERVERS, MOST_SITES
+from hsp.base.numbers import some
+from hsp.base.programs import Certificate, Inputs, Missing, Programs, Use
+from hsp.base.units import hosts_text, settings_text
+from hsp.intake.records import ServerRecord, SiteRecord
+from hsp.plans.plans import capacity_file, servers_at
+from hsp.plans.service import Row, Server, Service
+from hsp.proxy.addresses import name_of
+from hsp.proxy.kinds import key_of, plan_lines, shares_by, shares_of
+
+# A site that is nowhere, for what is left out.
+NOWHERE = "hsp-nowhere"
+
+
+@dataclass(frozen=True)
+class Rest:
+    """A plan of the rest that hsplan has checked."""
+
+    # The lines of the map.
+    lines: list[str]
+    # What is asked for in the rest, what of it has no room, and what the rest costs.
+    asked: int
+    left_out: int
+    cost: int
+    # What each server gets in the rest, by its name.
+    loads: dict[str, int]
+
+
+@dataclass(frozen=True)
+class _Parts:
+    """How many parts a query has."""
+
+    of_query: float
+
+    def room(self, queries: int) -> int:
+        """Room for so many queries. A part of a part is as good as a whole one, which no query notices."""
+        return min(GREATEST_CAPACITY, math.ceil(max(0, queries) * self.of_query))
+
+    def queries(self, parts: int) -> int:
+        return round(parts / self.of_query)
+
+
+def _in_parts(kinds: list[Row], left: float) -> tuple[_Parts, list[Row]]:
+    """The demand of the rest in parts as small as hsplan's limits allow."""
+    counts = [row.count * left for row in kinds]
+    most, whole = max(counts, default=0.0), sum(counts)
+    if most <= 0:
+        return _Parts(1.0), []
+    of_query = min(GREATEST_COUNT / most, GREATEST_CAPACITY / whole)
+    parts = _Parts(math.floor(of_query) if of_query >= 1 else 1 / math.ceil(1 / of_query))
+    return parts, [
+        replace(row, count=min(GREATEST_COUNT, max(1, math.floor(count * parts.of_query))))
+        for row, count in zip(kinds, counts)
+    ]
+
+
+def _inputs(service: Service, rows: Iterable[Row], room: Mapping[str, int], parts: _Parts, own: Programs) -> Inputs:
+    """The files of the rest. None of the folder's is read again, since it may be edited meanwhile."""
+    capacities = {(server.site, server.id): parts.room(room[name_of(server)]) for server in service.servers}
+    hosts = [{**host, "limit": parts.room(room[host["address"]])} for host in service.settings.get("host", [])]
+    costs = ((region, site, cost) for (region, site), cost in service.costs.items())
+    return Inputs(
+        own.put(settings_text(service.settings) + hosts_text({"host": hosts}), ".toml"),
+        own.put_table(HEADERS["demand"], ((row.region, row.handle, row.count) for row in rows)),
+        own.put_table(HEADERS["costs"], costs),
+        capacity_file(own, capacities),
+        service.inputs.values,
+    )
+
+
+def room_of(service: Service, taken: Mapping[str, int], down: Collection[str]) -> dict[str, int]:
+    """What servers, by their names, and hosts, by their addresses, can still take."""
+    room = {
+        name_of(server): 0 if name_of(server) in down else service.capacity(server) - taken.get(name_of(server), 0)
+        for server in service.servers
+    }
+    for host in service.settings.get("host", []):
+        own = sum(taken.get(name_of(server), 0) for server in servers_at(service, host))
+        room[host["address"]] = host["limit"] - own
+    return room
+
+
+def _nowhere() -> str:
+    """A site of one server, as the settings have it."""
+    record = SiteRecord(1, (2, 11), 1, 0, 2, b"", (), (ServerRecord(1, bytes(15) + b"\1", b"", ()),))
+    return settings_text({"site": [{"name": NOWHERE, "record": record.octets().hex()}]})
+
+
+def _with_nowhere(service: Service, inputs: Inputs, rows: list[Row], own: Programs, room: int) -> Inputs:
+    """The inputs with a site that is nowhere, at which there is so much room. Where that has to be found out, a query
+    costs 1 there and nothing elsewhere."""
+    is_sought = not room
+    with open(inputs.settings, encoding="utf-8") as file:
+        settings = file.read()
+    with open(inputs.capacity, encoding="utf-8") as file:
+        capacity = file.read()
+    costs = [(region, site, 0 if is_sought else cost) for (region, site), cost in service.costs.items()]
+    costs += [(region, NOWHERE, int(is_sought)) for region in dict.fromkeys(row.region for row in rows)]
+    return inputs.but(
+        settings=own.put(settings + _nowhere(), ".toml"),
+        costs=own.put_table(HEADERS["costs"], costs),
+        capacity=own.put(f"{capacity}{NOWHERE},1,{room or GREATEST_CAPACITY}\n", ".csv"),
+    )
+
+
+def _checked(inputs: Inputs, own: Programs) -> Certificate:
+    """A plan or a shortage, to which hsplan check says yes."""
+    certificate, path = own.plan(inputs)
+    verdict = own.verdict(inputs, path)
+    if verdict != "yes":
+        raise Missing(f"hsplan check says {verdict} to hsplan's own plan: please report this with your files")
+    return certificate
+
+
+def _least_left_out(service: Service, inputs: Inputs, rows: list[Row], own: Programs) -> Certificate:
+    """The cheapest plan of those that leave out the fewest. What it leaves out stands at the last site, which is
+    nowhere."""
+    if len(service.sites) + 1 > MOST_SITES or len(service.servers) + 1 > MOST_SERVERS:
+        sizes = f"{some(len(service.sites), 'site')} and {some(len(service.servers), 'server')}"
+        raise Missing(f"a shortage, and with {sizes} hsplan has no place for what is left out; the map stays")
+    least = _checked(_with_nowhere(service, inputs, rows, own, 0), own).cost
+    return _checked(_with_nowhere(service, inputs, rows, own, least), own)
+
+
+def _usual(service: Service, row: Row, plan: Mapping[str, Counter[Server]]) -> Counter[Server]:
+    """The servers that the folder's own plan gives a kind; or its cheapest one, where that plan has none."""
+    sites = sorted(service.sites_for(row.region), key=lambda at: service.costs[row.region, service.sites[at].name])
+    return plan.get(key_of(service, row)) or Counter(service.server(at, row.handle) for at in sites[:1])
+
+
+def _with_left_out(service: Service, rest: Service, left_out: Iterable[Use]) -> dict[str, Counter[Server]]:
+    """What each server gets of each kind that is left out: what the folder's own plan gives it."""
+    plan = shares_of(service) if service.certificate.is_plan else {}
+    found: dict[str, Counter[Server]] = {}
+    for use in left_out:
+        row = rest.rows[use.row]
+        usual = _usual(service, row, plan)
+        own = {server: round(use.queries * queries / usual.total()) for server, queries in usual.items()}
+        found[key_of(rest, row)] = Counter(own)
+    return found
+
+
+def _joined(planned: dict[str, Counter[Server]], more: dict[str, Counter[Server]]) -> dict[str, Counter[Server]]:
+    """The shares of both. A kind that no site serves has none."""
+    both = {key: planned.get(key, Counter()) + more.get(key, Counter()) for key in {**planned, **more}}
+    return {key: own for key, own in both.items() if own}
+
+
+def _loads(service: Service, shares: dict[str, Counter[Server]], parts: _Parts) -> dict[str, int]:
+    """What each server gets in the rest, in queries."""
+    whole = sum(shares.values(), Counter[Server]())
+    return {name_of(server): parts.queries(whole[server]) for server in service.servers}
+
+
+def rest_of(service: Service, kinds: list[Row], left: float, room: Mapping[str, int], own: Programs) -> Rest:
+    """The plan of the rest of a period, of which this share is left, where servers and hosts have this room."""
+    parts, rows = _in_parts(kinds, left)
+    inputs = _inputs(service, rows, room, parts, own)
+    certificate = _checked(inputs, own)
+    if not certificate.is_plan:
+        certificate = _least_left_out(service, inputs, rows, own)
+    if not certificate.is_plan:
+        raise Missing("hsplan has no plan though all may be left out: please report this with your files")
+    rest = replace(service, rows=rows, certificate=certificate)
+    planned = shares_by(rest, (use for use in certificate.uses if use.site < len(service.sites)))
+    left_out = [use for use in certificate.uses if use.site == len(service.sites)]
+    return Rest(
+        plan_lines(_joined(planned, _with_left_out(service, rest, left_out))),
+        parts.queries(sum(row.count for row in rows)),
+        parts.queries(sum(use.queries for use in left_out)),
+        parts.queries(certificate.cost),
+        _loads(service, planned, parts),
+    )

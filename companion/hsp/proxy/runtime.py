@@ -1,0 +1,101 @@
+"""What a running HAProxy says at its socket, and how its map is swapped."""
+
+from __future__ import annotations
+
+import os
+import re
+import socket
+import time
+from collections.abc import Iterable, Iterator
+from dataclasses import dataclass
+
+from hsp.base.programs import Missing
+from hsp.base.text import escaped
+
+# So many seconds an answer is waited for.
+PATIENCE = 5
+# So many octets of a map are sent at once: HAProxy reads a command and what belongs to it into one buffer of 16 kB.
+AT_ONCE = 8_000
+COUNT = re.compile(r"\bkey=(\S+) .*\bhttp_req_cnt=([0-9]+)")
+VERSION = re.compile(r"New version created: ([0-9]+)")
+# The states of a server that takes queries: it starts slowly, or it runs.
+UP = ("1", "2")
+
+
+@dataclass(frozen=True)
+class Reading:
+    """What HAProxy says at one time: which run of it this is, when it began, what each server was given since then,
+    and which servers take no queries."""
+
+    at: float
+    run: str
+    began: float
+    counts: dict[str, int]
+    down: frozenset[str]
+
+
+def pieces(lines: Iterable[str]) -> Iterator[str]:
+    """Lines in pieces that HAProxy takes at once."""
+    piece: list[str] = []
+    octets = 0
+    for line in lines:
+        if piece and octets + len(line.encode()) + 1 > AT_ONCE:
+            yield "".join(piece)
+            piece, octets = [], 0
+        piece.append(f"{line}\n")
+        octets += len(line.encode()) + 1
+    if piece:
+        yield "".join(piece)
+
+
+class Runtime:
+    """The socket of a running HAProxy."""
+
+    def __init__(self, path: str) -> None:
+        self.path = path
+
+    def say(self, words: str) -> str:
+        """What HAProxy answers to a command."""
+        try:
+            with socket.socket(socket.AF_UNIX) as own:
+                own.settimeout(PATIENCE)
+                own.connect(self.path)
+                own.sendall(f"{words}\n".encode())
+                return b"".join(iter(lambda: own.recv(1 << 16), b"")).decode("utf-8", "replace")
+        except OSError as fault:
+            raise Missing(f"{self.path}: HAProxy doesn't answer there: {fault.strerror or fault}") from None
+
+    def down(self) -> frozenset[str]:
+        """The servers that take no queries: their checks fail, or somebody has taken them out."""
+        lines = (line.split() for line in self.say("show servers state").splitlines()[2:])
+        return frozenset(line[3] for line in lines if len(line) > 6 and (line[5] not in UP or line[6] != "0"))
+
+    def reading(self) -> Reading:
+        """What HAProxy says now."""
+        said = dict(line.partition(": ")[::2] for line in self.say("show info").splitlines())
+        counts = {name: int(count) for name, count in COUNT.findall(self.say("show table taken"))}
+        down, now = self.down(), time.time()
+        try:
+            run, began = f"{said['Pid']} {said.get('Start_time_sec', '')}", now - int(said["Uptime_sec"])
+        except (KeyError, ValueError):
+            raise Missing(f"{self.path}: what answers there isn't HAProxy") from None
+        return Reading(now, run, began, counts, down)
+
+    def _name(self, file: str) -> str:
+        """What HAProxy calls a map that it has read from a file of this name."""
+        named = re.findall(r"^[0-9]+ \((.+?)\) ", self.say("show map"), re.MULTILINE)
+        found = [name for name in named if os.path.basename(name) == file]
+        if not found:
+            raise Missing(f"{self.path}: the HAProxy that answers there has no {file}")
+        return str(found[0])
+
+    def swap(self, file: str, lines: Iterable[str]) -> None:
+        """Puts lines in place of a map, for all queries at once. What fails before the last word changes nothing."""
+        name = self._name(file)
+        match = VERSION.search(self.say(f"prepare map {name}"))
+        if not match:
+            raise Missing(f"{self.path}: HAProxy prepares no new {file}")
+        faults = [self.say(f"add map @{match[1]} {name} <<\n{piece}").strip() for piece in pieces(lines)]
+        fault = next(filter(None, faults), "") or self.say(f"commit map @{match[1]} {name}").strip()
+        if fault:
+            raise Missing(f"{self.path}: HAProxy doesn't take the new {file}: {escaped(fault)[:200]}")

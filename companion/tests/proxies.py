@@ -1,0 +1,122 @@
+"""A real HAProxy on loopback, with files that hsp wrote."""
+
+from __future__ import annotations
+
+import contextlib
+import http.client
+import socket
+import subprocess
+import tempfile
+import time
+from collections.abc import Iterator
+from dataclasses import dataclass, field
+from pathlib import Path
+
+from conftest import Hsp
+
+
+def free_ports(number: int) -> list[int]:
+    """Ports at which nobody listens now."""
+    with contextlib.ExitStack() as stack:
+        sockets = [stack.enter_context(socket.socket()) for _ in range(number)]
+        for own in sockets:
+            own.bind(("127.0.0.1", 0))
+        return [own.getsockname()[1] for own in sockets]
+
+
+@dataclass
+class Answer:
+    """What was answered: the status, the headers in small letters, and the text."""
+
+    status: int
+    headers: dict[str, str]
+    text: bytes
+
+    @property
+    def location(self) -> str:
+        return self.headers.get("location", "")
+
+    @property
+    def host(self) -> str:
+        """The scheme, the host and the port of a redirect."""
+        return "/".join(self.location.split("/")[:3])
+
+
+@dataclass
+class Front:
+    """A HAProxy that runs, and one connection to it."""
+
+    port: int
+    watch: int
+    socket: str
+    process: "subprocess.Popen[bytes]"
+    log: Path
+    _asked: http.client.HTTPConnection = field(init=False)
+
+    def __post_init__(self) -> None:
+        self._asked = http.client.HTTPConnection("127.0.0.1", self.port, timeout=10)
+
+    def ask(self, path: str, client: str = "", method: str = "GET", **headers: str) -> Answer:
+        """What is answered for a path, to a client behind a trusted proxy."""
+        given = {"X-Forwarded-For": client, **headers} if client else headers
+        self._asked.request(method, path, headers=given)
+        response = self._asked.getresponse()
+        text = response.read()
+        return Answer(response.status, {key.lower(): value for key, value in response.getheaders()}, text)
+
+    def send(self, octets: bytes) -> bytes:
+        """What is answered to octets, up to the end of the connection or of its first silence."""
+        with socket.create_connection(("127.0.0.1", self.port), timeout=2) as own:
+            own.sendall(octets)
+            return b"".join(received(own))
+
+    def say(self, words: str) -> str:
+        """What the runtime socket answers."""
+        with socket.socket(socket.AF_UNIX) as own:
+            own.settimeout(5)
+            own.connect(self.socket)
+            own.sendall(f"{words}\n".encode())
+            return b"".join(received(own)).decode()
+
+    def taken(self) -> dict[str, int]:
+        """How many queries each server was given."""
+        lines = [line.split() for line in self.say("show table taken").splitlines() if "key=" in line]
+        counts = {line[1].removeprefix("key="): line for line in lines}
+        return {
+            name: next(int(word.partition("=")[2]) for word in line if word.startswith("http_req_cnt="))
+            for name, line in counts.items()
+        }
+
+
+def received(own: socket.socket) -> Iterator[bytes]:
+    """What comes, until nothing comes for a while."""
+    with contextlib.suppress(TimeoutError, ConnectionResetError):
+        while piece := own.recv(1 << 16):
+            yield piece
+
+
+@contextlib.contextmanager
+def answering(hsp: Hsp, folder: Path, into: Path, *words: str) -> Iterator[Front]:
+    """HAProxy over the plan of a folder, as hsp exports it."""
+    port, watch = free_ports(2)
+    log = into.parent / f"{into.name}.log"
+    with tempfile.TemporaryDirectory(prefix="hsp-", dir="/tmp") as short, contextlib.ExitStack() as stack:
+        addresses = ["--listen", f"127.0.0.1:{port}", "--watch", f"127.0.0.1:{watch}", "--socket", f"{short}/s"]
+        hsp("export", "haproxy", str(folder), "--into", str(into), *addresses, *words)
+        file = stack.enter_context(open(log, "wb"))
+        command = ["haproxy", "-f", str(into / "haproxy.cfg")]
+        process = subprocess.Popen(command, stdout=file, stderr=subprocess.STDOUT, cwd="/")
+        stack.callback(process.wait, 10)
+        stack.callback(process.terminate)
+        wait(process, port, log)
+        yield Front(port, watch, f"{short}/s", process, log)
+
+
+def wait(process: "subprocess.Popen[bytes]", port: int, log: Path) -> None:
+    """Waits until a HAProxy listens."""
+    until = time.monotonic() + 20
+    while time.monotonic() < until and process.poll() is None:
+        with contextlib.suppress(OSError), socket.create_connection(("127.0.0.1", port), timeout=1):
+            return
+        time.sleep(0.05)
+    raise AssertionError(f"HAProxy doesn't listen: {log.read_text()}")
