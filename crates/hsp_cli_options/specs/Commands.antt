@@ -49,6 +49,7 @@ stream_commands = (
       ∷ option (codes "unit") ∷ needed (codes "log") ∷ [],
 )
     ∷ (codes "places", needed (codes "settings") ∷ option (codes "values") ∷ needed (codes "log") ∷ [])
+    ∷ (codes "plan", price_inputs ++ needed (codes "log") ∷ [])
     ∷ (
       codes "answer",
       answer_inputs ++ option (codes "plan") ∷ option (codes "prices") ∷ needed (codes "log") ∷ option (codes "unit")

@@ -106,7 +106,7 @@ pub(crate) const COMMANDS: [Subcommand<'static>; 6] = [
 ];
 
 /// The commands of `hsplan-stream`.
-pub(crate) const STREAM_COMMANDS: [Subcommand<'static>; 6] = [
+pub(crate) const STREAM_COMMANDS: [Subcommand<'static>; 7] = [
     Subcommand {
         name: "kinds",
         inputs: &[Needed("settings"), Optional("values"), Needed("costs")],
@@ -115,6 +115,11 @@ pub(crate) const STREAM_COMMANDS: [Subcommand<'static>; 6] = [
     Subcommand {
         name: "places",
         inputs: &[Needed("settings"), Optional("values")],
+        others: &[Needed("log")],
+    },
+    Subcommand {
+        name: "plan",
+        inputs: &PRICE_INPUTS,
         others: &[Needed("log")],
     },
     Subcommand {

@@ -17,6 +17,7 @@ use Rattle.hsp_cli_orders.specs.declared.stream_order.KindFiles.{KindFiles}
 use Rattle.hsp_cli_orders.specs.declared.stream_order.PlaceFiles.{PlaceFiles}
 use Rattle.hsp_cli_orders.specs.declared.stream_order.PlanFiles.{PlanFiles}
 use Rattle.hsp_cli_orders.specs.declared.stream_order.PriceFiles.{PriceFiles}
+use Rattle.hsp_cli_orders.specs.declared.stream_order.ServiceFiles.{ServiceFiles}
 use Rattle.hsp_cli_orders.specs.declared.stream_order.StreamOrder.{StreamOrder}
 use Rattle.hsp_cli_orders.specs.declared.stream_order.StreamOrder.TheVariants as order
 
@@ -62,14 +63,18 @@ pub record HasPlanFiles (rows : List Row) (files : PlanFiles) : Type 0 where
   pub plan : first_of (codes "plan") rows ≡ Some files.plan
   pub log : first_of (codes "log") rows ≡ Some files.log
 
--- a log, a certificate by prices, and what that is checked by
-pub record HasPriceFiles (rows : List Row) (files : PriceFiles) : Type 0 where
+-- a log, and the service that its queries are for
+pub record HasServiceFiles (rows : List Row) (files : ServiceFiles) : Type 0 where
   pub settings : first_of (codes "settings") rows ≡ Some files.settings
   pub values : first_of (codes "values") rows ≡ files.values
   pub costs : first_of (codes "costs") rows ≡ Some files.costs
   pub capacity : first_of (codes "capacity") rows ≡ Some files.capacity
-  pub prices : first_of (codes "prices") rows ≡ Some files.prices
   pub log : first_of (codes "log") rows ≡ Some files.log
+
+-- a log with its service, and a certificate by prices
+pub record HasPriceFiles (rows : List Row) (files : PriceFiles) : Type 0 where
+  pub service : HasServiceFiles rows files.service
+  pub prices : first_of (codes "prices") rows ≡ Some files.prices
 
 -- the word for a kind of report
 abbrev pub price_report_word : AskedPriceReport → Text
@@ -99,6 +104,7 @@ IsStreamOrderIn order.Version name rows = ⊥
 IsStreamOrderIn (order.Kinds files unit) name rows =
     (name ≡ codes "kinds") × HasKindFiles rows files × (first_of (codes "unit") rows ≡ unit)
 IsStreamOrderIn (order.Places files) name rows = (name ≡ codes "places") × HasPlaceFiles rows files
+IsStreamOrderIn (order.Plan files) name rows = (name ≡ codes "plan") × HasServiceFiles rows files
 IsStreamOrderIn (order.Answer files unit front) name rows =
     (name ≡ codes "answer") × HasPlanFiles rows files × (first_of (codes "prices") rows ≡ None)
     × (first_of (codes "unit") rows ≡ unit) × HasFront rows front

@@ -34,16 +34,21 @@ pub struct PlanFiles<'a> {
     pub log: Word<'a>,
 }
 
-/// A log, a certificate by prices, and what that is checked by:
-/// `--settings F [--values F] --costs F --capacity F --prices F --log F`.
+/// A log, and the service that its queries are for: `--settings F [--values F] --costs F --capacity F --log F`.
 #[derive(Debug, Drop)]
-pub struct PriceFiles<'a> {
+pub struct ServiceFiles<'a> {
     pub settings: Word<'a>,
     pub values: Option<Word<'a>>,
     pub costs: Word<'a>,
     pub capacity: Word<'a>,
-    pub prices: Word<'a>,
     pub log: Word<'a>,
+}
+
+/// A log with its service, and a certificate by prices: the files of the service with `--prices F`.
+#[derive(Debug, Drop)]
+pub struct PriceFiles<'a> {
+    pub service: ServiceFiles<'a>,
+    pub prices: Word<'a>,
 }
 
 /// What a report by prices shows.
@@ -83,6 +88,10 @@ pub enum StreamOrder<'a> {
     /// `places` with a log and its sites
     Places {
         files: PlaceFiles<'a>,
+    },
+    /// `plan` with a log and its service
+    Plan {
+        files: ServiceFiles<'a>,
     },
     /// `answer` with a log, a certificate and what it is checked by, `[--unit N]` and `[--fronts N --front K]`
     Answer {

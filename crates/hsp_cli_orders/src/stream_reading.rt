@@ -5,7 +5,8 @@ ghost use Rattle.std.specs.Prelude.{string_bytes};
 ghost use Rattle.clap.specs.Words.{fault_of, first_of, found_of, rows_of, subcommand_of};
 ghost use Rattle.hsp_cli_options.specs.Commands.{stream_app};
 ghost use Rattle.hsp_cli_orders.specs.StreamOrders.{HasFront, HasKindFiles, HasPlaceFiles, HasPlanFiles};
-ghost use Rattle.hsp_cli_orders.specs.StreamOrders.{HasPriceFiles, IsStreamOrder, IsStreamOrderIn, IsStreamOrdered};
+ghost use Rattle.hsp_cli_orders.specs.StreamOrders.{HasPriceFiles, HasServiceFiles, IsStreamOrder, IsStreamOrderIn};
+ghost use Rattle.hsp_cli_orders.specs.StreamOrders.{IsStreamOrdered};
 ghost use Rattle.hsp_cli_orders.specs.StreamOrders.{IsStreamUsage, asked, is_help, is_version, price_report_word};
 ghost use Rattle.hsp_cli_orders.specs.declared.fault.CommandFault.TheVariants as fault;
 ghost use Rattle.hsp_cli_orders.specs.declared.stream_order.AskedPriceReport.{AskedPriceReport};
@@ -14,6 +15,7 @@ ghost use Rattle.hsp_cli_orders.specs.declared.stream_order.KindFiles.{KindFiles
 ghost use Rattle.hsp_cli_orders.specs.declared.stream_order.PlaceFiles.{PlaceFiles};
 ghost use Rattle.hsp_cli_orders.specs.declared.stream_order.PlanFiles.{PlanFiles};
 ghost use Rattle.hsp_cli_orders.specs.declared.stream_order.PriceFiles.{PriceFiles};
+ghost use Rattle.hsp_cli_orders.specs.declared.stream_order.ServiceFiles.{ServiceFiles};
 ghost use Rattle.hsp_cli_orders.specs.declared.stream_order.StreamOrder.{StreamOrder};
 ghost use Rattle.std.specs.Prelude.{Option};
 
@@ -21,7 +23,7 @@ use crate::fault::CommandFault;
 use crate::reading::{command_fault, inputs_of, is_given, text_of, word_of};
 use crate::stream_order::{
     AskedPriceReport, FaultsOf, FrontWords, KindFiles, PlaceFiles, PlanFiles, PriceFiles,
-    StreamOrder,
+    ServiceFiles, StreamOrder,
 };
 use clap::ArgMatches;
 use hsp_cli_options::stream_command;
@@ -131,7 +133,34 @@ fn plan_files_of<'a>(matches: &ArgMatches<'a>) -> Option<PlanFiles<'a>>
     })
 }
 
-// The names of a log, of a certificate by prices and of what that is checked by, or None where one is absent.
+// The names of a log and of the files of its service, or None where one is absent.
+fn service_files_of<'a>(matches: &ArgMatches<'a>) -> Option<ServiceFiles<'a>>
+    ensures given { IfSome result
+        (λ files. HasServiceFiles (rows_of (found_of matches.now)) files) }
+    ensures absent { IfNone result ((files : ServiceFiles)
+        → HasServiceFiles (rows_of (found_of matches.now)) files → ⊥) }
+{
+    Some(ServiceFiles {
+        settings: word_of(matches, "settings")?,
+        values: word_of(matches, "values"),
+        costs: word_of(matches, "costs")?,
+        capacity: word_of(matches, "capacity")?,
+        log: word_of(matches, "log")?,
+    })
+}
+
+fn plan_of<'a>(matches: &ArgMatches<'a>) -> Option<StreamOrder<'a>>
+    ensures order { IfSome result (λ order.
+        IsStreamOrderIn order (codes "plan") (rows_of (found_of matches.now))) }
+    ensures none { IfNone result ((order : StreamOrder)
+        → IsStreamOrderIn order (codes "plan") (rows_of (found_of matches.now)) → ⊥) }
+{
+    Some(StreamOrder::Plan {
+        files: service_files_of(matches)?,
+    })
+}
+
+// The names of a log, of the files of its service and of a certificate by prices, or None where one is absent.
 fn price_files_of<'a>(matches: &ArgMatches<'a>) -> Option<PriceFiles<'a>>
     ensures given { IfSome result
         (λ files. HasPriceFiles (rows_of (found_of matches.now)) files) }
@@ -139,12 +168,8 @@ fn price_files_of<'a>(matches: &ArgMatches<'a>) -> Option<PriceFiles<'a>>
         → HasPriceFiles (rows_of (found_of matches.now)) files → ⊥) }
 {
     Some(PriceFiles {
-        settings: word_of(matches, "settings")?,
-        values: word_of(matches, "values"),
-        costs: word_of(matches, "costs")?,
-        capacity: word_of(matches, "capacity")?,
+        service: service_files_of(matches)?,
         prices: word_of(matches, "prices")?,
-        log: word_of(matches, "log")?,
     })
 }
 
@@ -262,6 +287,7 @@ fn form_of<'a>(name: &str, matches: &ArgMatches<'a>) -> Option<StreamOrder<'a>>
     match name {
         "kinds" => kinds_of(matches),
         "places" => places_of(matches),
+        "plan" => plan_of(matches),
         "answer" => answer_of(matches),
         "check" => check_of(matches),
         "report" => report_of(matches),

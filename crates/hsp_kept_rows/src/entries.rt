@@ -7,7 +7,8 @@ ghost use Rattle.hsp_transport.specs.Lists.{flag_at};
 ghost use Rattle.hsp_instance.specs.RowArcs.{IsWithin};
 ghost use Rattle.hsp_price_check.specs.Extras.{pay_by};
 ghost use Rattle.hsp_price_check.specs.LeastPay.{AreLow};
-ghost use Rattle.hsp_kept_rows.specs.Entries.{AreServers, IsKeptEntry, IsPushed, arcs_by, entry_arc, loose_arc};
+ghost use Rattle.hsp_kept_rows.specs.Entries.{AreServers, IsKeptEntry, IsPushed, arcs_by, bare_arcs};
+ghost use Rattle.hsp_kept_rows.specs.Entries.{entry_arc, loose_arc};
 ghost use Rattle.hsp_kept_rows.specs.Regions.{shape_of};
 
 use crate::region::SiteCost;
@@ -75,6 +76,22 @@ pub(crate) fn fill_kept(
         if entries[i] >= KEPT {
             kept.push(arc_of(shape[i], entries[i]))?;
         }
+    }
+    Ok(())
+}
+
+/// Writes all arcs over what the list had.
+pub(crate) fn fill_arcs(
+    arcs: &mut Vec<Arc>,
+    entries: &[u16],
+    shape: &[SiteCost],
+) -> Result<(), AllocError>
+    requires { length shape.now ≤ length entries.now }
+    ensures { OnOk result (arcs.new.items ≡ bare_arcs shape.now entries.now) }
+{
+    arcs.clear();
+    for i in 0..shape.len() {
+        arcs.push(arc_of(shape[i], entries[i]))?;
     }
     Ok(())
 }

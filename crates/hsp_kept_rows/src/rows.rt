@@ -5,12 +5,12 @@ ghost use Rattle.hsp_text.specs.declared.limits.TheConstants.{MOST_REGIONS, MOST
 ghost use Rattle.hsp_transport.specs.Lists.{flag_at};
 ghost use Rattle.hsp_price_check.specs.Extras.{pay_by};
 ghost use Rattle.hsp_price_check.specs.LeastPay.{AreLow};
-ghost use Rattle.hsp_groups.specs.Rows.{kept_in, loose_of, with_least, with_leaving};
+ghost use Rattle.hsp_groups.specs.Rows.{arcs_in, kept_in, loose_of, with_least, with_leaving};
 ghost use Rattle.hsp_kept_rows.specs.Keeping.{with_near};
 ghost use Rattle.hsp_kept_rows.specs.Held.{AreWithin, CanPush, no_rows, region_named, row_at, with_each, with_row};
 ghost use Rattle.hsp_kept_rows.specs.Regions.{with_region};
 
-use crate::entries::{fill_kept, push_entries};
+use crate::entries::{fill_arcs, fill_kept, push_entries};
 use crate::keeping::{keep_least, keep_leaving, keep_near};
 use crate::region::Region;
 use hsp_instance::Arc;
@@ -162,6 +162,23 @@ impl KeptRows {
         let region = &self.regions[usize::from(self.row_regions[row])];
         fill_kept(
             kept,
+            entries_of(&self.places, row, self.sites),
+            region.shape(),
+        )
+    }
+
+    /// Writes all arcs of a row over what the list had.
+    ///
+    /// # Errors
+    ///
+    /// An `AllocError` where memory runs out. Nothing is said of the list then.
+    pub fn fill_arcs(&self, row: usize, arcs: &mut Vec<Arc>) -> Result<(), AllocError>
+        requires { row < length self.now.rows }
+        ensures { OnOk result (arcs.new.items ≡ arcs_in (row_at self.now row)) }
+    {
+        let region = &self.regions[usize::from(self.row_regions[row])];
+        fill_arcs(
+            arcs,
             entries_of(&self.places, row, self.sites),
             region.shape(),
         )

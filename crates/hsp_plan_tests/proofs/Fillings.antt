@@ -97,7 +97,7 @@ module _ (at : Service) (held : HeldRows) (has : HasRows at held) (region handle
     }
 
     -- and then the rows are those of the service
-    pub one_more : (count : ℕ) → count ≤ 1000000 → length held.rows < 1000
+    pub one_more : (count : ℕ) → count ≤ 1000000 → length held.rows < 10000
         → HasRows at (with_row held number region arcs count)
     one_more count low few =
         let row : Row = row_named region handle count in

@@ -21,7 +21,7 @@ pub record HasRows (at : Service) (held : HeldRows) : Type 0 where
   pub rows : List Row
   pub rows_are : AreRows at rows held.rows
   pub asked : asked_in held.rows ≤ 1000000 * length held.rows
-  pub few : length held.rows ≤ 1000
+  pub few : length held.rows ≤ 10000
 
 -- so it is with those that are added as their arcs are found, and it is known how many regions there are
 pub record IsFilled (at : Service) (found : ArcsInTurn) (held : HeldRows) (regions : ℕ) : Type 0 where

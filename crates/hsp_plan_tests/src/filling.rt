@@ -15,19 +15,20 @@ use hsp_names::HandleRef;
 use hsp_price_check::{ServiceNumbers, numbers_of};
 use hsp_tables::Costs;
 use hsp_text::limits::{MOST_REGIONS, MOST_SERVERS};
+use hsp_text::push_whole;
 use std::alloc::{AllocError, Global};
 use std::process::Abort;
 
 /// A row: its region, its handle and how many queries it asks for.
 #[derive(Clone, Copy)]
-pub(crate) struct Asked {
-    pub(crate) region: &'static [u8],
-    pub(crate) handle: &'static [u8],
+pub(crate) struct Asked<'a> {
+    pub(crate) region: &'a [u8],
+    pub(crate) handle: &'a [u8],
     pub(crate) count: u64,
 }
 
 /// A row from a region.
-pub(crate) fn row_of(region: &'static [u8], handle: &'static [u8], count: u64) -> Asked {
+pub(crate) fn row_of<'a>(region: &'a [u8], handle: &'a [u8], count: u64) -> Asked<'a> {
     Asked {
         region,
         handle,
@@ -92,7 +93,7 @@ fn with_number(regions: usize, number: usize) -> usize
 }
 
 // Adds a row. It is refused where memory runs out, or where it is no row of a test.
-fn add(filling: &mut Filling<'_>, alloc: Global, row: Asked) -> Result<(), AllocError>
+fn add(filling: &mut Filling<'_>, alloc: Global, row: Asked<'_>) -> Result<(), AllocError>
     requires { (at : Service) × IsFilled at filling.old.arcs filling.old.rows filling.old.regions }
     ensures { OnOk result ((at : Service)
         → IsFilled at filling.old.arcs filling.old.rows filling.old.regions
@@ -109,7 +110,7 @@ fn add(filling: &mut Filling<'_>, alloc: Global, row: Asked) -> Result<(), Alloc
     if arcs.len() > 2 || !are_servers(arcs) {
         return Err(AllocError);
     }
-    if filling.rows.len() >= 1000 || row.count > 1_000_000 {
+    if filling.rows.len() >= 10_000 || row.count > 1_000_000 {
         return Err(AllocError);
     }
     filling
@@ -135,7 +136,7 @@ fn fill<'a>(
     alloc: Global,
     instance: &'a Instance,
     costs: &'a Costs,
-    rows: &[Asked],
+    rows: &[Asked<'_>],
 ) -> Result<Filling<'a>, AllocError>
     ensures { IfOk result (λ filling.
         IsFilled (service_of costs.now instance.now) filling.arcs filling.rows filling.regions) }
@@ -148,7 +149,7 @@ fn fill<'a>(
 }
 
 // The same with the service's numbers.
-fn filled_once(alloc: Global, held: &Held, rows: &[Asked]) -> Result<Filled, AllocError>
+fn filled_once(alloc: Global, held: &Held, rows: &[Asked<'_>]) -> Result<Filled, AllocError>
     ensures { IfOk result (λ filled. AreOfSome filled.numbers filled.rows.rows) }
 {
     // The table of costs and the instance are within their limits.
@@ -162,8 +163,74 @@ fn filled_once(alloc: Global, held: &Held, rows: &[Asked]) -> Result<Filled, All
     })
 }
 
+// Adds the row of a number: two numbers in turn have one handle, and the two regions. It asks for 1 to 7 queries.
+fn add_numbered(
+    filling: &mut Filling<'_>,
+    alloc: Global,
+    regions: [&[u8]; 2],
+    number: u64,
+) -> Result<(), AllocError>
+    requires { (at : Service) × IsFilled at filling.old.arcs filling.old.rows filling.old.regions }
+    ensures { OnOk result ((at : Service)
+        → IsFilled at filling.old.arcs filling.old.rows filling.old.regions
+        → IsFilled at filling.new.arcs filling.new.rows filling.new.regions) }
+{
+    let mut handle = Vec::from_slice(alloc, b"10/")?;
+    push_whole(&mut handle, number / 2)?;
+    let region = regions[(number % 2) as usize];
+    add(filling, alloc, row_of(region, &handle, number / 2 % 7 + 1))
+}
+
+// A row of each region for each of the handles 10/1 to 10/4500.
+fn fill_numbered<'a>(
+    alloc: Global,
+    instance: &'a Instance,
+    costs: &'a Costs,
+    regions: [&[u8]; 2],
+) -> Result<Filling<'a>, AllocError>
+    ensures { IfOk result (λ filling.
+        IsFilled (service_of costs.now instance.now) filling.arcs filling.rows filling.regions) }
+{
+    let mut filling = start(alloc, instance, costs);
+    for number in 2..9_002 {
+        add_numbered(&mut filling, alloc, regions, number)?;
+    }
+    Ok(filling)
+}
+
+// The same with the service's numbers.
+fn numbered_once(alloc: Global, held: &Held, regions: [&[u8]; 2]) -> Result<Filled, AllocError>
+    ensures { IfOk result (λ filled. AreOfSome filled.numbers filled.rows.rows) }
+{
+    // The table of costs and the instance are within their limits.
+    let _costs = held.costs.len();
+    let _sites = held.instance.sites();
+    let numbers = numbers_of(alloc, &held.instance)?;
+    let filling = fill_numbered(alloc, &held.instance, &held.costs, regions)?;
+    Ok(Filled {
+        numbers,
+        rows: filling.rows,
+    })
+}
+
+/// Rows of a service, one from each region for each of the handles 10/1 to 10/4500, which asks for the remainder of its
+/// number by 7 and one. None of their arcs is kept. They are held once more where memory ran out.
+pub(crate) fn held_numbered(
+    rt: &impl Abort,
+    alloc: Global,
+    held: &Held,
+    regions: [&[u8]; 2],
+) -> Filled
+    ensures { AreOfSome result.numbers result.rows.rows }
+{
+    match numbered_once(alloc, held, regions) {
+        Ok(filled) => filled,
+        Err(AllocError) => numbered_once(alloc, held, regions).expect(rt, "there is memory"),
+    }
+}
+
 /// Rows of a service, none of whose arcs is kept. They are held once more where memory ran out.
-pub(crate) fn held_rows(rt: &impl Abort, alloc: Global, held: &Held, rows: &[Asked]) -> Filled
+pub(crate) fn held_rows(rt: &impl Abort, alloc: Global, held: &Held, rows: &[Asked<'_>]) -> Filled
     ensures { AreOfSome result.numbers result.rows.rows }
 {
     match filled_once(alloc, held, rows) {

@@ -23,7 +23,7 @@ pub(crate) fn says(rt: &impl Abort, alloc: Global, certificate: &PriceCertificat
 }
 
 // Passes over a row.
-fn pass(check: &mut PriceCheck<'_>, alloc: Global, row: Asked) -> Result<(), PassFault>
+fn pass(check: &mut PriceCheck<'_>, alloc: Global, row: Asked<'_>) -> Result<(), PassFault>
     requires { IsOfSomeRows check.old }
     ensures { OnOk result (IsOfSomeRows check.new) }
 {
@@ -39,7 +39,7 @@ fn judged_once(
     alloc: Global,
     held: &Held,
     certificate: &PriceCertificate,
-    rows: &[Asked],
+    rows: &[Asked<'_>],
 ) -> Result<PriceVerdict, PassFault> {
     let mut check = PriceCheck::new(alloc, &held.instance, &held.costs, certificate)?;
     for row in rows {
@@ -54,7 +54,7 @@ pub(crate) fn is_valid(
     alloc: Global,
     held: &Held,
     certificate: &PriceCertificate,
-    rows: &[Asked],
+    rows: &[Asked<'_>],
 ) {
     let verdict = match judged_once(alloc, held, certificate, rows) {
         Err(PassFault::OutOfMemory) => judged_once(alloc, held, certificate, rows),

@@ -6,23 +6,26 @@ use crate::filling::{Asked, Filled, held_rows, row_of};
 use crate::judging::{is_valid, says};
 use crate::keeping::keep_least;
 use crate::service::{HOST, Held, NARROW, ROOMY, hold};
-use hsp_price_plan::plan_rows;
+use hsp_price_plan::{Silent, plan_rows};
 use hsp_price_text::PriceCertificate;
 use std::alloc::Global;
 use std::process::Abort;
 
-// The certificate of the rows, once more where memory ran out.
-fn planned(rt: &impl Abort, alloc: Global, filled: &mut Filled) -> PriceCertificate
+/// The certificate of the rows, once more where memory ran out.
+pub(crate) fn planned(rt: &impl Abort, alloc: Global, filled: &mut Filled) -> PriceCertificate
     requires { AreOfSome filled.old.numbers filled.old.rows.rows }
 {
-    match plan_rows(alloc, &filled.numbers, &mut filled.rows) {
+    match plan_rows(alloc, &filled.numbers, &mut filled.rows, &mut Silent) {
         Ok(certificate) => certificate,
-        Err(_) => plan_rows(alloc, &filled.numbers, &mut filled.rows).expect(rt, "there is one"),
+        Err(_) => plan_rows(alloc, &filled.numbers, &mut filled.rows, &mut Silent).expect(
+            rt,
+            "there is one",
+        ),
     }
 }
 
 // Rows of the service, none of whose arcs is kept at first, have this certificate.
-fn gets(rt: &impl Abort, alloc: Global, held: &Held, rows: &[Asked], wanted: &[u8]) {
+fn gets(rt: &impl Abort, alloc: Global, held: &Held, rows: &[Asked<'_>], wanted: &[u8]) {
     let mut none_kept = held_rows(rt, alloc, held, rows);
     let certificate = planned(rt, alloc, &mut none_kept);
     says(rt, alloc, &certificate, wanted);
@@ -30,7 +33,13 @@ fn gets(rt: &impl Abort, alloc: Global, held: &Held, rows: &[Asked], wanted: &[u
 }
 
 // So have rows that keep the cheapest arcs at first.
-fn gets_by_cheapest(rt: &impl Abort, alloc: Global, held: &Held, rows: &[Asked], wanted: &[u8]) {
+fn gets_by_cheapest(
+    rt: &impl Abort,
+    alloc: Global,
+    held: &Held,
+    rows: &[Asked<'_>],
+    wanted: &[u8],
+) {
     let mut some_kept = held_rows(rt, alloc, held, rows);
     keep_least(rt, &mut some_kept, &[0, 0, 0]);
     let certificate = planned(rt, alloc, &mut some_kept);
@@ -56,7 +65,7 @@ fn all_rows_go_to_their_cheapest_server_where_there_is_room(rt: HostRuntime) {
 // From r1 both handles ask for 7 together and have the servers 0 and 2. The server 0 takes 5 of them at 1 each, and 2
 // go to the server 2 at 10 each. So a query pays 10 at both, and the server 0 has the price 9. From r2 6 go to the
 // server 1 at 1 each: 5 + 20 + 6 = 31.
-fn tied() -> [Asked; 3] {
+fn tied() -> [Asked<'static>; 3] {
     [
         row_of(b"r1", b"10/1", 3),
         row_of(b"r2", b"10/2", 6),

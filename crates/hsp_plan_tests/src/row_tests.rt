@@ -7,7 +7,9 @@ use crate::filling::{Filled, held_rows, row_of};
 use crate::keeping::{keep_least, keep_leaving, keep_near};
 use crate::same::is_same;
 use crate::service::{ROOMY, hold};
+use hsp_guess::keep_guessed;
 use hsp_instance::Arc;
+use hsp_price_plan::Silent;
 use std::alloc::{AllocError, Global};
 use std::process::Abort;
 
@@ -60,6 +62,26 @@ fn kept_of(alloc: Global, filled: &Filled, row: usize) -> Result<Vec<Arc>, Alloc
     Ok(kept)
 }
 
+// All arcs of a row.
+fn arcs_of(alloc: Global, filled: &Filled, row: usize) -> Result<Vec<Arc>, AllocError>
+    requires { row < length filled.now.rows.rows }
+{
+    // It is written over.
+    let mut arcs = Vec::from_slice(alloc, &[TO_A, TO_A, TO_A])?;
+    filled.rows.fill_arcs(row, &mut arcs)?;
+    Ok(arcs)
+}
+
+// A row has these arcs.
+fn has(rt: &impl Abort, alloc: Global, filled: &Filled, row: usize, wanted: &[Arc]) {
+    assert!(rt; row < filled.rows.len());
+    let arcs = match arcs_of(alloc, filled, row) {
+        Ok(arcs) => arcs,
+        Err(AllocError) => arcs_of(alloc, filled, row).expect(rt, "there is memory"),
+    };
+    is_same(rt, arcs.as_slice(), wanted);
+}
+
 // A row keeps these arcs.
 fn keeps(rt: &impl Abort, alloc: Global, filled: &Filled, row: usize, wanted: &[Arc]) {
     assert!(rt; row < filled.rows.len());
@@ -96,6 +118,28 @@ fn rows_have_their_regions_and_counts(rt: HostRuntime) {
     is_row(&rt, &rows, 1, 0, (b"r1", 4));
     is_row(&rt, &rows, 2, 1, (b"r3", 5));
     all_keep(&rt, alloc, &rows, [&[], &[], &[]]);
+}
+
+#[test]
+fn rows_have_their_arcs_whichever_are_kept(rt: HostRuntime) {
+    let alloc = rt.alloc();
+    let mut rows = three_rows(&rt, alloc);
+    keep_least(&rt, &mut rows, &[0, 0, 0]);
+    has(&rt, alloc, &rows, 0, &[TO_A, FIRST_AT_B]);
+    has(&rt, alloc, &rows, 1, &[TO_A, SECOND_AT_B]);
+    has(&rt, alloc, &rows, 2, &[LAST_AT_B]);
+}
+
+#[test]
+fn few_rows_keep_all_arcs_by_a_guess(rt: HostRuntime) {
+    let alloc = rt.alloc();
+    let mut rows = three_rows(&rt, alloc);
+    if keep_guessed(alloc, &rows.numbers, &mut rows.rows, &mut Silent).is_err() {
+        let again = keep_guessed(alloc, &rows.numbers, &mut rows.rows, &mut Silent);
+        assert!(rt; again.is_ok(), "there is memory");
+    }
+    let both: [&[Arc]; 3] = [&[TO_A, FIRST_AT_B], &[TO_A, SECOND_AT_B], &[LAST_AT_B]];
+    all_keep(&rt, alloc, &rows, both);
 }
 
 // At the price 9 a query from r1 pays 10 at both.

@@ -15,6 +15,6 @@ mod SmallAmounts
 mod JudgedClasses
 mod SetRows
 pub mod Starting
-mod RegionPlaces
+pub mod RegionPlaces
 mod RegionSteps
 mod Judged

@@ -58,7 +58,7 @@ none_distinct = tt
 -- ---- places
 
 -- what stands at a place after a name was seen stood there before, or is the name, which was new
-placed_before : (names : List (List ℕ)) (name other : List ℕ) (k : ℕ) (there : Bool)
+pub placed_before : (names : List (List ℕ)) (name other : List ℕ) (k : ℕ) (there : Bool)
     → list_any (bytes_eq name) names ≡ there → slice_get (if there then names else names ++ name ∷ []) k ≡ Some other
     → (slice_get names k ≡ Some other) ⊎ ((k ≡ length names) × (other ≡ name) × (there ≡ false))
 placed_before names name other k true is at = inl at
@@ -66,7 +66,7 @@ placed_before names name other k false is at =
     elim (pushed_at names name k other at) [ inl here ↦ inl here | inr last ↦ inr (last.0, last.1, refl) ]
 
 -- a name that stands at a place is among the names
-among_at : (names : List (List ℕ)) (name : List ℕ) (k : ℕ) → slice_get names k ≡ Some name
+pub among_at : (names : List (List ℕ)) (name : List ℕ) (k : ℕ) → slice_get names k ≡ Some name
     → list_any (bytes_eq name) names ≡ true
 among_at [] name k at = grind arith
 among_at (n ∷ names) name zero at = grind (arith, bytes_decides name n)

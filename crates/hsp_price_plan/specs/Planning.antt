@@ -11,7 +11,7 @@ use Rattle.hsp_classes.specs.Shown.{IsService}
 use Rattle.hsp_classes.specs.Verdict.{IsVerdict}
 use Rattle.hsp_classes.specs.declared.verdict.PriceVerdict.TheVariants.{Yes}
 use Rattle.hsp_groups.specs.Groups.{AreGroupsOf, Group}
-use Rattle.hsp_groups.specs.Rows.{KeptRow, with_least, with_leaving}
+use Rattle.hsp_groups.specs.Rows.{KeptRow, loose_of, with_least, with_leaving}
 use Rattle.hsp_groups.specs.Solved.{AreRows}
 use Rattle.hsp_price_check.specs.Extras.{AreExtras, pay_by}
 use Rattle.hsp_price_check.specs.PlanPass.{AreNumbersOf}
@@ -23,6 +23,8 @@ use Rattle.hsp_group_plans.specs.Solving.{arcs_in, group_network}
 use Rattle.hsp_group_plans.specs.declared.network.TheConstants.{MOST_ARCS, MOST_GROUPS}
 use Rattle.hsp_price_plan.specs.declared.fault.PlanFault.{PlanFault}
 use Rattle.hsp_price_plan.specs.declared.fault.PlanFault.TheVariants as fault
+use Rattle.hsp_price_plan.specs.declared.rounds.RoundEnd.{RoundEnd}
+use Rattle.hsp_price_plan.specs.declared.rounds.RoundEnd.TheVariants as end
 
 -- rows of a service, which ask for fewer than 2^63 queries together
 pub record AreHeld (numbers : ServiceNumbers) (at : Service) (rows : List Row) (kept : List KeptRow) : Type 0 where
@@ -44,6 +46,11 @@ IsValidFor numbers kept certificate =
 -- rows are still those of whatever service they were
 abbrev pub Outlasts : ServiceNumbers → List KeptRow → List KeptRow → Type 0
 Outlasts numbers old new = (at : Service) (rows : List Row) → AreHeld numbers at rows old → AreHeld numbers at rows new
+
+-- a round comes to a valid certificate, or rows keep more arcs
+abbrev pub IsRoundEnd : ServiceNumbers → List KeptRow → List KeptRow → RoundEnd → Type 0
+IsRoundEnd numbers old new (end.Shown certificate) = IsValidFor numbers old certificate
+IsRoundEnd numbers old new (end.Kept arcs) = loose_of new < loose_of old
 
 -- ---- certificates that no text may say
 

@@ -3,7 +3,9 @@
 #![tactic(auto)]
 
 mod fault;
+mod progress;
 mod rounds;
 
 pub use fault::PlanFault;
+pub use progress::{Progress, Silent};
 pub use rounds::plan_rows;

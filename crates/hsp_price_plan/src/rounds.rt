@@ -1,15 +1,15 @@
 // Rounds over rows: their groups' network is solved, and what it shows is tested against all arcs.
 
-ghost use Rattle.std.specs.Prelude.{◌≡◌, ◌≤◌, ◌<◌, ◌⊎◌, ◌^◌, IfErr, IfOk, IfSome, IsNone, length};
+ghost use Rattle.std.specs.Prelude.{◌≡◌, ◌≤◌, ◌<◌, ◌⊎◌, ◌^◌, IfErr, IfOk, length};
 ghost use Rattle.std.specs.List.{AllByRecursion};
 ghost use Rattle.hsp_network.specs.Answer.{IsMet, IsShortSet};
 ghost use Rattle.hsp_groups.specs.Groups.{AreGroupsOf};
-ghost use Rattle.hsp_groups.specs.Rows.{loose_of};
 ghost use Rattle.hsp_group_plans.specs.Solving.{HasArcsWithin, demand_in, group_network};
 ghost use Rattle.hsp_group_plans.specs.declared.network.TheConstants.{MOST_GROUPS};
-ghost use Rattle.hsp_price_plan.specs.Planning.{AreOfSome, IsFaultOf, IsRoundFault, IsValidFor, Outlasts};
+ghost use Rattle.hsp_price_plan.specs.Planning.{AreOfSome, IsFaultOf, IsRoundEnd, IsRoundFault, IsValidFor, Outlasts};
 
 use crate::fault::PlanFault;
+use crate::progress::Progress;
 use hsp_group_plans::{plan_of, reached_by, short_of, solve};
 use hsp_grouping::{RowGroup, groups_of};
 use hsp_kept_rows::KeptRows;
@@ -17,6 +17,13 @@ use hsp_network::{Outcome, PricedFlow};
 use hsp_price_check::{ServiceNumbers, extras_of};
 use hsp_price_text::PriceCertificate;
 use std::alloc::Global;
+
+// What a round comes to: a certificate, or so many arcs more that rows keep now.
+#[derive(Drop)]
+enum RoundEnd {
+    Shown(PriceCertificate),
+    Kept(u64),
+}
 
 // The certificate of a plan by a flow that meets the groups' network, where rows keep all arcs over which a query pays
 // least by its prices. Otherwise they keep them now.
@@ -26,7 +33,7 @@ fn plan_round(
     rows: &mut KeptRows,
     groups: &[RowGroup],
     flow: PricedFlow,
-) -> Result<Option<PriceCertificate>, PlanFault>
+) -> Result<RoundEnd, PlanFault>
     requires rows { AreOfSome numbers.now rows.old.rows }
     requires groups { AreGroupsOf rows.old.rows groups.now }
     requires arcs { AllByRecursion (HasArcsWithin (length numbers.now.server_hosts.items))
@@ -34,10 +41,8 @@ fn plan_round(
     requires few { length groups.now ≤ MOST_GROUPS }
     requires demand { demand_in groups.now < 2 ^ 63 }
     requires met { IsMet (group_network numbers.now groups.now) flow }
-    ensures valid { IfOk result (λ found. IfSome found (IsValidFor numbers.now rows.old.rows)) }
+    ensures end { IfOk result (IsRoundEnd numbers.now rows.old.rows rows.new.rows) }
     ensures lasts { Outlasts numbers.now rows.old.rows rows.new.rows }
-    ensures more { IfOk result (λ found. IsNone found
-        → loose_of rows.new.rows < loose_of rows.old.rows) }
     ensures fault { IfErr result (IsRoundFault numbers.now rows.new.rows groups.now) }
 {
     let extras = extras_of(
@@ -46,11 +51,12 @@ fn plan_round(
         &flow.server_prices,
         &flow.host_prices,
     )?;
-    if rows.keep_least(&extras) > 0 {
-        return Ok(None);
+    let kept = rows.keep_least(&extras);
+    if kept > 0 {
+        return Ok(RoundEnd::Kept(kept));
     }
     match plan_of(alloc, numbers, groups, flow)? {
-        Some(plan) => Ok(Some(PriceCertificate::Plan(plan))),
+        Some(plan) => Ok(RoundEnd::Shown(PriceCertificate::Plan(plan))),
         None => Err(PlanFault::TooLarge),
     }
 }
@@ -63,40 +69,37 @@ fn short_round(
     rows: &mut KeptRows,
     groups: &[RowGroup],
     set: &[bool],
-) -> Result<Option<PriceCertificate>, PlanFault>
+) -> Result<RoundEnd, PlanFault>
     requires rows { AreOfSome numbers.now rows.old.rows }
     requires groups { AreGroupsOf rows.old.rows groups.now }
     requires arcs { AllByRecursion (HasArcsWithin (length numbers.now.server_hosts.items))
         groups.now }
     requires demand { demand_in groups.now < 2 ^ 63 }
     requires short { IsShortSet (group_network numbers.now groups.now) set.now }
-    ensures valid { IfOk result (λ found. IfSome found (IsValidFor numbers.now rows.old.rows)) }
+    ensures end { IfOk result (IsRoundEnd numbers.now rows.old.rows rows.new.rows) }
     ensures lasts { Outlasts numbers.now rows.old.rows rows.new.rows }
-    ensures more { IfOk result (λ found. IsNone found
-        → loose_of rows.new.rows < loose_of rows.old.rows) }
     ensures fault { IfErr result (IsRoundFault numbers.now rows.new.rows groups.now) }
 {
     let reached = reached_by(alloc, numbers, groups, set)?;
-    if rows.keep_leaving(&reached) > 0 {
-        return Ok(None);
+    let leaving = rows.keep_leaving(&reached);
+    if leaving > 0 {
+        return Ok(RoundEnd::Kept(leaving));
     }
     match short_of(alloc, numbers, groups, &reached)? {
-        Some(short) => Ok(Some(PriceCertificate::Shortage(short))),
+        Some(short) => Ok(RoundEnd::Shown(PriceCertificate::Shortage(short))),
         None => Err(PlanFault::TooLarge),
     }
 }
 
-// The certificate that the groups' network shows, or None where more arcs had to be kept.
+// The certificate that the groups' network shows, or how many arcs more had to be kept.
 fn round(
     alloc: Global,
     numbers: &ServiceNumbers,
     rows: &mut KeptRows,
-) -> Result<Option<PriceCertificate>, PlanFault>
+) -> Result<RoundEnd, PlanFault>
     requires { AreOfSome numbers.now rows.old.rows }
-    ensures valid { IfOk result (λ found. IfSome found (IsValidFor numbers.now rows.old.rows)) }
+    ensures end { IfOk result (IsRoundEnd numbers.now rows.old.rows rows.new.rows) }
     ensures lasts { Outlasts numbers.now rows.old.rows rows.new.rows }
-    ensures more { IfOk result (λ found. IsNone found
-        → loose_of rows.new.rows < loose_of rows.old.rows) }
     ensures fault { IfErr result (IsFaultOf numbers.now rows.old.rows) }
 {
     let groups = groups_of(alloc, rows)?;
@@ -109,16 +112,17 @@ fn round(
 
 /// A valid certificate by prices for rows that are held: of a plan, or of a short set of servers. Rows may keep more
 /// arcs afterwards. Which arcs they keep at first decides how many rounds it takes, and which of several valid
-/// certificates is returned.
+/// certificates is returned. Each round that keeps more shows how many.
 ///
 /// # Errors
 ///
 /// `TooLarge` where the certificate would pass a limit of its text, or rows are of more groups than are solved.
 /// `OutOfMemory` where memory runs out.
-pub fn plan_rows(
+pub fn plan_rows<P: Progress>(
     alloc: Global,
     numbers: &ServiceNumbers,
     rows: &mut KeptRows,
+    progress: &mut P,
 ) -> Result<PriceCertificate, PlanFault>
     requires { AreOfSome numbers.now rows.old.rows }
     ensures valid { IfOk result (IsValidFor numbers.now rows.old.rows) }
@@ -126,8 +130,9 @@ pub fn plan_rows(
     ensures fault { IfErr result (IsFaultOf numbers.now rows.old.rows) }
 {
     'rounds: loop {
-        if let Some(certificate) = round(alloc, numbers, rows)? {
-            return Ok(certificate);
+        match round(alloc, numbers, rows)? {
+            RoundEnd::Shown(certificate) => return Ok(certificate),
+            RoundEnd::Kept(arcs) => progress.left(arcs),
         }
     }
 }

@@ -13,25 +13,27 @@ use Rattle.hsp_stream.specs.Faults.{fault_of_input}
 use Rattle.hsp_stream.specs.KindsLog.{OfLog}
 use Rattle.hsp_stream.specs.declared.fault.StreamFault.{StreamFault}
 use Rattle.hsp_price_runs.specs.LogRows.{log_rows}
-use Rattle.hsp_price_runs.specs.Passing.{PassesRows}
-use Rattle.hsp_price_runs.specs.PriceRun.{AnswersInputs, AnswersInstance, AnswersRead, AnswersRecords, AnswersText}
-use Rattle.hsp_price_runs.specs.PriceRun.{IsCertificateIn}
+use Rattle.hsp_price_runs.specs.Passing.{TakesRows}
+use Rattle.hsp_price_runs.specs.Taking.{HasPassedOver}
+use Rattle.hsp_price_runs.specs.PriceRun.{Answering, AnswersBy, AnswersReadBy, AnswersRecords, AnswersService}
+use Rattle.hsp_price_runs.specs.PriceRun.{AnswersText, IsCertificateIn}
 
 module _ (at : Service) (certificate : PriceCertificate) (old new : PriceCheck) (fresh : IsPassed at certificate [] old)
   where
     -- a check that has passed over a log is over some rows
-    pub some_rows : (log : Option (List ℕ)) → OfLog log (λ records. PassesRows (log_rows records) old new)
+    pub some_rows : (log : Option (List ℕ)) → OfLog log (λ records. TakesRows HasPassedOver (log_rows records) old new)
         → (rows : List Row) × IsPassed at certificate rows new
-    some_rows log (records, known, over) = (over.rows, over.passes at certificate fresh)
+    some_rows log (records, known, over) = (over.rows, over.taken.passed at certificate fresh)
 
     -- its answer is that by the rows of the log
     pub answered_log : {X : Type 0} (Is : List Row → Result X StreamFault → Type 0) (log : Option (List ℕ))
         (answer : Result X StreamFault) → ((rows : List Row) → IsPassed at certificate rows new → Is rows answer)
-        → OfLog log (λ records. PassesRows (log_rows records) old new) → OfLog log (AnswersRecords Is answer)
+        → OfLog log (λ records. TakesRows HasPassedOver (log_rows records) old new)
+        → OfLog log (AnswersRecords Is answer)
     answered_log Is log answer answers (records, known, over) = (
       records,
       known,
-      (Ok over.rows, sym over.are, answers over.rows (over.passes at certificate fresh)),
+      (Ok over.rows, sym over.are, answers over.rows (over.taken.passed at certificate fresh)),
     )
 
 -- the log is at fault
@@ -52,19 +54,17 @@ module _ {X : Type 0} (Is : PriceCertificate → List Row → Result X StreamFau
       → AnswersText Is octets answer records
   text_is certificate answer is asked = (Ok certificate, (Ok certificate, is, refl), asked)
 
-module _ {X : Type 0} (Is : Instance → Service → PriceCertificate → List Row → Result X StreamFault → Type 0)
-    (inputs : Inputs) (octets : List ℕ) (records : List Fields) where
+module _ {X : Type 0} (By : Answering X) (inputs : Inputs) (records : List Fields) where
   -- an input is at fault
-  pub inputs_stop : (e : Fault) → IsInstanceOf inputs (Err e)
-      → AnswersInputs Is inputs octets (Err (fault_of_input e)) records
+  pub inputs_stop : (e : Fault) → IsInstanceOf inputs (Err e) → AnswersBy By inputs (Err (fault_of_input e)) records
   inputs_stop e is = (Err (fault_of_input e), (Err e, is, refl), refl)
 
-  -- they are read, and the certificate is asked by them
+  -- they are read, and it is asked by them
   pub inputs_are : (it : Instance) (answer : Result X StreamFault) → IsInstanceOf inputs (Ok it)
-      → AnswersInstance Is inputs octets records it answer → AnswersInputs Is inputs octets answer records
+      → AnswersService By inputs records it answer → AnswersBy By inputs answer records
   inputs_are it answer is asked = (Ok it, (Ok it, is, refl), asked)
 
   -- so it is by an instance that was read
-  pub read_is : (answer : Result X StreamFault) → AnswersRead Is inputs octets answer records
-      → AnswersInputs Is inputs octets answer records
+  pub read_is : (answer : Result X StreamFault) → AnswersReadBy By inputs answer records
+      → AnswersBy By inputs answer records
   read_is answer (it, read, asked) = inputs_are it answer read.is asked

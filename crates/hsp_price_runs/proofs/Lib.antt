@@ -1,5 +1,6 @@
 mod RowsTaken
+mod PassedOver
 mod LogReading
-mod Judged
+pub mod Judged
 mod RowsSpelled
 pub mod Shown

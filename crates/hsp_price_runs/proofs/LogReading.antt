@@ -1,49 +1,44 @@
--- The records of a log, as a check passes over their rows.
+-- The records of a log, as their rows are taken.
 use Rattle.std.proofs.Common.{◌≡◌, ◌∙◌, ◌+◌, ℕ, true, List, [], ◌∷◌, ◌++◌, Option, Result, Ok, Err}
 use Rattle.std.proofs.Common.{IfSome, append_assoc, refl, ap, subst, sym}
 use Rattle.csv.specs.declared.reader.Reader.{Reader}
 use Rattle.hsp_csv.specs.Records.{Fields, IsKnown, TakesRecord, records_left, records_of}
 use Rattle.hsp_text.specs.Answers.{◌>>=◌}
 use Rattle.hsp_instance.specs.Instance.{Row}
-use Rattle.hsp_kinds.specs.Rows.{Service}
-use Rattle.hsp_price_text.specs.declared.certificate.PriceCertificate.{PriceCertificate}
-use Rattle.hsp_price_check.specs.Checking.{IsPassed}
-use Rattle.hsp_price_check.specs.declared.checking.PriceCheck.{PriceCheck}
 use Rattle.hsp_stream.specs.KindsLog.{OfLeft, OfLog, form_of}
 use Rattle.hsp_stream.specs.declared.fault.StreamFault.{StreamFault}
 use Rattle.hsp_stream.specs.declared.kinds_log.CountForm.{CountForm}
 use Rattle.hsp_stream.proofs.KindsReading.{at_start}
 use Rattle.hsp_price_runs.specs.LogRows.{log_rows, rows_with, with_record}
-use Rattle.hsp_price_runs.specs.Passing.{IsOver, PassesRecord}
+use Rattle.hsp_price_runs.specs.Passing.{IsOverSome, TakesRecord as TakesRow}
 use Rattle.hsp_price_runs.proofs.RowsTaken.{read_record, record_more, row_taken}
 
 -- ---- the rows
 
-module _ (form : CountForm) (fresh : PriceCheck) where
-  -- some records were read, and the check passed over their rows
-  pub record PassedSoFar {R : Type 0} (remaining : R → Option (List ℕ)) (first now : Reader R) (n : ℕ)
-      (check : PriceCheck) : Type 0 where
+module _ {X : Type 0} (HasTaken : X → List Row → X → Type 0) (form : CountForm) (fresh : X) where
+  -- some records were read, and their rows were taken
+  pub record TakenSoFar {R : Type 0} (remaining : R → Option (List ℕ)) (first now : Reader R) (n : ℕ) (taker : X) :
+      Type 0 where
     pub done : List Fields
     pub left : IsKnown remaining first → (records_left remaining first ≡ done ++ records_left remaining now)
         × IsKnown remaining now
     pub rows : List Row
     pub are : (more : List Fields) → rows_with form n rows more ≡ rows_with form 0 [] (done ++ more)
-    pub passes : (at : Service) (certificate : PriceCertificate) → IsPassed at certificate [] fresh
-        → IsPassed at certificate rows check
+    pub taken : HasTaken fresh rows taker
 
   -- nothing was read yet
-  pub none_passed : {R : Type 0} (remaining : R → Option (List ℕ)) (first : Reader R)
-      → PassedSoFar remaining first first 0 fresh
-  none_passed remaining first = record {
+  pub none_taken : {R : Type 0} (remaining : R → Option (List ℕ)) (first : Reader R) → HasTaken fresh [] fresh
+      → TakenSoFar remaining first first 0 fresh
+  none_taken remaining first is = record {
     done = [];
     left = λ known. (refl, known);
     rows = [];
     are = λ more. refl;
-    passes = λ at certificate is. is;
+    taken = is;
   }
 
-  module _ {R : Type 0} (remaining : R → Option (List ℕ)) (first now next : Reader R) (n : ℕ) (check : PriceCheck)
-      (fields : Fields) (so_far : PassedSoFar remaining first now n check) where
+  module _ {R : Type 0} (remaining : R → Option (List ℕ)) (first now next : Reader R) (n : ℕ) (taker : X)
+      (fields : Fields) (so_far : TakenSoFar remaining first now n taker) where
     -- the records that are left are fewer by the one that was read
     left_more : TakesRecord remaining now next true fields → IsKnown remaining first
         → (records_left remaining first ≡ so_far.done ++ fields ∷ records_left remaining next) × IsKnown remaining next
@@ -52,19 +47,19 @@ module _ (form : CountForm) (fresh : PriceCheck) where
         let after = takes before.1 in
         (before.0 ∙ ap (λ l. so_far.done ++ l) after.0, after.1)
 
-    -- the check is over the rows so far
-    pub over_rows : IsOver [] fresh → IsOver so_far.rows check
-    over_rows (at, certificate, is) = (at, certificate, so_far.passes at certificate is)
+    -- it has taken the rows so far
+    pub some_taken : IsOverSome HasTaken taker
+    some_taken = (fresh, so_far.rows, so_far.taken)
 
-    -- a record more is read, and its row passed over
-    pub one_passed : (passed : PriceCheck) → IsOver [] fresh → TakesRecord remaining now next true fields
-        → PassesRecord form n fields check passed → PassedSoFar remaining first next (n + 1) passed
-    one_passed passed (at, certificate, is) takes read =
+    -- a record more is read, and its row taken
+    pub one_taken : (after : X) → TakesRecord remaining now next true fields
+        → TakesRow HasTaken form n fields taker after → TakenSoFar remaining first next (n + 1) after
+    one_taken after takes read =
         let all = so_far.rows ++ read.row ∷ [] in
-        let over = read.passes at certificate so_far.rows (so_far.passes at certificate is) in
+        let own = read.takes fresh so_far.rows so_far.taken in
         let taken : with_record form n so_far.rows fields ≡ Ok (so_far.rows ++ read.row ∷ []) =
         read_record form n fields so_far.rows read.row read.spelled
-        ∙ row_taken n so_far.rows read.row over.few_regions in
+        ∙ row_taken n so_far.rows read.row own.1 in
         record {
           done = so_far.done ++ fields ∷ [];
           left = λ known.
@@ -74,7 +69,7 @@ module _ (form : CountForm) (fresh : PriceCheck) where
           are = λ more.
               sym (record_more form n fields so_far.rows all more taken) ∙ so_far.are (fields ∷ more)
               ∙ ap (λ l. rows_with form 0 [] l) (sym (append_assoc so_far.done (fields ∷ []) more));
-          passes = λ own claim fits. read.passes own claim so_far.rows (so_far.passes own claim fits);
+          taken = own.0;
         }
 
     -- a record more is read, which has a fault

@@ -7,10 +7,7 @@ use Rattle.hsp_text.specs.Answers.{◌>>=◌, or_fault, fault_as}
 use Rattle.hsp_text.specs.declared.limits.TheConstants.{MOST_REGIONS}
 use Rattle.hsp_text.proofs.Steps.{le_true}
 use Rattle.hsp_instance.specs.Instance.{Row, regions_of}
-use Rattle.hsp_kinds.specs.Rows.{Service}
-use Rattle.hsp_price_text.specs.declared.certificate.PriceCertificate.{PriceCertificate}
-use Rattle.hsp_price_check.specs.Checking.{HasTooMany, IsPassed}
-use Rattle.hsp_price_check.specs.declared.checking.PriceCheck.{PriceCheck}
+use Rattle.hsp_price_check.specs.Checking.{HasTooMany}
 use Rattle.hsp_price_check.specs.declared.fault.PassFault.{PassFault}
 use Rattle.hsp_price_check.specs.declared.fault.PassFault.TheVariants as pass
 use Rattle.hsp_stream.specs.KindsLog.{Parts, parts_in, row_of}
@@ -20,7 +17,7 @@ use Rattle.hsp_stream.specs.declared.fault.StreamFault.{StreamFault}
 use Rattle.hsp_stream.specs.declared.fault.StreamFault.TheVariants.{Log, OutOfMemory}
 use Rattle.hsp_stream.specs.declared.kinds_log.CountForm.{CountForm}
 use Rattle.hsp_price_runs.specs.LogRows.{row_in, rows_with, with_record, with_row}
-use Rattle.hsp_price_runs.specs.Passing.{IsOver, fault_of_pass}
+use Rattle.hsp_price_runs.specs.Passing.{StopsAt, fault_of_pass}
 
 -- the test of a greater number fails
 le_false : (a b : ℕ) → b < a → nat_le a b ≡ false
@@ -36,17 +33,14 @@ pub row_refused : (n : ℕ) (rows : List Row) (row : Row) → HasTooMany (rows +
     → with_row n rows row ≡ Err (Log (fault.TooManyRegions n))
 row_refused n rows row many = rw (le_false (length (regions_of (rows ++ row ∷ []))) MOST_REGIONS many) refl
 
--- a check that stops at a row stops at it behind all rows that it may be over
-pub passing_stops : (n : ℕ) (row : Row) (check : PriceCheck) (e : PassFault)
-    → (e ≡ pass.OutOfMemory)
-    ⊎ ((e ≡ pass.TooManyRegions)
-    × ((at : Service) (certificate : PriceCertificate) (rows : List Row) → IsPassed at certificate rows check
-    → HasTooMany (rows ++ row ∷ [])))
+-- a taker that stops at a row stops at it behind all rows that it may have taken
+pub taking_stops : {X : Type 0} (HasTaken : X → List Row → X → Type 0) (n : ℕ) (row : Row) (taker : X) (e : PassFault)
+    → (e ≡ pass.OutOfMemory) ⊎ StopsAt HasTaken row taker e
     → (fault_of_pass n e ≡ OutOfMemory)
-    ⊎ ((rows : List Row) → IsOver rows check → with_row n rows row ≡ Err (fault_of_pass n e))
-passing_stops n row check e (inl memory) = rw memory (inl refl)
-passing_stops n row check e (inr (many, all)) =
-    rw many (inr (λ rows (at, certificate, is). row_refused n rows row (all at certificate rows is)))
+    ⊎ ((first : X) (rows : List Row) → HasTaken first rows taker → with_row n rows row ≡ Err (fault_of_pass n e))
+taking_stops HasTaken n row taker e (inl memory) = rw memory (inl refl)
+taking_stops HasTaken n row taker e (inr (many, all)) =
+    rw many (inr (λ first rows is. row_refused n rows row (all first rows is)))
 
 module _ (form : CountForm) (n : ℕ) (fields : Fields) where
   -- a record whose fields are those of a row spells it

@@ -1,5 +1,6 @@
 pub mod LogRows
 pub mod Passing
+pub mod Taking
 pub mod PriceRun
 pub mod Asking
 pub mod PriceReport

@@ -1,11 +1,10 @@
--- A check by prices, as it passes over the rows of a log.
-use Rattle.std.specs.Prelude.{◌≡◌, ◌++◌, ℕ, List, [], ◌∷◌, Result, Ok}
+-- What takes the rows of a log, row by row. Of a taker it is known what it means that it has taken rows since it was
+-- another.
+use Rattle.std.specs.Prelude.{◌≡◌, ◌++◌, ◌≤◌, ℕ, List, [], ◌∷◌, Result, Ok, length}
 use Rattle.hsp_csv.specs.Records.{Fields}
-use Rattle.hsp_instance.specs.Instance.{Row}
-use Rattle.hsp_kinds.specs.Rows.{Service}
-use Rattle.hsp_price_text.specs.declared.certificate.PriceCertificate.{PriceCertificate}
-use Rattle.hsp_price_check.specs.Checking.{IsPassed}
-use Rattle.hsp_price_check.specs.declared.checking.PriceCheck.{PriceCheck}
+use Rattle.hsp_text.specs.declared.limits.TheConstants.{MOST_REGIONS}
+use Rattle.hsp_instance.specs.Instance.{Row, regions_of}
+use Rattle.hsp_price_check.specs.Checking.{HasTooMany}
 use Rattle.hsp_price_check.specs.declared.fault.PassFault.{PassFault}
 use Rattle.hsp_price_check.specs.declared.fault.PassFault.TheVariants as pass
 use Rattle.hsp_stream.specs.declared.fault.RowFault.TheVariants as fault
@@ -14,30 +13,37 @@ use Rattle.hsp_stream.specs.declared.fault.StreamFault.TheVariants.{Log, OutOfMe
 use Rattle.hsp_stream.specs.declared.kinds_log.CountForm.{CountForm}
 use Rattle.hsp_price_runs.specs.LogRows.{row_in}
 
--- the fault of a row that can't be passed over
+-- the fault of a row that can't be taken
 abbrev pub fault_of_pass : ℕ → PassFault → StreamFault
 fault_of_pass row pass.TooManyRegions = Log (fault.TooManyRegions row)
 fault_of_pass row pass.OutOfMemory = OutOfMemory
 
--- the check has passed over these rows, whatever certificate it judges
-abbrev pub IsOver : List Row → PriceCheck → Type 0
-IsOver rows check = (at : Service) × (certificate : PriceCertificate) × IsPassed at certificate rows check
+-- it has taken some rows since it was another
+abbrev pub IsOverSome : {X : Type 0} → (X → List Row → X → Type 0) → X → Type 0
+IsOverSome {X} HasTaken now = (first : X) × (rows : List Row) × HasTaken first rows now
 
--- the check has passed over one row more
-abbrev pub Passes : Row → PriceCheck → PriceCheck → Type 0
-Passes row old new =
-    (at : Service) (certificate : PriceCertificate) (rows : List Row) → IsPassed at certificate rows old
-    → IsPassed at certificate (rows ++ row ∷ []) new
+-- it has taken one row more, which makes no region too many
+abbrev pub Takes : {X : Type 0} → (X → List Row → X → Type 0) → Row → X → X → Type 0
+Takes {X} HasTaken row old new =
+    (first : X) (rows : List Row) → HasTaken first rows old
+    → HasTaken first (rows ++ row ∷ []) new × (length (regions_of (rows ++ row ∷ [])) ≤ MOST_REGIONS)
 
--- a record spells a row, and the check has passed over it
-pub record PassesRecord (form : CountForm) (n : ℕ) (fields : Fields) (old new : PriceCheck) : Type 0 where
+-- the row makes a region too many
+abbrev pub StopsAt : {X : Type 0} → (X → List Row → X → Type 0) → Row → X → PassFault → Type 0
+StopsAt {X} HasTaken row old fault =
+    (fault ≡ pass.TooManyRegions)
+    × ((first : X) (rows : List Row) → HasTaken first rows old → HasTooMany (rows ++ row ∷ []))
+
+-- a record spells a row, and it was taken
+pub record TakesRecord {X : Type 0} (HasTaken : X → List Row → X → Type 0) (form : CountForm) (n : ℕ)
+    (fields : Fields) (old new : X) : Type 0 where
   pub row : Row
   pub spelled : row_in form n fields ≡ Ok row
-  pub passes : Passes row old new
+  pub takes : Takes HasTaken row old new
 
--- there are rows, and the check, which had passed over none, has passed over them
-pub record PassesRows (all : Result (List Row) StreamFault) (old new : PriceCheck) : Type 0 where
+-- there are rows, and they were taken
+pub record TakesRows {X : Type 0} (HasTaken : X → List Row → X → Type 0) (all : Result (List Row) StreamFault)
+    (old new : X) : Type 0 where
   pub rows : List Row
   pub are : all ≡ Ok rows
-  pub passes : (at : Service) (certificate : PriceCertificate) → IsPassed at certificate [] old
-      → IsPassed at certificate rows new
+  pub taken : HasTaken old rows new

@@ -34,6 +34,10 @@ OfInput {X} Is answer = (read : Result X Fault) × Is read × (answer ≡ fault_
 
 -- ---- questions
 
+-- by an instance, its service and the records of a log this is answered
+abbrev pub Answering : Type 0 → Type 1
+Answering X = Instance → Service → Result X StreamFault → List Fields → Type 0
+
 -- first the rows are read of the log, and then it is asked by them
 abbrev pub AnswersRecords : {X : Type 0} → (List Row → Result X StreamFault → Type 0) → Result X StreamFault
     → List Fields → Type 0
@@ -45,20 +49,27 @@ abbrev pub AnswersText : {X : Type 0} → (PriceCertificate → List Row → Res
 AnswersText Is octets answer records =
     Then (OfInput (IsCertificateIn octets)) (λ certificate own. AnswersRecords (Is certificate) own records) answer
 
+abbrev pub AnswersByPrices : {X : Type 0}
+    → (Instance → Service → PriceCertificate → List Row → Result X StreamFault → Type 0) → List ℕ → Answering X
+AnswersByPrices Is octets it at answer records = AnswersText (Is it at) octets answer records
+
 -- by an instance and the costs of the inputs
-abbrev pub AnswersInstance : {X : Type 0}
-    → (Instance → Service → PriceCertificate → List Row → Result X StreamFault → Type 0) → Inputs → List ℕ
-    → List Fields → Instance → Result X StreamFault → Type 0
-AnswersInstance Is inputs octets records it answer =
-    (costs : List CostEntry) × ReadsCosts inputs.costs.items (Ok costs)
-    × AnswersText (Is it (service_of costs it)) octets answer records
+abbrev pub AnswersService : {X : Type 0} → Answering X → Inputs → List Fields → Instance → Result X StreamFault
+    → Type 0
+AnswersService By inputs records it answer =
+    (costs : List CostEntry) × ReadsCosts inputs.costs.items (Ok costs) × By it (service_of costs it) answer records
 
 -- first of all the inputs are read
+abbrev pub AnswersBy : {X : Type 0} → Answering X → Inputs → Result X StreamFault → List Fields → Type 0
+AnswersBy By inputs answer records =
+    Then (OfInput (IsInstanceOf inputs)) (AnswersService By inputs records) answer
+
+-- and then a certificate
 abbrev pub AnswersInputs : {X : Type 0}
     → (Instance → Service → PriceCertificate → List Row → Result X StreamFault → Type 0) → Inputs → List ℕ
     → Result X StreamFault → List Fields → Type 0
 AnswersInputs Is inputs octets answer records =
-    Then (OfInput (IsInstanceOf inputs)) (AnswersInstance Is inputs octets records) answer
+    AnswersBy (AnswersByPrices Is octets) inputs answer records
 
 -- ---- the verdict
 
@@ -79,8 +90,12 @@ pub record IsReadFrom (inputs : Inputs) (it : Instance) : Type 0 where
   pub defines : Defines inputs it
 
 -- by the instance that was read
+abbrev pub AnswersReadBy : {X : Type 0} → Answering X → Inputs → Result X StreamFault → List Fields → Type 0
+AnswersReadBy By inputs answer records =
+    (it : Instance) × IsReadFrom inputs it × AnswersService By inputs records it answer
+
 abbrev pub AnswersRead : {X : Type 0}
     → (Instance → Service → PriceCertificate → List Row → Result X StreamFault → Type 0) → Inputs → List ℕ
     → Result X StreamFault → List Fields → Type 0
 AnswersRead Is inputs octets answer records =
-    (it : Instance) × IsReadFrom inputs it × AnswersInstance Is inputs octets records it answer
+    AnswersReadBy (AnswersByPrices Is octets) inputs answer records

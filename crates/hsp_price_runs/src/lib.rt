@@ -5,8 +5,11 @@ mod asked;
 mod log_pass;
 mod report;
 mod run;
+mod taking;
 mod verdict_text;
 
+pub use log_pass::pass_log;
 pub use report::{PriceReport, PriceReportKind, price_report_run};
 pub use run::{certificate_in, price_check_run};
+pub use taking::RowTaker;
 pub use verdict_text::{price_verdict_line, price_verdict_status};

@@ -1,4 +1,4 @@
-// The pass of a check by prices over the rows of a log.
+// The pass of what takes rows over the rows of a log.
 
 ghost use Rattle.std.specs.Prelude.{◌≡◌, ◌⊎◌, Err, IfErr, List, OnOk, []};
 ghost use Rattle.csv.specs.Records.{fields_of};
@@ -8,16 +8,17 @@ ghost use Rattle.hsp_stream.specs.KindsLog.{IsReadFault, OfLeft, OfLog};
 ghost use Rattle.hsp_stream.specs.KindsShown.{row_shown};
 ghost use Rattle.hsp_stream.specs.declared.fault.StreamFault.TheVariants.{OutOfMemory};
 ghost use Rattle.hsp_price_runs.specs.LogRows.{log_rows, rows_with, with_record, with_row};
-ghost use Rattle.hsp_price_runs.specs.Passing.{IsOver, Passes, PassesRecord, PassesRows, fault_of_pass};
+ghost use Rattle.hsp_price_runs.specs.Passing.{IsOverSome, Takes, TakesRecord, TakesRows, fault_of_pass};
 
+use crate::taking::RowTaker;
 use csv::{ByteRecord, Reader};
 use hsp_csv::{read_records, take_record};
-use hsp_price_check::{PassFault, PriceCheck};
+use hsp_price_check::PassFault;
 use hsp_stream::{CountForm, LogRow, RowFault, StreamFault, form_of, parts_in, row_of};
 use std::alloc::Global;
 use std::io::Read;
 
-// The fault of a row that can't be passed over.
+// The fault of a row that can't be taken.
 fn fault_of_pass(row: u64, fault: PassFault) -> StreamFault
     ensures { result ≡ fault_of_pass row fault }
 {
@@ -27,61 +28,61 @@ fn fault_of_pass(row: u64, fault: PassFault) -> StreamFault
     }
 }
 
-// Passes over a row, or reports that its region is one too many.
-fn pass_row(
+// Takes a row, or reports that its region is one too many.
+fn pass_row<T: RowTaker>(
     alloc: Global,
-    check: &mut PriceCheck<'_>,
+    taker: &mut T,
     row: u64,
     read: LogRow<'_>,
 ) -> Result<(), StreamFault>
-    requires { (rows : List Row) × IsOver rows check.old }
-    ensures passed { OnOk result (Passes (row_shown read.entry) check.old check.new) }
+    requires { IsOverSome T.HasTaken taker.old }
+    ensures passed { OnOk result (Takes T.HasTaken (row_shown read.entry) taker.old taker.new) }
     ensures fault { IfErr result (λ fault. (fault ≡ OutOfMemory)
-        ⊎ ((rows : List Row) → IsOver rows check.old
+        ⊎ ((first : T) (rows : List Row) → T.HasTaken first rows taker.old
         → with_row row rows (row_shown read.entry) ≡ Err fault)) }
 {
-    match check.add(alloc, read.region, read.handle, read.count) {
+    match taker.take_row(alloc, read) {
         Ok(()) => Ok(()),
         Err(fault) => Err(fault_of_pass(row, fault)),
     }
 }
 
-// Passes over the row that a record spells, or reports its first fault.
-fn pass_record(
+// Takes the row that a record spells, or reports its first fault.
+fn pass_record<T: RowTaker>(
     alloc: Global,
-    check: &mut PriceCheck<'_>,
+    taker: &mut T,
     row: u64,
     record: &ByteRecord,
     form: CountForm,
 ) -> Result<(), StreamFault>
-    requires { (rows : List Row) × IsOver rows check.old }
+    requires { IsOverSome T.HasTaken taker.old }
     ensures passed { OnOk result
-        (PassesRecord form row (fields_of «record».now) check.old check.new) }
+        (TakesRecord T.HasTaken form row (fields_of «record».now) taker.old taker.new) }
     ensures fault { IfErr result (λ fault. (fault ≡ OutOfMemory)
-        ⊎ ((rows : List Row) → IsOver rows check.old
+        ⊎ ((first : T) (rows : List Row) → T.HasTaken first rows taker.old
         → with_record form row rows (fields_of «record».now) ≡ Err fault)) }
 {
     let Some(parts) = parts_in(record, form) else {
         return Err(StreamFault::Log(RowFault::Fields { row }));
     };
     match row_of(row, parts) {
-        Ok(read) => pass_row(alloc, check, row, read),
+        Ok(read) => pass_row(alloc, taker, row, read),
         Err(fault) => Err(StreamFault::Log(fault)),
     }
 }
 
-// Passes over each row behind the header.
-fn pass_rows<R: Read>(
+// Takes each row behind the header.
+fn pass_rows<T: RowTaker, R: Read>(
     alloc: Global,
-    check: &mut PriceCheck<'_>,
+    taker: &mut T,
     reader: &mut Reader<R>,
     record: &mut ByteRecord,
     form: CountForm,
 ) -> Result<(), StreamFault>
     requires reading { IsReading reader.old }
-    requires fresh { IsOver [] check.old }
-    ensures passed { OnOk result (OfLeft R.remaining reader.old
-        (λ records. PassesRows (rows_with form 0 [] records) check.old check.new)) }
+    requires fresh { T.HasTaken taker.old [] taker.old }
+    ensures passed { OnOk result (OfLeft R.remaining reader.old (λ records.
+        TakesRows T.HasTaken (rows_with form 0 [] records) taker.old taker.new)) }
     ensures fault { IfErr result (λ fault. IsReadFault fault ⊎ OfLeft R.remaining reader.old
         (λ records. rows_with form 0 [] records ≡ Err fault)) }
 {
@@ -93,25 +94,25 @@ fn pass_rows<R: Read>(
         if row == u64::MAX {
             return Err(StreamFault::Log(RowFault::ReadFailed));
         }
-        pass_record(alloc, check, row, record, form)?;
+        pass_record(alloc, taker, row, record, form)?;
         row += 1;
     }
 }
 
-/// Passes over each row of the log that the reader gives. The check has passed over no row yet.
+/// Takes each row of the log that the reader gives.
 ///
 /// The log is read as `kinds` reads it. A log of 2^64 - 1 rows or more ends as `ReadFailed`.
 ///
 /// Faults in this order: `ReadFailed`, `Header`; then row by row `ReadFailed`, `Fields`, `BadName`, `BadHandle`,
 /// `BadNumber`, `TooManyRegions`.
-pub(crate) fn pass_log<R: Read + Drop>(
+pub fn pass_log<T: RowTaker, R: Read + Drop>(
     alloc: Global,
-    check: &mut PriceCheck<'_>,
+    taker: &mut T,
     log: R,
 ) -> Result<(), StreamFault>
-    requires { IsOver [] check.old }
+    requires { T.HasTaken taker.old [] taker.old }
     ensures passed { OnOk result (OfLog (R.remaining log)
-        (λ records. PassesRows (log_rows records) check.old check.new)) }
+        (λ records. TakesRows T.HasTaken (log_rows records) taker.old taker.new)) }
     ensures fault { IfErr result (λ fault. IsReadFault fault ⊎ OfLog (R.remaining log)
         (λ records. log_rows records ≡ Err fault)) }
 {
@@ -121,5 +122,5 @@ pub(crate) fn pass_log<R: Read + Drop>(
         return Err(StreamFault::Log(RowFault::Header));
     }
     let form = form_of(&record)?;
-    pass_rows(alloc, check, &mut reader, &mut record, form)
+    pass_rows(alloc, taker, &mut reader, &mut record, form)
 }

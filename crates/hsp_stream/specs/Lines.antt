@@ -34,6 +34,7 @@ fault_words fault.BadUnit = codes "BadUnit"
 fault_words fault.BadFront = codes "BadFront"
 fault_words (fault.Input e) = input.fault_words e
 fault_words (fault.Refused reason) = codes "check: " ++ reason_word reason
+fault_words fault.TooLarge = codes "plan: TooLarge"
 fault_words (fault.Log e) = codes "log: " ++ row_words e
 fault_words fault.OutOfMemory = codes "OutOfMemory"
 
@@ -59,6 +60,7 @@ status_in fault.BadUnit = 1
 status_in fault.BadFront = 1
 status_in (fault.Input e) = input.status_in e
 status_in (fault.Refused reason) = 3
+status_in fault.TooLarge = 1
 status_in (fault.Log e) = row_status e
 status_in fault.OutOfMemory = 4
 

@@ -52,3 +52,4 @@ ArePlacedUntil settings values old new fault.OutOfMemory =
 ArePlacedUntil settings values old new fault.BadUnit = ⊥
 ArePlacedUntil settings values old new fault.BadFront = ⊥
 ArePlacedUntil settings values old new (fault.Refused reason) = ⊥
+ArePlacedUntil settings values old new fault.TooLarge = ⊥

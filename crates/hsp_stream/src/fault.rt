@@ -51,6 +51,9 @@ pub enum StreamFault {
     /// The certificate by prices doesn't fit the service.
     #[error("check: {0:?}")]
     Refused(PriceReason),
+    /// A certificate by prices of the log's rows would pass a limit of its text, or rows ask for 2^63 queries or more.
+    #[error("plan: too large")]
+    TooLarge,
     /// The run over the log stopped.
     #[error("log: {0:?}")]
     Log(RowFault),

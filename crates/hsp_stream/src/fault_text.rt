@@ -76,6 +76,7 @@ pub fn push_fault_words(out: &mut Vec<u8>, fault: &StreamFault) -> Result<(), Al
             out.extend_from_slice(b"check: ")?;
             out.extend_from_slice(price_reason_word(*reason))
         }
+        StreamFault::TooLarge => out.extend_from_slice(b"plan: TooLarge"),
         StreamFault::Log(inner) => {
             out.extend_from_slice(b"log: ")?;
             push_row_fault(out, inner)
@@ -120,7 +121,7 @@ pub fn stream_status(fault: &StreamFault) -> u8
     ensures { result ≡ status_in fault.now }
 {
     match fault {
-        StreamFault::BadUnit | StreamFault::BadFront => 1,
+        StreamFault::BadUnit | StreamFault::BadFront | StreamFault::TooLarge => 1,
         StreamFault::Input(inner) => status_of(inner),
         StreamFault::Refused(_) => 3,
         StreamFault::Log(inner) => row_status(inner),

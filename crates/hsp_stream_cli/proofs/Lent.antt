@@ -51,6 +51,7 @@ until_keep settings values old new fault.OutOfMemory so = elim so [
   | inr rest ↦ let (sites, read, (events, goes, stopped)) = rest in goes.same
 ]
 until_keep settings values old new (fault.Refused reason) so = absurd so
+until_keep settings values old new fault.TooLarge so = absurd so
 until_keep settings values old new fault.BadUnit so = absurd so
 until_keep settings values old new fault.BadFront so = absurd so
 

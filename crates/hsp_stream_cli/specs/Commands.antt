@@ -9,6 +9,7 @@ use Rattle.hsp_cli_orders.specs.declared.stream_order.KindFiles.{KindFiles}
 use Rattle.hsp_cli_orders.specs.declared.stream_order.PlaceFiles.{PlaceFiles}
 use Rattle.hsp_cli_orders.specs.declared.stream_order.PlanFiles.{PlanFiles}
 use Rattle.hsp_cli_orders.specs.declared.stream_order.PriceFiles.{PriceFiles}
+use Rattle.hsp_cli_orders.specs.declared.stream_order.ServiceFiles.{ServiceFiles}
 use Rattle.hsp_cli_orders.specs.declared.stream_order.StreamOrder.{StreamOrder}
 use Rattle.hsp_cli_orders.specs.declared.stream_order.StreamOrder.TheVariants as order
 use Rattle.hsp_cli.specs.Commands.{AreOpened, DispatchFails}
@@ -17,12 +18,15 @@ use Rattle.hsp_cli.specs.Failing as failing
 use Rattle.hsp_cli.specs.Failing.{failure_of}
 use Rattle.hsp_cli.specs.Files.{Disk, HoldsRest}
 use Rattle.hsp_cli.specs.declared.failure.Failure.TheVariants.{Memory}
+use Rattle.hsp_headline.specs.declared.inputs.Inputs.{Inputs}
 use Rattle.hsp_price_answers.specs.declared.front_words.FrontChoice.{FrontChoice}
 use Rattle.hsp_stream.specs.declared.kinds_files.KindsInputs.{KindsInputs}
 use Rattle.hsp_stream.specs.declared.portions.PortionWords.{PortionWords}
 use Rattle.hsp_stream_cli.specs.Checking.{PrintsVerdict}
 use Rattle.hsp_stream_cli.specs.Faults.{EndsList, HoldsText, asked_for}
-use Rattle.hsp_stream_cli.specs.Files.{AreKindsHeld, ArePricesHeld, AreSourcesHeld, KindsFail, PricesFail, SourcesFail}
+use Rattle.hsp_stream_cli.specs.Files.{AreKindsHeld, ArePricesHeld, AreServiceHeld, AreSourcesHeld, KindsFail}
+use Rattle.hsp_stream_cli.specs.Files.{PricesFail, ServiceFails, SourcesFail}
+use Rattle.hsp_stream_cli.specs.Planning.{PrintsPlan}
 use Rattle.hsp_stream_cli.specs.Printing.{Ended, PrintsTable, PrintsText}
 use Rattle.hsp_stream_cli.specs.Reporting.{PrintsReport, kind_of}
 use Rattle.hsp_stream_cli.specs.Talking.{EndsAnswers, EndsPlaces, EndsPriced, IsFront, IsPortion, TalksOver}
@@ -65,8 +69,9 @@ AnswersLog disk MayFail files unit front old new ended =
 abbrev pub ByPrices : Disk → PriceFiles → Option (List ℕ) → Option (List ℕ) → Ended
     → (Priced → Option (List ℕ) → Type 0) → Type 0
 ByPrices disk files old new ended Prints =
-    LacksFile (PricesFail disk files ⊎ disk.fails files.log) old new ended
-    ⊎ ((priced : Priced) × (left : Option (List ℕ)) × ArePricesHeld disk files priced × HoldsRest disk files.log left
+    LacksFile (PricesFail disk files ⊎ disk.fails files.service.log) old new ended
+    ⊎ ((priced : Priced) × (left : Option (List ℕ)) × ArePricesHeld disk files priced
+    × HoldsRest disk files.service.log left
     × Prints priced left)
 
 -- a log is answered by a certificate by prices
@@ -75,7 +80,7 @@ abbrev pub AnswersPriced : Disk → Type 0 → PriceFiles → Option FrontWords 
 AnswersPriced disk MayFail files front old new ended =
     ((new ≡ old) × (ended ≡ Err Memory))
     ⊎ ByPrices disk files old new ended (λ priced left. (words : FrontChoice) × IsFront front words
-    × TalksOver (disk.fails files.log) MayFail left old new ended (EndsPriced priced words ended))
+    × TalksOver (disk.fails files.service.log) MayFail left old new ended (EndsPriced priced words ended))
 
 -- a certificate by prices is judged for a log
 abbrev pub ChecksPrices : Disk → Type 0 → PriceFiles → Option (List ℕ) → Option (List ℕ) → Ended → Type 0
@@ -87,6 +92,13 @@ abbrev pub ReportsPrices : Disk → Type 0 → PriceFiles → AskedPriceReport �
     → Type 0
 ReportsPrices disk MayFail files kind old new ended =
     ByPrices disk files old new ended (λ priced left. PrintsReport MayFail priced (kind_of kind) left old new ended)
+
+-- the rows of a log are planned
+abbrev pub PlansLog : Disk → Type 0 → ServiceFiles → Option (List ℕ) → Option (List ℕ) → Ended → Type 0
+PlansLog disk MayFail files old new ended =
+    LacksFile (ServiceFails disk files ⊎ disk.fails files.log) old new ended
+    ⊎ ((inputs : Inputs) × (left : Option (List ℕ)) × AreServiceHeld disk files inputs × HoldsRest disk files.log left
+    × PrintsPlan MayFail inputs left old new ended)
 
 -- the faulty rows of a file are listed
 abbrev pub ListsFaults : Disk → FaultsOf → List ℕ → Option (List ℕ) → Option (List ℕ) → Ended → Type 0
@@ -104,6 +116,7 @@ CarriesOut disk MayFail (order.Answer files unit front) old new ended =
     AnswersLog disk MayFail files unit front old new ended
 CarriesOut disk MayFail (order.AnswerPrices files front) old new ended =
     AnswersPriced disk MayFail files front old new ended
+CarriesOut disk MayFail (order.Plan files) old new ended = PlansLog disk MayFail files old new ended
 CarriesOut disk MayFail (order.Check files) old new ended = ChecksPrices disk MayFail files old new ended
 CarriesOut disk MayFail (order.Report files kind) old new ended = ReportsPrices disk MayFail files kind old new ended
 CarriesOut disk MayFail (order.Faults of file) old new ended = ListsFaults disk of file old new ended

@@ -5,6 +5,8 @@ use Rattle.hsp_cli.specs.Files.{Disk}
 use Rattle.hsp_cli_orders.specs.declared.stream_order.KindFiles.{KindFiles}
 use Rattle.hsp_cli_orders.specs.declared.stream_order.PlaceFiles.{PlaceFiles}
 use Rattle.hsp_cli_orders.specs.declared.stream_order.PriceFiles.{PriceFiles}
+use Rattle.hsp_cli_orders.specs.declared.stream_order.ServiceFiles.{ServiceFiles}
+use Rattle.hsp_headline.specs.declared.inputs.Inputs.{Inputs}
 use Rattle.hsp_stream.specs.declared.kinds_files.KindsInputs.{KindsInputs}
 use Rattle.hsp_stream_cli.specs.declared.files.Priced.{Priced}
 use Rattle.hsp_stream_cli.specs.declared.files.Sources.{Sources}
@@ -20,13 +22,17 @@ pub record AreKindsHeld (disk : Disk) (files : KindFiles) (inputs : KindsInputs)
   pub values_held : HoldsNamed disk files.values (option_map (λ v. v.items) inputs.values)
   pub costs_held : disk.holds files.costs inputs.costs.items
 
--- the same of a certificate by prices and its inputs, whose table of demand has no row
+-- the same of the inputs of a service, whose table of demand has no row
+pub record AreServiceHeld (disk : Disk) (files : ServiceFiles) (inputs : Inputs) : Type 0 where
+  pub settings_held : disk.holds files.settings inputs.settings.items
+  pub values_held : HoldsNamed disk files.values (option_map (λ v. v.items) inputs.values)
+  pub demand_is : inputs.demand.items ≡ NO_ROWS.now
+  pub costs_held : disk.holds files.costs inputs.costs.items
+  pub capacity_held : disk.holds files.capacity inputs.capacity.items
+
+-- and of those with a certificate by prices
 pub record ArePricesHeld (disk : Disk) (files : PriceFiles) (priced : Priced) : Type 0 where
-  pub settings_held : disk.holds files.settings priced.inputs.settings.items
-  pub values_held : HoldsNamed disk files.values (option_map (λ v. v.items) priced.inputs.values)
-  pub demand_is : priced.inputs.demand.items ≡ NO_ROWS.now
-  pub costs_held : disk.holds files.costs priced.inputs.costs.items
-  pub capacity_held : disk.holds files.capacity priced.inputs.capacity.items
+  pub service_held : AreServiceHeld disk files.service priced.inputs
   pub prices_held : disk.holds files.prices priced.prices.items
 
 -- one of the files may fail to be read
@@ -36,7 +42,9 @@ SourcesFail disk files = disk.fails files.settings ⊎ FailsNamed disk files.val
 abbrev pub KindsFail : Disk → KindFiles → Type 0
 KindsFail disk files = disk.fails files.settings ⊎ FailsNamed disk files.values ⊎ disk.fails files.costs
 
-abbrev pub PricesFail : Disk → PriceFiles → Type 0
-PricesFail disk files =
+abbrev pub ServiceFails : Disk → ServiceFiles → Type 0
+ServiceFails disk files =
     disk.fails files.settings ⊎ FailsNamed disk files.values ⊎ disk.fails files.costs ⊎ disk.fails files.capacity
-    ⊎ disk.fails files.prices
+
+abbrev pub PricesFail : Disk → PriceFiles → Type 0
+PricesFail disk files = ServiceFails disk files.service ⊎ disk.fails files.prices

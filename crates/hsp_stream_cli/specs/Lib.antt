@@ -4,5 +4,6 @@ pub mod Sums
 pub mod Printing
 pub mod Talking
 pub mod Checking
+pub mod Planning
 pub mod Reporting
 pub mod Commands

@@ -148,7 +148,7 @@ pub(crate) fn answer_priced<S: FileSource, O: Output>(
         (O.handed out.new) result }
 {
     let priced = read_prices(alloc, files, named)?;
-    let log = files.open(&named.log)?;
+    let log = files.open(&named.service.log)?;
     let front = front_choice(alloc, front)?;
     let by = ByPrices { priced, front };
     talk_over(alloc, &by, log, out)

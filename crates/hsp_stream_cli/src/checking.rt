@@ -55,6 +55,6 @@ pub(crate) fn check_prices<S: FileSource, O: Output>(
         (O.handed out.new) result }
 {
     let priced = read_prices(alloc, files, named)?;
-    let log = files.open(&named.log)?;
+    let log = files.open(&named.service.log)?;
     print_verdict(alloc, &priced, log, out)
 }

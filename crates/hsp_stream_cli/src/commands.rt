@@ -8,19 +8,22 @@ use crate::answering::{AskedPortion, answer_log, answer_priced};
 use crate::checking::check_prices;
 use crate::faults::list_faults;
 use crate::placing::state_places;
+use crate::planning::plan_log;
 use crate::printing::{print, print_kinds};
 use crate::program::Ended;
 use crate::reporting::report_prices;
 use crate::texts::{HELP, VERSION};
 use hsp_cli::{FileSource, Output};
 use hsp_cli_orders::{StreamOrder, read_stream_command};
+use hsp_price_plan::Progress;
 use std::alloc::Global;
 
 // Carries out the order: prints a text or a table on `out`, or answers a log there, and returns what to end with.
-fn carry_out<S: FileSource, O: Output>(
+fn carry_out<S: FileSource, P: Progress + Drop, O: Output>(
     alloc: Global,
     source: &S,
     order: &StreamOrder<'_>,
+    progress: P,
     out: &mut O,
 ) -> Ended
     ensures carries_out { CarriesOut (S.disk source.now) O.may_fail order.now (O.contents out.old)
@@ -33,6 +36,7 @@ fn carry_out<S: FileSource, O: Output>(
         StreamOrder::Version => print(out, VERSION),
         StreamOrder::Kinds { files, unit } => print_kinds(alloc, source, files, unit, out),
         StreamOrder::Places { files } => state_places(alloc, source, files, out),
+        StreamOrder::Plan { files } => plan_log(alloc, source, files, progress, out),
         StreamOrder::Answer { files, unit, front } => {
             let asked = AskedPortion { unit, front };
             answer_log(alloc, source, files, asked, out)
@@ -46,11 +50,13 @@ fn carry_out<S: FileSource, O: Output>(
     }
 }
 
-/// Obeys the command that the words give: writes its answer on `out`, and returns what to end with.
-pub fn obey<S: FileSource, O: Output>(
+/// Obeys the command that the words give: writes its answer on `out`, and returns what to end with. `progress` is shown
+/// how far a plan is.
+pub fn obey<S: FileSource, P: Progress + Drop, O: Output>(
     alloc: Global,
     files: &S,
     words: &[String],
+    progress: P,
     out: &mut O,
 ) -> Ended
     ensures obeys { Obeys (S.disk files.now) O.may_fail (map string_bytes words.now)
@@ -60,5 +66,5 @@ pub fn obey<S: FileSource, O: Output>(
         (O.handed out.new) result }
 {
     let order = read_stream_command(alloc, words)?;
-    carry_out(alloc, files, &order, out)
+    carry_out(alloc, files, &order, progress, out)
 }

@@ -3,10 +3,10 @@
 ghost use Rattle.std.specs.Prelude.{IfErr, IfOk};
 ghost use Rattle.hsp_cli.specs.Failing.{IsUnread};
 ghost use Rattle.hsp_stream_cli.specs.Files.{AreKindsHeld, ArePricesHeld, AreSourcesHeld, KindsFail, PricesFail};
-ghost use Rattle.hsp_stream_cli.specs.Files.{SourcesFail};
+ghost use Rattle.hsp_stream_cli.specs.Files.{AreServiceHeld, ServiceFails, SourcesFail};
 
 use hsp_cli::{FileSource, Unread, read_named, read_whole};
-use hsp_cli_orders::{KindFiles, PlaceFiles, PriceFiles};
+use hsp_cli_orders::{KindFiles, PlaceFiles, PriceFiles, ServiceFiles};
 use hsp_runs::Inputs;
 use hsp_stream::KindsInputs;
 use std::alloc::Global;
@@ -61,6 +61,24 @@ pub(crate) fn read_kinds<S: FileSource>(
     })
 }
 
+/// The files of a service, but for the log of its queries. Their table of demand has no row.
+pub(crate) fn read_service<S: FileSource>(
+    alloc: Global,
+    files: &S,
+    named: &ServiceFiles<'_>,
+) -> Result<Inputs, Unread>
+    ensures held { IfOk result (AreServiceHeld (S.disk files.now) named.now) }
+    ensures unread { IfErr result (IsUnread (ServiceFails (S.disk files.now) named.now)) }
+{
+    Ok(Inputs {
+        settings: read_whole(alloc, files, &named.settings)?,
+        values: read_named(alloc, files, &named.values)?,
+        demand: Vec::from_slice(alloc, NO_ROWS)?,
+        costs: read_whole(alloc, files, &named.costs)?,
+        capacity: read_whole(alloc, files, &named.capacity)?,
+    })
+}
+
 /// A certificate by prices, and the files that it is checked by, but for the log.
 pub(crate) fn read_prices<S: FileSource>(
     alloc: Global,
@@ -70,13 +88,7 @@ pub(crate) fn read_prices<S: FileSource>(
     ensures held { IfOk result (λ priced. ArePricesHeld (S.disk files.now) named.now priced) }
     ensures unread { IfErr result (IsUnread (PricesFail (S.disk files.now) named.now)) }
 {
-    let inputs = Inputs {
-        settings: read_whole(alloc, files, &named.settings)?,
-        values: read_named(alloc, files, &named.values)?,
-        demand: Vec::from_slice(alloc, NO_ROWS)?,
-        costs: read_whole(alloc, files, &named.costs)?,
-        capacity: read_whole(alloc, files, &named.capacity)?,
-    };
+    let inputs = read_service(alloc, files, &named.service)?;
     let prices = read_whole(alloc, files, &named.prices)?;
     Ok(Priced { inputs, prices })
 }

@@ -8,6 +8,7 @@ mod commands;
 mod faults;
 mod files;
 mod placing;
+mod planning;
 mod printing;
 mod program;
 mod reporting;

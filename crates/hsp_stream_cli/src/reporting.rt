@@ -71,6 +71,6 @@ pub(crate) fn report_prices<S: FileSource, O: Output>(
         (O.handed out.new) result }
 {
     let priced = read_prices(alloc, files, named)?;
-    let log = files.open(&named.log)?;
+    let log = files.open(&named.service.log)?;
     print_report(alloc, &priced, kind_of(kind), log, out)
 }

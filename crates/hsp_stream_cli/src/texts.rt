@@ -12,6 +12,11 @@ hsplan-stream places --settings F [--values F] --log F
     prints the server of each handle of the log, at each site.
     The log has the header handle or region,handle.
 
+hsplan-stream plan --settings F [--values F] --costs F --capacity F --log F
+    prints a certificate by prices: of a cheapest plan of the log's rows, or of
+    servers that are short. The log may have any number of rows, with the header
+    region,handle or region,handle,count.
+
 hsplan-stream answer --settings F [--values F] --demand F --costs F --capacity F
                      --plan F --log F [--unit N] [--fronts N --front K]
     answers each row of the log by the plan, for as long as the log goes on.
@@ -45,4 +50,4 @@ A file may be a pipe or /dev/stdin. The manual page has more: man hsplan-stream.
 ";
 
 /// What `--version` prints.
-pub const VERSION: &[u8] = b"hsplan-stream 1.8.0\n";
+pub const VERSION: &[u8] = b"hsplan-stream 1.9.0\n";

@@ -14,6 +14,8 @@ mod kinds_tests;
 #[cfg(test)]
 mod line_tests;
 #[cfg(test)]
+mod plan_tests;
+#[cfg(test)]
 mod price_answer_tests;
 #[cfg(test)]
 mod price_tests;

@@ -33,7 +33,7 @@ fn all_have_lines(rt: &impl Abort, alloc: Global, cases: &[(StreamFault, &[u8], 
 
 #[test]
 fn faults_of_words_and_files_have_their_lines(rt: HostRuntime) {
-    let cases: [(StreamFault, &[u8], u8); 7] = [
+    let cases: [(StreamFault, &[u8], u8); 8] = [
         (StreamFault::BadUnit, b"hsplan-stream: BadUnit\n", 1),
         (StreamFault::BadFront, b"hsplan-stream: BadFront\n", 1),
         (
@@ -56,6 +56,7 @@ fn faults_of_words_and_files_have_their_lines(rt: HostRuntime) {
             b"hsplan-stream: check: Cost\n",
             3,
         ),
+        (StreamFault::TooLarge, b"hsplan-stream: plan: TooLarge\n", 1),
         (StreamFault::OutOfMemory, b"hsplan-stream: OutOfMemory\n", 4),
     ];
     all_have_lines(&rt, rt.alloc(), &cases);
@@ -158,7 +159,7 @@ fn is_displayed(rt: &impl Abort, alloc: Global, fault: &StreamFault, wanted: &st
 
 #[test]
 fn faults_are_displayed(rt: HostRuntime) {
-    let cases: [(StreamFault, &str); 6] = [
+    let cases: [(StreamFault, &str); 7] = [
         (StreamFault::BadUnit, "bad unit"),
         (StreamFault::BadFront, "bad front"),
         (StreamFault::Refused(PriceReason::Load), "check: Load"),
@@ -167,6 +168,7 @@ fn faults_are_displayed(rt: HostRuntime) {
             StreamFault::Log(RowFault::Fields { row: 3 }),
             "log: Fields { row: 3 }",
         ),
+        (StreamFault::TooLarge, "plan: too large"),
         (StreamFault::OutOfMemory, "out of memory"),
     ];
     for (fault, wanted) in cases {

@@ -55,17 +55,22 @@ fn inputs_of(alloc: Global) -> Result<Inputs, AllocError> {
 }
 
 // The same, once more where memory ran out.
-fn held_inputs(rt: &impl Abort, alloc: Global) -> Inputs {
+pub(crate) fn held_inputs(rt: &impl Abort, alloc: Global) -> Inputs {
     match inputs_of(alloc) {
         Ok(inputs) => inputs,
         Err(AllocError) => inputs_of(alloc).expect(rt, "there is memory"),
     }
 }
 
-type Judged = Result<PriceVerdict, StreamFault>;
+pub(crate) type Judged = Result<PriceVerdict, StreamFault>;
 
 // What the run gives, once more where memory ran out.
-fn judged<R: Read + Copy + Drop>(rt: &impl Abort, alloc: Global, prices: &[u8], log: R) -> Judged {
+pub(crate) fn judged<R: Read + Copy + Drop>(
+    rt: &impl Abort,
+    alloc: Global,
+    prices: &[u8],
+    log: R,
+) -> Judged {
     let inputs = held_inputs(rt, alloc);
     match price_check_run(alloc, &inputs, prices, log) {
         Err(StreamFault::OutOfMemory) => price_check_run(alloc, &inputs, prices, log),

@@ -30,7 +30,7 @@ returns c = λ at filled.
     service_arcs at filling.arcs filled.costs_are filled.sites_are region (octets_of c.in-Ok.handle)
     c.find.new.self.arcs arcs c.in_ok-number.ensures.arcs c.arcs-arcs.ensures in
     let low : count ≤ 1000000 = omega arith in
-    let few : length filling.rows.rows < 1000 = omega (arith, c.len.ensures.count) in
+    let few : length filling.rows.rows < 10000 = omega (arith, c.len.ensures.count) in
     record {
       costs_are = c.in_ok-number.ensures.costs ∙ filled.costs_are;
       sites_are = c.in_ok-number.ensures.sites ∙ filled.sites_are;

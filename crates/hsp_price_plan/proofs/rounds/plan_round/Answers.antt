@@ -23,8 +23,8 @@ extras_of-requires-clause-low_hosts c =
     (host_prices_low c.args.numbers.now c.args.groups.now c.args.flow c.requires.arcs c.requires.few c.requires.met
     c.args.rows.now.rows c.requires.rows)
 
-pub keep_least-requires-clause-within : goal.keep_least-requires-clause-within
-keep_least-requires-clause-within c =
+pub keep_least-kept-requires-clause-within : goal.keep_least-kept-requires-clause-within
+keep_least-kept-requires-clause-within c =
     let numbers = c.args.numbers.now in
     let many : length numbers.server_hosts.items ≡ length c.deref-4.result.now =
     sym numbers.servers_many ∙ sym c.requires.met.many.servers
@@ -32,14 +32,14 @@ keep_least-requires-clause-within c =
     ∙ ap (λ (list : List ℕ). length list) (sym c.deref-4.ensures.value) in
     subst (λ n. AreWithin n c.args.rows.now.rows) many (rows_within numbers c.args.rows.now.rows c.requires.rows)
 
-pub returns-then-keep_least-gt0-clause-lasts : goal.returns-then-keep_least-gt0-clause-lasts
-returns-then-keep_least-gt0-clause-lasts c =
+pub returns-then-kept-gt0-clause-lasts : goal.returns-then-kept-gt0-clause-lasts
+returns-then-kept-gt0-clause-lasts c =
     let extras = c.deref-4.result.now in
-    rw c.keep_least.ensures.kept
+    rw c.keep_least-kept.ensures.kept
     (held_still (with_least (pay_by extras)) (least_leaves (pay_by extras)) c.args.numbers.now c.args.rows.now.rows)
 
-pub returns-in-Some-clause-valid : goal.returns-in-Some-clause-valid
-returns-in-Some-clause-valid c =
+pub returns-in-Some-clause-end : goal.returns-in-Some-clause-end
+returns-in-Some-clause-end c =
     let numbers = c.args.numbers.now in
     let kept = c.args.rows.now.rows in
     let flow = c.args.flow in
@@ -47,10 +47,10 @@ returns-in-Some-clause-valid c =
     let are : AreExtras numbers.server_hosts.items flow.server_prices.items flow.host_prices.items extras =
     rw (← c.deref.ensures.value, ← c.deref-2.ensures.value, ← c.deref-3.ensures.value, c.deref-4.ensures.value)
     c.in_ok-extras.ensures in
-    let same : c.keep_least.new.self ≡ c.args.rows.now =
-    c.keep_least.ensures.settled (omega (arith, c.if-keep_least-gt0.false)) in
+    let same : c.keep_least-kept.new.self ≡ c.args.rows.now =
+    c.keep_least-kept.ensures.settled (omega (arith, c.if-kept-gt0.false)) in
     let settled : map (with_least (pay_by extras)) kept ≡ kept =
-    ap (λ (held : HeldRows). held.rows) (sym c.keep_least.ensures.kept ∙ same) in
+    ap (λ (held : HeldRows). held.rows) (sym c.keep_least-kept.ensures.kept ∙ same) in
     let found : IfSome c.in_ok-plan.field-0 (IsPlanFor numbers c.args.groups.now flow) = c.in_ok-plan.ensures.plan in
     plan_valid numbers kept c.args.groups.now flow extras c.in-Some.plan c.requires.groups c.requires.met are settled
     (rw c.in-Some.is at found)
@@ -65,10 +65,10 @@ returns-clause-fault c =
     let are : AreExtras numbers.server_hosts.items flow.server_prices.items flow.host_prices.items extras =
     rw (← c.deref.ensures.value, ← c.deref-2.ensures.value, ← c.deref-3.ensures.value, c.deref-4.ensures.value)
     c.in_ok-extras.ensures in
-    let same : c.keep_least.new.self ≡ c.args.rows.now =
-    c.keep_least.ensures.settled (omega (arith, c.if-keep_least-gt0.false)) in
+    let same : c.keep_least-kept.new.self ≡ c.args.rows.now =
+    c.keep_least-kept.ensures.settled (omega (arith, c.if-kept-gt0.false)) in
     let settled : map (with_least (pay_by extras)) kept ≡ kept =
-    ap (λ (held : HeldRows). held.rows) (sym c.keep_least.ensures.kept ∙ same) in
+    ap (λ (held : HeldRows). held.rows) (sym c.keep_least-kept.ensures.kept ∙ same) in
     subst (λ (held : HeldRows). AreGroupsOf held.rows groups × IsPast numbers held.rows groups) (sym same) (
       c.requires.groups,
       inl

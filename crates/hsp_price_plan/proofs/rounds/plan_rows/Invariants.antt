@@ -3,7 +3,7 @@ use Rattle.hsp_price_plan.specs.Planning.{Outlasts}
 use Rattle.hsp_price_plan.proofs.rounds.plan_rows.Given as goal
 
 abbrev pub invariant-rounds : goal.invariant-rounds
-invariant-rounds l = Outlasts l.numbers l.fn.rows.rows l.rows.rows
+invariant-rounds g l = Outlasts l.numbers l.fn.rows.rows l.rows.rows
 
 abbrev pub decreases-rounds : goal.decreases-rounds
-decreases-rounds l = loose_of l.rows.rows
+decreases-rounds g l = loose_of l.rows.rows

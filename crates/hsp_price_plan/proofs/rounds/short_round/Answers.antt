@@ -11,29 +11,29 @@ use Rattle.hsp_price_plan.proofs.PlanShown.{all_settled}
 use Rattle.hsp_price_plan.proofs.ShortShown.{short_valid}
 use Rattle.hsp_price_plan.proofs.rounds.short_round.Goals as goal
 
-pub keep_leaving-requires : goal.keep_leaving-requires
-keep_leaving-requires c =
+pub keep_leaving-leaving-requires : goal.keep_leaving-leaving-requires
+keep_leaving-leaving-requires c =
     let numbers = c.args.numbers.now in
     let many : length numbers.server_hosts.items ≡ length c.deref.result.now =
     omega (arith, c.in_ok-reached.ensures.many, c.deref.ensures.len) in
     subst (λ n. AreWithin n c.args.rows.now.rows) many (rows_within numbers c.args.rows.now.rows c.requires.rows)
 
-pub returns-then-keep_leaving-gt0-clause-lasts : goal.returns-then-keep_leaving-gt0-clause-lasts
-returns-then-keep_leaving-gt0-clause-lasts c =
+pub returns-then-leaving-gt0-clause-lasts : goal.returns-then-leaving-gt0-clause-lasts
+returns-then-leaving-gt0-clause-lasts c =
     let set = flag_at c.deref.result.now in
-    rw c.keep_leaving.ensures.kept
+    rw c.keep_leaving-leaving.ensures.kept
     (held_still (with_leaving set) (leaving_leaves set) c.args.numbers.now c.args.rows.now.rows)
 
-pub returns-in-Some-clause-valid : goal.returns-in-Some-clause-valid
-returns-in-Some-clause-valid c =
+pub returns-in-Some-clause-end : goal.returns-in-Some-clause-end
+returns-in-Some-clause-end c =
     let numbers = c.args.numbers.now in
     let groups = c.args.groups.now in
     let kept = c.args.rows.now.rows in
     let reached = c.in_ok-reached.reached.items in
-    let same : c.keep_leaving.new.self ≡ c.args.rows.now =
-    c.keep_leaving.ensures.settled (omega (arith, c.if-keep_leaving-gt0.false)) in
+    let same : c.keep_leaving-leaving.new.self ≡ c.args.rows.now =
+    c.keep_leaving-leaving.ensures.settled (omega (arith, c.if-leaving-gt0.false)) in
     let settled : map (with_leaving (flag_at c.deref.result.now)) kept ≡ kept =
-    ap (λ (held : HeldRows). held.rows) (sym c.keep_leaving.ensures.kept ∙ same) in
+    ap (λ (held : HeldRows). held.rows) (sym c.keep_leaving-leaving.ensures.kept ∙ same) in
     let leaving : All (λ row. with_leaving (flag_at reached) row ≡ row) kept =
     subst (λ (flags : List Bool). All (λ row. with_leaving (flag_at flags) row ≡ row) kept) c.deref.ensures.value
     (all_settled (with_leaving (flag_at c.deref.result.now)) kept settled) in
@@ -49,10 +49,10 @@ returns-clause-fault c =
     let groups = c.args.groups.now in
     let kept = c.args.rows.now.rows in
     let reached = c.in_ok-reached.reached.items in
-    let same : c.keep_leaving.new.self ≡ c.args.rows.now =
-    c.keep_leaving.ensures.settled (omega (arith, c.if-keep_leaving-gt0.false)) in
+    let same : c.keep_leaving-leaving.new.self ≡ c.args.rows.now =
+    c.keep_leaving-leaving.ensures.settled (omega (arith, c.if-leaving-gt0.false)) in
     let settled : map (with_leaving (flag_at c.deref.result.now)) kept ≡ kept =
-    ap (λ (held : HeldRows). held.rows) (sym c.keep_leaving.ensures.kept ∙ same) in
+    ap (λ (held : HeldRows). held.rows) (sym c.keep_leaving-leaving.ensures.kept ∙ same) in
     let leaving : All (λ row. with_leaving (flag_at reached) row ≡ row) kept =
     subst (λ (flags : List Bool). All (λ row. with_leaving (flag_at flags) row ≡ row) kept) c.deref.ensures.value
     (all_settled (with_leaving (flag_at c.deref.result.now)) kept settled) in

@@ -6,7 +6,7 @@ use Rattle.hsp_instance.specs.Instance.{Row}
 use Rattle.hsp_stream.specs.KindsLog.{IsReadFault, OfLeft, OfLog}
 use Rattle.hsp_stream.specs.declared.fault.StreamFault.{StreamFault}
 use Rattle.hsp_price_runs.specs.LogRows.{log_rows, rows_with}
-use Rattle.hsp_price_runs.specs.Passing.{PassesRows}
+use Rattle.hsp_price_runs.specs.Passing.{TakesRows}
 use Rattle.hsp_price_runs.proofs.LogReading.{bad_header, behind_header}
 use Rattle.hsp_price_runs.proofs.log_pass.pass_log.Goals as goal
 
@@ -27,7 +27,8 @@ returns-clause-passed g c =
     on_ok_weaker c.pass_rows.result
     (behind_header g.R.Read.remaining (g.R.Read.remaining c.args.log) reader.result reader.ensures.known
     reader.ensures.records
-    (λ (all : Result (List Row) StreamFault). PassesRows all c.args.check.now c.pass_rows.new.check)
+    (λ (all : Result (List Row) StreamFault).
+    TakesRows g.T.RowTaker.HasTaken all c.args.taker.now c.pass_rows.new.taker)
     c.take_record.new.reader
     (fields_of c.take_record.new.record) c.in_ok-form.form
     (rw c.if-not-branch.false at c.in_ok-take_record.ensures.takes) c.in_ok-form.ensures)

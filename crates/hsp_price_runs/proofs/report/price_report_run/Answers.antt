@@ -3,7 +3,7 @@ use Rattle.std.proofs.lemmas.Result.{IfOk-weaker}
 use Rattle.hsp_stream.specs.KindsLog.{OfLog}
 use Rattle.hsp_stream.proofs.KindsReading.{log_more}
 use Rattle.hsp_price_runs.specs.PriceReport.{IsPriceReport, IsReportBy}
-use Rattle.hsp_price_runs.specs.PriceRun.{AnswersRead}
+use Rattle.hsp_price_runs.specs.PriceRun.{AnswersByPrices, AnswersRead}
 use Rattle.hsp_price_runs.specs.declared.report.PriceReport.{PriceReport}
 use Rattle.hsp_price_runs.proofs.Judged.{read_is}
 use Rattle.hsp_price_runs.proofs.report.price_report_run.Goals as goal
@@ -19,4 +19,4 @@ returns-clause-report g c =
     (λ report.
     log_more (AnswersRead Is inputs octets (Ok report))
     (λ records. IsPriceReport c.args.kind inputs octets records (Ok report)) log
-    (λ records is. read_is Is inputs octets records (Ok report) is)) c.ask_inputs.ensures.answer
+    (λ records is. read_is (AnswersByPrices Is octets) inputs records (Ok report) is)) c.ask_inputs.ensures.answer

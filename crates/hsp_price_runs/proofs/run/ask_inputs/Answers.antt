@@ -5,7 +5,7 @@ use Rattle.hsp_stream.specs.Faults.{fault_of_input}
 use Rattle.hsp_stream.specs.KindsLog.{IsReadFault, OfLog}
 use Rattle.hsp_stream.specs.declared.fault.StreamFault.{StreamFault}
 use Rattle.hsp_stream.proofs.KindsReading.{log_all, log_more}
-use Rattle.hsp_price_runs.specs.PriceRun.{AnswersInputs, AnswersRead, AnswersText, IsReadFrom}
+use Rattle.hsp_price_runs.specs.PriceRun.{AnswersByPrices, AnswersInputs, AnswersRead, AnswersText, IsReadFrom}
 use Rattle.hsp_price_runs.proofs.Judged.{inputs_are, inputs_stop}
 use Rattle.hsp_price_runs.proofs.run.ask_inputs.Goals as goal
 
@@ -21,7 +21,7 @@ returns-in_err-instance-clause-fault g c =
       | inr is ↦
           inr
           (log_all (AnswersInputs Is inputs octets (Err (fault_of_input e))) (g.R.Read.remaining c.args.log)
-          (λ records. inputs_stop Is inputs octets records e is))
+          (λ records. inputs_stop (AnswersByPrices Is octets) inputs records e is))
     ])
 
 pub returns-in-Ok-clause-answer : goal.returns-in-Ok-clause-answer
@@ -63,6 +63,6 @@ returns-in-Ok-clause-fault g c =
           (log_more (AnswersText (Is it (service_of costs it)) octets (Err fault))
           (AnswersInputs Is inputs octets (Err fault)) log
           (λ records is.
-          inputs_are Is inputs octets records it (Err fault) c.in_ok-instance.ensures.instance
+          inputs_are (AnswersByPrices Is octets) inputs records it (Err fault) c.in_ok-instance.ensures.instance
           (costs, rw c.deref.ensures.value at c.in-Ok.ensures, is)) known)
     ]) c.ask_text.ensures.fault

@@ -17,7 +17,7 @@ answer-requires g c =
     let it = c.args.service.instance.now in
     let costs = c.args.service.costs.now in
     let over =
-    some_rows (service_of costs it) c.args.certificate.now c.in_ok-check.check c.pass_log.new.check
+    some_rows (service_of costs it) c.args.certificate.now c.in_ok-check.check c.pass_log.new.taker
     c.in_ok-check.ensures (g.R.Read.remaining c.args.log) c.in_ok-pass_log.ensures.passed in (costs, over.0, over.1)
 
 pub returns-clause-answer : goal.returns-clause-answer
@@ -30,11 +30,11 @@ returns-clause-answer g c =
     let log = g.R.Read.remaining c.args.log in
     IfOk-weaker c.answer.result
     (λ answer. (own : List CostEntry) (rows : List Row)
-    → IsPassed (service_of own it) certificate rows c.pass_log.new.check
+    → IsPassed (service_of own it) certificate rows c.pass_log.new.taker
     → By (service_of own it) certificate rows (Ok answer))
     (λ answer. OfLog log (AnswersRecords Is (Ok answer)))
     (λ answer answers.
-    answered_log (service_of costs it) certificate c.in_ok-check.check c.pass_log.new.check c.in_ok-check.ensures Is log
+    answered_log (service_of costs it) certificate c.in_ok-check.check c.pass_log.new.taker c.in_ok-check.ensures Is log
     (Ok answer) (λ rows passed. answers costs rows passed) c.in_ok-pass_log.ensures.passed) c.answer.ensures.answer
 
 pub returns-clause-fault : goal.returns-clause-fault
@@ -48,14 +48,14 @@ returns-clause-fault g c =
     IfErr-weaker c.answer.result
     (λ (fault : StreamFault). (fault ≡ OutOfMemory)
     ⊎ ((own : List CostEntry) (rows : List Row)
-    → IsPassed (service_of own it) certificate rows c.pass_log.new.check
+    → IsPassed (service_of own it) certificate rows c.pass_log.new.taker
     → By (service_of own it) certificate rows (Err fault)))
     (λ (fault : StreamFault). IsReadFault fault ⊎ OfLog log (AnswersRecords Is (Err fault)))
     (λ fault told. elim told [
       | inl memory ↦ inl (inl memory)
       | inr answers ↦
           inr
-          (answered_log (service_of costs it) certificate c.in_ok-check.check c.pass_log.new.check
+          (answered_log (service_of costs it) certificate c.in_ok-check.check c.pass_log.new.taker
           c.in_ok-check.ensures Is log (Err fault) (λ rows passed. answers costs rows passed)
           c.in_ok-pass_log.ensures.passed)
     ]) c.answer.ensures.fault

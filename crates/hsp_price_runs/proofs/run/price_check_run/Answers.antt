@@ -4,7 +4,7 @@ use Rattle.hsp_classes.specs.declared.verdict.PriceVerdict.{PriceVerdict}
 use Rattle.hsp_classes.specs.declared.verdict.PriceVerdict.TheVariants.{Yes}
 use Rattle.hsp_stream.specs.KindsLog.{OfLog}
 use Rattle.hsp_stream.proofs.KindsReading.{log_more}
-use Rattle.hsp_price_runs.specs.PriceRun.{AnswersRead, IsPriceVerdict, IsVerdictBy}
+use Rattle.hsp_price_runs.specs.PriceRun.{AnswersByPrices, AnswersRead, IsPriceVerdict, IsVerdictBy}
 use Rattle.hsp_price_runs.specs.PricesShown.{ShowsLog}
 use Rattle.hsp_price_runs.proofs.Judged.{read_is}
 use Rattle.hsp_price_runs.proofs.Shown.{yes_shows}
@@ -21,7 +21,8 @@ returns-clause-verdict g c =
     (λ verdict.
     log_more (AnswersRead (λ it. IsVerdictBy) inputs octets (Ok verdict))
     (λ records. IsPriceVerdict inputs octets records (Ok verdict)) log
-    (λ records is. read_is (λ it. IsVerdictBy) inputs octets records (Ok verdict) is)) c.ask_inputs.ensures.answer
+    (λ records is. read_is (AnswersByPrices (λ it. IsVerdictBy) octets) inputs records (Ok verdict) is))
+    c.ask_inputs.ensures.answer
 
 pub returns-clause-shows : goal.returns-clause-shows
 returns-clause-shows g c =

@@ -1,4 +1,4 @@
-use Rattle.std.proofs.Common.{inl}
+use Rattle.std.proofs.Common.{inl, inr, refl}
 use Rattle.hsp_stream_cli.proofs.checking.print_verdict.Goals as goal
 
 pub returns-in-Ok-clause-prints : goal.returns-in-Ok-clause-prints
@@ -11,3 +11,7 @@ returns-in-Ok-clause-prints g c =
       ),
       c.print_line.ensures.prints,
     )
+
+pub returns-in-Err-clause-prints : goal.returns-in-Err-clause-prints
+returns-in-Err-clause-prints g c =
+    inr (c.in-Err.fault, rw (← c.deref.ensures.value) c.in-Err.ensures.fault, refl, refl)

@@ -17,3 +17,6 @@ returns-in-Check-clause-carries_out g c = rw c.in-Check.is c.check_prices.ensure
 
 pub returns-in-Report-clause-carries_out : goal.returns-in-Report-clause-carries_out
 returns-in-Report-clause-carries_out g c = rw c.in-Report.is c.report_prices.ensures.reports
+
+pub returns-in-Plan-clause-carries_out : goal.returns-in-Plan-clause-carries_out
+returns-in-Plan-clause-carries_out g c = rw c.in-Plan.is c.plan_log.ensures.plans

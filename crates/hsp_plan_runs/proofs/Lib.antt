@@ -1,0 +1,3 @@
+mod RowsHeld
+mod Planned
+mod PlanShown

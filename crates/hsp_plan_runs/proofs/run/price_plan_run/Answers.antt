@@ -1,0 +1,66 @@
+use Rattle.std.proofs.Common.{◌⊎◌, inl, inr, Ok, Err, ap}
+use Rattle.std.proofs.lemmas.Result.{IfErr-weaker, IfOk-weaker, err_from_is_err_and}
+use Rattle.hsp_price_check.specs.Classes.{service_of}
+use Rattle.hsp_price_runs.specs.PriceRun.{AnswersRecords, IsReadFrom}
+use Rattle.hsp_price_runs.proofs.Judged.{inputs_are, inputs_stop}
+use Rattle.hsp_stream.specs.Faults.{fault_of_input}
+use Rattle.hsp_stream.specs.KindsLog.{IsReadFault, OfLog}
+use Rattle.hsp_stream.specs.declared.fault.StreamFault.{StreamFault}
+use Rattle.hsp_stream.proofs.KindsReading.{log_all, log_more}
+use Rattle.hsp_plan_runs.specs.PlanRun.{IsPlanBy, IsPlannedLog, IsShownPlan, PlansRecords}
+use Rattle.hsp_plan_runs.specs.declared.text.PricesText.{PricesText}
+use Rattle.hsp_plan_runs.proofs.PlanShown.{shown}
+use Rattle.hsp_plan_runs.proofs.run.price_plan_run.Goals as goal
+
+pub returns-in_err-instance-clause-fault : goal.returns-in_err-instance-clause-fault
+returns-in_err-instance-clause-fault g c =
+    let inputs = c.args.inputs.now in
+    let e = c.in_err-instance.field-0.0 in
+    let told = err_from_is_err_and c.from_residual.result c.from_residual.ensures.1 in
+    rw (told.1, told.2) (elim c.in_err-instance.ensures.instance [
+      | inl memory ↦ inl (inl (ap fault_of_input memory))
+      | inr is ↦
+          inr
+          (log_all (IsPlannedLog inputs (Err (fault_of_input e))) (g.R.Read.remaining c.args.log)
+          (λ records. inputs_stop PlansRecords inputs records e is))
+    ])
+
+pub returns-in-Ok-clause-shows : goal.returns-in-Ok-clause-shows
+returns-in-Ok-clause-shows g c =
+    let inputs = c.args.inputs.now in
+    let log = g.R.Read.remaining c.args.log in
+    let it = c.in_ok-instance.instance in
+    let costs = c.in-Ok.costs in
+    let read : IsReadFrom inputs it = record {
+      is = c.in_ok-instance.ensures.instance;
+      within = c.rows-rows.ensures.within;
+      defines = c.in_ok-instance.ensures.defines;
+    } in
+    IfOk-weaker c.plan_log.result
+    (λ (text : PricesText). OfLog log (AnswersRecords (IsPlanBy (service_of costs it)) (Ok text)))
+    (λ (text : PricesText). OfLog log (IsShownPlan inputs text))
+    (λ text.
+    log_more (AnswersRecords (IsPlanBy (service_of costs it)) (Ok text)) (IsShownPlan inputs text) log
+    (λ records planned.
+    shown c.plan_is_shown.ensures c.shortage_is_shown.ensures inputs it read costs
+    (rw c.deref.ensures.value at c.in-Ok.ensures) records text planned)) c.plan_log.ensures.text
+
+pub returns-in-Ok-clause-fault : goal.returns-in-Ok-clause-fault
+returns-in-Ok-clause-fault g c =
+    let inputs = c.args.inputs.now in
+    let log = g.R.Read.remaining c.args.log in
+    let it = c.in_ok-instance.instance in
+    let costs = c.in-Ok.costs in
+    IfErr-weaker c.plan_log.result
+    (λ (fault : StreamFault). IsReadFault fault
+    ⊎ OfLog log (AnswersRecords (IsPlanBy (service_of costs it)) (Err fault)))
+    (λ (fault : StreamFault). IsReadFault fault ⊎ OfLog log (IsPlannedLog inputs (Err fault)))
+    (λ fault told. elim told [
+      | inl read ↦ inl read
+      | inr known ↦
+          inr
+          (log_more (AnswersRecords (IsPlanBy (service_of costs it)) (Err fault)) (IsPlannedLog inputs (Err fault)) log
+          (λ records is.
+          inputs_are PlansRecords inputs records it (Err fault) c.in_ok-instance.ensures.instance
+          (costs, rw c.deref.ensures.value at c.in-Ok.ensures, is)) known)
+    ]) c.plan_log.ensures.fault

@@ -1,0 +1,4 @@
+pub mod Holding
+pub mod Taken
+pub mod PricesText
+pub mod PlanRun

@@ -1,0 +1,28 @@
+-- Plans of logs by prices.
+use Rattle.std.specs.Prelude.{◌≡◌, ◌⊎◌, ℕ, List, Option, Err}
+use Rattle.hsp_cli.specs.declared.failure.Failure.TheVariants.{Refused}
+use Rattle.hsp_headline.specs.declared.inputs.Inputs.{Inputs}
+use Rattle.hsp_plan_runs.specs.PlanRun.{IsPlannedLog, IsShownPlan}
+use Rattle.hsp_plan_runs.specs.PricesText.{octets_of}
+use Rattle.hsp_plan_runs.specs.declared.text.PricesText.{PricesText}
+use Rattle.hsp_plan_runs.specs.declared.text.PricesText.TheVariants as text
+use Rattle.hsp_stream.specs.KindsLog.{IsReadFault, OfLog}
+use Rattle.hsp_stream.specs.declared.fault.StreamFault.{StreamFault}
+use Rattle.hsp_stream_cli.specs.Printing.{Ended, PrintsWith}
+
+-- 0 for a plan, 3 for a shortage
+abbrev pub status_of : PricesText → ℕ
+status_of (text.Plan octets) = 0
+status_of (text.Shortage octets) = 3
+
+-- why there is no plan for a log with these octets left, where they are known
+abbrev pub IsPlanFault : Inputs → Option (List ℕ) → StreamFault → Type 0
+IsPlanFault inputs left fault = IsReadFault fault ⊎ OfLog left (IsPlannedLog inputs (Err fault))
+
+-- The text of a certificate is printed. The check says yes to it, and it shows a best plan of the log's rows, or that
+-- there is none. Or nothing was written, and the fault is returned.
+abbrev pub PrintsPlan : Type 0 → Inputs → Option (List ℕ) → Option (List ℕ) → Option (List ℕ) → Ended → Type 0
+PrintsPlan MayFail inputs left old new ended =
+    ((text : PricesText) × OfLog left (IsShownPlan inputs text)
+    × PrintsWith (status_of text) MayFail (octets_of text) old new ended)
+    ⊎ ((fault : StreamFault) × IsPlanFault inputs left fault × (new ≡ old) × (ended ≡ Err (Refused fault)))
