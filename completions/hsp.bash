@@ -2,7 +2,7 @@
 
 _hsp_commands() {
     case $1 in
-        "") echo "demand doctor export fleet new plan sites steer view whatif --help --version" ;;
+        "") echo "demand doctor export fleet new plan sites steer view whatif where --help --version" ;;
         export) echo "haproxy --help" ;;
         fleet) echo "demand dispatch --help" ;;
         "doctor --") echo "locate site plan check dispatch report kinds places answer faults" ;;
@@ -22,6 +22,7 @@ _hsp_options() {
         "steer") echo "--settings --demand --costs --capacity --values --into --every --period --metrics --once --status --help" ;;
         "view") echo "--settings --demand --costs --capacity --values --before --unit --title --output --help" ;;
         "whatif") echo "--settings --demand --costs --capacity --values --server --from --to --points --step --unit --csv --chart --help" ;;
+        "where") echo "--json --help" ;;
         "doctor -- locate") echo "--option --servers --settings --values" ;;
         "doctor -- site") echo "--index" ;;
         "doctor -- plan") echo "--settings --demand --costs --capacity --values" ;;

@@ -1,8 +1,8 @@
 # Completions of hsp for fish, written by tools/gate/write_grammar.py.
 
-complete -c hsp -n "not __fish_seen_subcommand_from demand doctor export fleet new plan sites steer view whatif" -f -a "demand doctor export fleet new plan sites steer view whatif"
-complete -c hsp -n "not __fish_seen_subcommand_from demand doctor export fleet new plan sites steer view whatif" -l help -d 'show the options'
-complete -c hsp -n "not __fish_seen_subcommand_from demand doctor export fleet new plan sites steer view whatif" -l version -d 'show the version'
+complete -c hsp -n "not __fish_seen_subcommand_from demand doctor export fleet new plan sites steer view whatif where" -f -a "demand doctor export fleet new plan sites steer view whatif where"
+complete -c hsp -n "not __fish_seen_subcommand_from demand doctor export fleet new plan sites steer view whatif where" -l help -d 'show the options'
+complete -c hsp -n "not __fish_seen_subcommand_from demand doctor export fleet new plan sites steer view whatif where" -l version -d 'show the version'
 complete -c hsp -n "__fish_seen_subcommand_from export; and not __fish_seen_subcommand_from haproxy" -f -a "haproxy"
 complete -c hsp -n "__fish_seen_subcommand_from fleet; and not __fish_seen_subcommand_from demand dispatch" -f -a "demand dispatch"
 complete -c hsp -n "begin; __fish_seen_subcommand_from doctor new plan steer view whatif; and not __fish_seen_subcommand_from export fleet; end; or begin; __fish_seen_subcommand_from export; and __fish_seen_subcommand_from haproxy; end; and not contains -- -- (commandline -opc)" -f -a "(__fish_complete_directories)"
@@ -27,7 +27,7 @@ complete -c hsp -n "begin; __fish_seen_subcommand_from demand; and not __fish_se
 complete -c hsp -n "begin; __fish_seen_subcommand_from demand; and not __fish_seen_subcommand_from export fleet; end; or begin; __fish_seen_subcommand_from fleet; and __fish_seen_subcommand_from demand; end" -l settings -r -F -d 'the sites, in place of DIR\'s'
 complete -c hsp -n "begin; __fish_seen_subcommand_from demand; and not __fish_seen_subcommand_from export fleet; end; or begin; __fish_seen_subcommand_from fleet; and __fish_seen_subcommand_from demand; end" -l values -r -F -d 'a value list, in place of DIR\'s'
 complete -c hsp -n "begin; __fish_seen_subcommand_from demand; and not __fish_seen_subcommand_from export fleet; end; or begin; __fish_seen_subcommand_from fleet; and __fish_seen_subcommand_from demand; end" -l costs -r -F -d 'by which handles are joined, in place of DIR\'s'
-complete -c hsp -n "begin; __fish_seen_subcommand_from demand doctor new plan sites steer view whatif; and not __fish_seen_subcommand_from export fleet; end; or begin; __fish_seen_subcommand_from export; and __fish_seen_subcommand_from haproxy; end; or begin; __fish_seen_subcommand_from fleet; and __fish_seen_subcommand_from demand dispatch; end" -l help -d 'show the options'
+complete -c hsp -n "begin; __fish_seen_subcommand_from demand doctor new plan sites steer view whatif where; and not __fish_seen_subcommand_from export fleet; end; or begin; __fish_seen_subcommand_from export; and __fish_seen_subcommand_from haproxy; end; or begin; __fish_seen_subcommand_from fleet; and __fish_seen_subcommand_from demand dispatch; end" -l help -d 'show the options'
 complete -c hsp -n "begin; __fish_seen_subcommand_from doctor plan steer view whatif; and not __fish_seen_subcommand_from export fleet; end; or begin; __fish_seen_subcommand_from export; and __fish_seen_subcommand_from haproxy; end" -l settings -r -F -d 'in place of DIR\'s settings'
 complete -c hsp -n "begin; __fish_seen_subcommand_from doctor plan steer view whatif; and not __fish_seen_subcommand_from export fleet; end; or begin; __fish_seen_subcommand_from export; and __fish_seen_subcommand_from haproxy; end" -l demand -r -F -d 'in place of DIR\'s demand'
 complete -c hsp -n "begin; __fish_seen_subcommand_from doctor plan steer view whatif; and not __fish_seen_subcommand_from export fleet; end; or begin; __fish_seen_subcommand_from export; and __fish_seen_subcommand_from haproxy; end" -l costs -r -F -d 'in place of DIR\'s costs'
@@ -65,7 +65,7 @@ complete -c hsp -n "__fish_seen_subcommand_from plan; and not __fish_seen_subcom
 complete -c hsp -n "__fish_seen_subcommand_from sites; and not __fish_seen_subcommand_from export fleet" -l into -x -a "(__fish_complete_directories)" -d 'the folder that they are added to'
 complete -c hsp -n "__fish_seen_subcommand_from sites; and not __fish_seen_subcommand_from export fleet" -l name -x -d 'of the first site, the second, and so on'
 complete -c hsp -n "__fish_seen_subcommand_from sites; and not __fish_seen_subcommand_from export fleet" -l capacity -x -d 'of each server'
-complete -c hsp -n "__fish_seen_subcommand_from steer; and not __fish_seen_subcommand_from export fleet" -l into -x -a "(__fish_complete_directories)" -d 'the folder that hsp export wrote'
+complete -c hsp -n "__fish_seen_subcommand_from steer; and not __fish_seen_subcommand_from export fleet" -l into -x -a "(__fish_complete_directories)" -d 'the folder that hsp export wrote; several for several proxies'
 complete -c hsp -n "__fish_seen_subcommand_from steer; and not __fish_seen_subcommand_from export fleet" -l every -x -d 'seconds from plan to plan'
 complete -c hsp -n "__fish_seen_subcommand_from steer; and not __fish_seen_subcommand_from export fleet" -l period -x -d 'seconds in which the demand comes, and for which capacities are'
 complete -c hsp -n "__fish_seen_subcommand_from steer; and not __fish_seen_subcommand_from export fleet" -l metrics -r -F -d 'figures for Prometheus\' textfile collector'
@@ -81,3 +81,4 @@ complete -c hsp -n "__fish_seen_subcommand_from whatif; and not __fish_seen_subc
 complete -c hsp -n "__fish_seen_subcommand_from whatif; and not __fish_seen_subcommand_from export fleet" -l step -x -d 'more room, in percent'
 complete -c hsp -n "__fish_seen_subcommand_from whatif; and not __fish_seen_subcommand_from export fleet" -l csv -d 'for other programs'
 complete -c hsp -n "__fish_seen_subcommand_from whatif; and not __fish_seen_subcommand_from export fleet" -l chart -r -F -d 'a picture of the costs, SVG'
+complete -c hsp -n "__fish_seen_subcommand_from where; and not __fish_seen_subcommand_from export fleet" -l json -d 'the same for other programs'

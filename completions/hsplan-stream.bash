@@ -2,7 +2,7 @@
 
 _hsplan_stream_commands() {
     case $1 in
-        "") echo "kinds places answer check report faults --help --version" ;;
+        "") echo "kinds places plan answer check report faults --help --version" ;;
     esac
 }
 
@@ -10,6 +10,7 @@ _hsplan_stream_options() {
     case $1 in
         "kinds") echo "--settings --costs --log --values --unit --help" ;;
         "places") echo "--settings --log --values --help" ;;
+        "plan") echo "--settings --costs --capacity --log --values --help" ;;
         "answer") echo "--settings --costs --capacity --log --values --demand --plan --prices --unit --fronts --front --help" ;;
         "check") echo "--settings --costs --capacity --log --prices --values --help" ;;
         "report") echo "--settings --costs --capacity --log --prices --kind --values --help" ;;

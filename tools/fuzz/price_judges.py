@@ -1,5 +1,6 @@
-"""Judges the verdicts of `hsplan-stream check` on certificates by prices, and the reports by them. Each verdict is that
-of tools/lib/price_verdicts.py, and each report that of tools/lib/price_reports.py.
+"""Judges the verdicts of `hsplan-stream check` on certificates by prices, the reports by them, and what
+`hsplan-stream plan` prints. Each verdict is that of tools/lib/price_verdicts.py, which says yes to each printed
+certificate, and each report that of tools/lib/price_reports.py.
 
 A certificate is of what `hsplan plan` prints of a table, or of prices or servers that are drawn. Then it is judged
 again with something changed: its text, the rows, a bound or the service."""
@@ -37,7 +38,9 @@ from lib.oracle import Row, Service, csv_of
 from lib.price_verdicts import Bounds
 
 NAME = "hsplan-stream"
-INPUTS = "--settings settings.toml --costs costs.csv --capacity capacity.csv --log log.csv --prices plan.prices"
+SERVICE = "--settings settings.toml --costs costs.csv --capacity capacity.csv --log log.csv"
+INPUTS = f"{SERVICE} --prices plan.prices"
+PLAN = f"plan {SERVICE}"
 WORDS = f"check {INPUTS}"
 REPORTS = {kind: f"report {INPUTS} --kind {kind}" for kind in price_reports.KINDS}
 PAIRS = st.lists(st.tuples(REGION, ANY_HANDLE), min_size=1, max_size=40, unique=True)
@@ -115,10 +118,26 @@ def judge(program: Runner, case: Case, text: bytes, where: Where) -> Answer:
     return answer
 
 
+def judge_plan(program: Runner, case: Case, plan: Answer, where: Where) -> None:
+    """Judges the certificate by prices that is printed of the log: it is right, and of the kind and the cost of what
+    hsplan prints of the table. The log in pieces has the same one, and its rows in another order have a right one."""
+    files = case.files()
+    answer = answered(program, case.words(PLAN), files)
+    same("plan in pieces", answer, answered(program, case.words(PLAN), files, piece=where.piece))
+    ordered = case._replace(rows=where.ordered(case.rows), form=case.form._replace(blank=0))
+    for own in (answer, answered(program, case.words(PLAN), {**files, "log.csv": ordered.files()["log.csv"]})):
+        assert wanted_of(case, own.printed)[0] == b"yes\n", f"a wrong certificate: {own}"
+        assert own.status == plan.status, f"the kind of {own}, and of {plan}"
+        costs = [prices.numbers_of(text, "cost") for text in (own.printed, plan.printed)]
+        assert plan.status or costs[0] == costs[1], f"the cost of {own}, and of {plan}"
+
+
 def judge_planned(program: Runner, drawn: tuple[Case, st.DataObject], where: Where) -> None:
-    """Judges the certificate of what hsplan prints, to which the answer is yes, and then something changed."""
+    """Judges what is printed of a log, the certificate of what hsplan prints, to which the answer is yes, and then
+    something changed."""
     case, data = drawn
     plan = answered(program.beside["hsplan"], case.words(f"plan {oracle.INPUTS}"), case.files())
+    judge_plan(program, case, plan, where)
     make = prices.of_shortage if plan.status else prices.of_plan
     text = make(case.service, case.rows, plan.printed)
     answer = judge(program, case, text, where)

@@ -33,7 +33,7 @@ OWN = {
 0 assigned # spent # unknown #
 """,
     "hsplan-stream": """
-1 BadUnit|BadFront|log: (BadName|BadNumber|TooManyRegions|TooManyKinds) row #
+1 BadUnit|BadFront|plan: TooLarge|log: (BadName|BadNumber|TooManyRegions|TooManyKinds) row #
 1 log: (CountTooLarge row # unit #|BadHandle row # @)
 3 check: NoSuchServer
 0 assigned # spent # unknown # refused #
@@ -49,6 +49,8 @@ FORMS = {name: (BOTH + own).replace("#", "[0-9]+").replace("@", HANDLE) for name
 FORM = {name: re.compile(re.sub(r"\n*(.) (.*)\n", r"|\1 (?:\2)", text).encode()) for name, text in FORMS.items()}
 # The structures of runner.c, the most texts of a request, and a number beyond all lengths.
 MOST_TEXTS, ALL = 98, 2**62
+# The beginning of a certificate by prices of a shortage.
+SHORT = b"HSPLAN PRICES 1\nSHORT\n"
 REQUEST, ANSWER = struct.Struct(f"={3 + MOST_TEXTS}Q"), struct.Struct("=q8Q")
 Files = Mapping[str, bytes]
 
@@ -133,7 +135,7 @@ def is_suiting(name: str, words: bytes, answer: Answer) -> bool:
         may_print = b"dispatch" in words or fault.startswith(b"log: ") and answer.printed.startswith(b"handle,site,")
         is_own = FORM[name].fullmatch(b"%d %s" % (answer.status, fault)) and answer.status > 0
         return bool(is_own) and (not answer.printed or may_print)
-    is_no = answer.status == 3 and answer.printed.startswith((b"no ", b"HSPLAN 1\nSHORTAGE\n"))
+    is_no = answer.status == 3 and answer.printed.startswith((b"no ", b"HSPLAN 1\nSHORTAGE\n", SHORT))
     has_sums = re.search(rb"dispatch|answer", words) and FORM[name].fullmatch(b"0 " + line[:-1])
     return (answer.status == 0 or is_no) and (not line or bool(has_sums))
 

@@ -10,7 +10,13 @@ tools/gate/check_program.py runs them. Here are tried:
 - random logs: the table of kinds with and without units, places, and answers by a plan, by each front and in units;
 - answers to random logs by certificates by prices, by each front, also to logs that ask for more than there is room;
 - certificates by prices of random logs, made of plans and shortages of their kinds, and with a number changed; their
-  reports, which are those of `hsplan report` of the table of the kinds;
+  reports, which are those of `hsplan report` of the table of the kinds; and those that `plan` prints, at the cost of
+  the plan of the kinds;
+- plans of logs of 12,000 rows, of random services with hosts and few costs: the same cost as that of the plan of their
+  kinds, or a shortage where these have one;
+- plans of logs whose handles are the whole table of kinds of a service that has 100,000 of them, and of rows that all
+  tie, in a certificate and in one whose text would be too large;
+- the line that shows how far a plan is, which only a terminal gets;
 - a log in parts, whose tables are joined;
 - examples/twelve-sites, planned by rows and by kinds, at the same cost;
 - a co-process over pipes: each row is answered within a second, before the next one is written;
@@ -39,13 +45,14 @@ from pathlib import Path
 sys.path.insert(0, str(Path(__file__).resolve().parents[1]))
 
 from lib import examples, failing, preload, programs
-from lib import oracle, price_answers, prices
+from lib import oracle, price_answers, price_verdicts, prices
 from lib.price_verdicts import Bounds
 
 
 FILES = "--settings settings.toml --costs costs.csv"
 INPUTS = oracle.INPUTS
 ANSWER = f"answer {INPUTS} --plan plan.txt --log /dev/stdin"
+PLAN = f"plan {FILES} --capacity capacity.csv --log /dev/stdin"
 BY_PRICES = f"{FILES} --capacity capacity.csv --log /dev/stdin --prices plan.prices"
 CHECK = f"check {BY_PRICES}"
 ANSWER_BY_PRICES = f"answer {BY_PRICES}"
@@ -54,7 +61,7 @@ REPORTS = [f"report {BY_PRICES} --kind {kind}" for kind in KINDS_OF_REPORTS]
 LIMIT_KB = 64 * 1024
 HELP_BEGINS = "hsplan-stream: tables, places and answers for logs of any length\n"
 
-COMMANDS = ("kinds", "places", "answer", "check", "report", "faults")
+COMMANDS = ("kinds", "places", "plan", "answer", "check", "report", "faults")
 
 Ended = tuple[bytes, bytes, int]
 
@@ -210,6 +217,7 @@ def check_prices(it: Programs, draw: random.Random) -> list[str]:
         oracle.put_files(it.folder, oracle.THREE.files(table, capacity))
         plan = it.plan()
         is_short = plan.splitlines()[1] == b"SHORTAGE"
+        found += check_plan(it, log, plan, is_short)
         if is_short:
             right = prices.of_shortage(oracle.THREE, table, plan)
             changes = [("demand ", "no 9 DemandSum"), ("capacity ", "no 10 CapacitySum")]
@@ -226,6 +234,124 @@ def check_prices(it: Programs, draw: random.Random) -> list[str]:
                 found += check_reports(it, capacity, log, reports)
                 seen.add(wanted)
     return found + fault("verdicts", len(seen), 5)
+
+
+def check_plan(it: Programs, log: bytes, plan: bytes, is_short: bool) -> list[str]:
+    """What `plan` prints of a log, to which `check` says yes: a certificate at the cost of the plan of its kinds, or of a
+    shortage."""
+    text, line, status = it.run(PLAN, log)
+    it.put("plan.prices", text)
+    found = fault("status of a plan", (line, status), (b"", 3 if is_short else 0))
+    found += fault("check of a plan", it.run(CHECK, log), (b"yes\n", b"", 0))
+    costs = [prices.numbers_of(own, "cost") for own in (text, plan)]
+    return found if is_short else found + fault("cost of a plan", *costs)
+
+
+def drawn_service(draw: random.Random) -> oracle.Service:
+    """A service of few kinds, in which a region has costs at some sites."""
+    sizes = [draw.randint(1, 4) for _ in range(draw.randint(2, 5))]
+    sites = tuple(
+        oracle.Site(f"s{at}", draw.randrange(3), tuple(range(1, size + 1))) for at, size in enumerate(sizes)
+    )
+    costs = {(region, site.name): draw.randint(0, 20) for region in oracle.REGIONS for site in draw.sample(sites, 2)}
+    more = {(region, site.name): 21 for region in oracle.REGIONS for site in sites if draw.random() < 0.3}
+    return oracle.Service(sites, {**more, **costs}, hosts=draw.choice((0, 0, 2)))
+
+
+def bounds_of(service: oracle.Service, rows: list[oracle.Row], draw: random.Random) -> tuple[list[int], list[int]]:
+    """Capacities and limits that are near what servers and hosts get where each row goes to one of its sites."""
+    firsts = [sum(len(own.servers) for own in service.sites[:at]) for at in range(len(service.sites))]
+    on, loads = prices.hosts_of(service), [0] * len(prices.hosts_of(service))
+    for region, handle, count in rows:
+        site = draw.choice(service.sites_of(region))
+        loads[firsts[site] + service.sites[site].place(handle)] += count
+    hosts = [sum(load for load, own in zip(loads, on) if own == host) for host in range(service.hosts)]
+    factor = draw.choice((1.3, 1.05, 1.01, 0.97))
+    return [int(load * factor) + 1 for load in loads], [int(load * factor) + 1 for load in hosts]
+
+
+def put_service(it: Programs, service: oracle.Service, rows: list[oracle.Row], draw: random.Random) -> Bounds:
+    """Writes the files of the service, with capacities and limits that are near what the rows ask for."""
+    bounds = Bounds(*bounds_of(service, rows, draw))
+    oracle.put_files(it.folder, service.files())
+    it.put("settings.toml", service.settings(bounds.limits))
+    servers = ((site.name, own) for site in service.sites for own in site.servers)
+    capacities = ((*server, capacity) for server, capacity in zip(servers, bounds.capacities))
+    it.put("capacity.csv", oracle.csv_of("site,server_id,capacity", capacities))
+    return bounds
+
+
+def check_many_rows(it: Programs, draw: random.Random, services: int = 8) -> list[str]:
+    """Plans of logs of more rows than a table has, of services of few kinds: each is right, and of the kind and the cost
+    of the plan of the kinds' table."""
+    found, seen = [], set()
+    for number in range(services):
+        service = drawn_service(draw)
+        handles = ((draw.choice(oracle.REGIONS), f"10.{draw.randrange(7)}/{number}.{at}") for at in range(12_000))
+        rows = [(*entry, min(int(1 / (1 - draw.random())), 500)) for entry in handles]
+        put_service(it, service, rows, draw)
+        it.put("demand.csv", oracle.csv_of("region,handle,count", service.table(rows)))
+        plan = it.plan()
+        is_short = plan.splitlines()[1] == b"SHORTAGE"
+        found += check_plan(it, log_of("region,handle,count", rows), plan, is_short)
+        seen.add(is_short)
+    return found + fault("plans and shortages of many rows", len(seen), 2)
+
+
+def check_whole_table(it: Programs, draw: random.Random) -> list[str]:
+    """The plan of a log whose rows are the 100,000 kinds of a service, judged by tools/lib/price_verdicts.py."""
+    sites = tuple(oracle.Site(f"s{option}", option, tuple(range(size))) for option, size in enumerate((20, 25, 10)))
+    regions = [f"region-{at}" for at in range(20)]
+    service = oracle.Service(sites, {(region, site.name): draw.randint(0, 50) for region in regions for site in sites})
+    handles: dict[tuple[int, ...], str] = {}
+    while len(handles) < 5000:
+        handle = f"10.{draw.randrange(1_000_000)}/{draw.randrange(1_000_000)}"
+        handles.setdefault(tuple(site.place(handle) for site in sites), handle)
+    rows = [(region, handle, draw.randint(1, 9)) for region in regions for handle in handles.values()]
+    draw.shuffle(rows)
+    bounds, log = put_service(it, service, rows, draw), log_of("region,handle,count", rows)
+    text, line, status = it.run(PLAN, log)
+    it.put("plan.prices", text)
+    found = fault("plan of a whole table", (line, status in (0, 3)), (b"", True))
+    found += fault("check of a whole table", it.run(CHECK, log), (b"yes\n", b"", 0))
+    claim = price_verdicts.read(text)
+    said = claim if isinstance(claim, str) else price_verdicts.verdict(service, bounds, rows, claim)
+    return found + fault("verdict on a whole table", said, "yes")
+
+
+def check_ties(it: Programs) -> list[str]:
+    """Plans of rows that cost the same at each of 32 sites: a class for almost each of them, or a text too large."""
+    sites = tuple(oracle.Site(f"s{at}", at % 3, tuple(range(16 + at))) for at in range(32))
+    oracle.put_files(it.folder, oracle.Service(sites, {("eu", site.name): 5 for site in sites}).files())
+    found = []
+    for many, wanted in ((20_000, (b"", 0)), (450_000, (b"hsplan-stream: plan: TooLarge\n", 1))):
+        log = log_of("region,handle,count", (("eu", f"10.{at}/{at}", 1) for at in range(many)))
+        text, *said = it.run(PLAN, log)
+        found += fault(f"plan of {many} ties", tuple(said), wanted)
+        it.put("plan.prices", text)
+        if text:
+            found += fault(f"check of {many} ties", it.run(CHECK, log), (b"yes\n", b"", 0))
+    return found
+
+
+def check_progress(it: Programs) -> list[str]:
+    """A plan of many rows at a terminal shows how far it is, in a line that is taken away in the end; elsewhere it
+    prints nothing on standard error."""
+    oracle.put_files(it.folder, oracle.THREE.files())
+    it.put("many.csv", b"".join(oracle.many_rows(70_000)))
+    words = PLAN.replace("/dev/stdin", "many.csv")
+    plain = it.run(words)
+    shown = subprocess.run(
+        ["script", "-qec", f"{it.stream} {words} > shown.prices", "/dev/null"],
+        cwd=it.folder,
+        stdin=subprocess.DEVNULL,
+        stdout=subprocess.PIPE,
+        check=False,
+    ).stdout
+    with open(os.path.join(it.folder, "shown.prices"), "rb") as file:
+        found = fault("a plan at a terminal", file.read(), plain[0])
+    line = re.fullmatch(rb"(\rhsplan-stream: \d+ [a-z ]+\x1b\[K)+\r\x1b\[K", shown)
+    return found + fault("progress elsewhere", plain[1], b"") + fault("progress at a terminal", bool(line), True)
 
 
 def check_price_answers(it: Programs, draw: random.Random) -> list[str]:
@@ -372,6 +498,8 @@ def check_million(it: Programs, number: int) -> list[str]:
         with open(path[1], "rb") as file:
             table = file.read()
         Programs(it.stream, it.hsplan, folder).plan_by_prices(table)
+        planned = measured([it.stream, *PLAN.split()], folder, path[0], os.path.join(folder, "plan.prices"))
+        found += fault("plan of a million handles", (planned[0], planned[1] < LIMIT_KB), (0, True))
         checked = measured([it.stream, *CHECK.split()], folder, path[0], path[5])
         found += fault("check of a million handles", (checked[0], checked[1] < LIMIT_KB), (0, True))
         for asked, kind in zip(REPORTS, KINDS_OF_REPORTS):
@@ -390,9 +518,9 @@ def check_million(it: Programs, number: int) -> list[str]:
     found += [] if texts[0] == texts[1] else ["the answers are not those of dispatch to the replaced log"]
     speeds = ", ".join(
         f"{name} {number / taken:,.0f}"
-        for name, taken in (("kinds", seconds), ("check", checked[2]), ("answer", reported[2]))
+        for name, taken in (("kinds", seconds), ("plan", planned[2]), ("check", checked[2]), ("answer", reported[2]))
     )
-    kinds, most = len(table.splitlines()) - 1, max(memory, checked[1], reported[1])
+    kinds, most = len(table.splitlines()) - 1, max(memory, planned[1], checked[1], reported[1])
     print(f"{number:,} handles, {kinds} kinds: {speeds} rows a second of a processor, {most:,} kB at most")
     return found
 
@@ -403,6 +531,7 @@ FAILING = [
     (f"kinds {FILES} --unit 2 --log log.csv", b""),
     ("places --settings settings.toml --log log.csv", b""),
     (f"{ANSWER.replace('/dev/stdin', 'log.csv')} --unit 2", b""),
+    (PLAN.replace("/dev/stdin", "log.csv"), b""),
     (CHECK.replace("/dev/stdin", "log.csv"), b""),
     (ANSWER_BY_PRICES.replace("/dev/stdin", "log.csv"), b""),
     (REPORTS[0].replace("/dev/stdin", "demand.csv"), b""),
@@ -454,15 +583,18 @@ def check_failing(it: Programs, room: str) -> tuple[list[str], int]:
 
 def check_all(it: Programs, million: int, room: str) -> list[str]:
     draw = random.Random(49)
+    # The memory of a run counts that of this process before it, so this comes while it is small.
+    found = check_million(it, million)
     oracle.put_cases(it.folder)
     with open(os.path.join(it.folder, "demand.csv"), "rb") as file:
         it.plan_by_prices(file.read())
-    found = check_help(it) + check_kinds(it, draw) + check_places(it, draw) + check_talk(it)
+    found += check_help(it) + check_kinds(it, draw) + check_places(it, draw) + check_talk(it)
     faults, tried = check_failing(it, room)
     found += faults + ([] if tried else ["failing calls: nothing was tried"])
     print(f"failing calls: {tried} runs")
     found += check_answers(it, draw) + check_prices(it, draw) + check_price_answers(it, draw)
-    return found + check_twelve(it) + check_million(it, million)
+    found += check_many_rows(it, draw) + check_whole_table(it, draw) + check_ties(it)
+    return found + check_progress(it) + check_twelve(it)
 
 
 def main() -> int:

@@ -11,8 +11,8 @@ from lib import programs
 HEAD = re.compile(r"^(?P<indent>(?:    )?)(?P<public>pub )?(?:pub\([a-z]+\) )?(?:const |final )*fn (?P<name>\w+)")
 HOLDS = re.compile(r"^(?:pub )?(?P<kind>impl|trait)(?:<[^{]*?>)? (?P<rest>.*?)\s*(?:where.*)?\{?$")
 ITEM = re.compile(r"^(?:pub(?:\(\w+\))? )?(?:const|static) (?P<name>\w+)")
-# What a talk asks of who answers in it.
-IN_TALKS = ("take", "take_query", "sums")
+# What a talk asks of who answers in it, and a pass over a log of what takes its rows.
+IN_TALKS = ("take", "take_query", "take_row", "sums")
 USE = re.compile(r"^\s*ghost use Rattle\.(?P<crate>hsp\w+|hsplan)\.specs\.(?P<module>[\w.]+)\.\{(?P<names>[^}]*)\}")
 
 

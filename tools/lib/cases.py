@@ -197,7 +197,8 @@ def misjudged(program: str, case: Case, words: list[bytes], folder: str, text: b
     if not case.judged or not words:
         return []
     put_files(folder, {"printed.txt": text})
-    said = run(program, [b"check", *words[1:], b"--plan", b"printed.txt"], b"", folder)
+    option = b"--prices" if text.startswith(b"HSPLAN PRICES") else b"--plan"
+    said = run(program, [b"check", *words[1:], option, b"printed.txt"], case.given, folder)
     return [] if said == (case.judged, b"", 0) else [f"{case.name}: check of what was printed: {said}"]
 
 
