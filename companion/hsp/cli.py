@@ -19,16 +19,16 @@ from hsp.base.files import refuse_clashes, replace_all
 from hsp.base.grammar import COMMANDS, program_of
 from hsp.base.groups import Group
 from hsp.base.numbers import some
-from hsp.base.paths import path_in
+from hsp.base.paths import path_in, shell_word
 from hsp.base.programs import Missing, Programs, Refused
 from hsp.base.signals import Stopped, stopping
-from hsp.base.text import colored, escaped, give, say, show_progress
+from hsp.base.text import colored, escaped, give, is_utf8, say, show_progress
 from hsp.doctor import Examined, examined, examined_words
 from hsp.doctor.cut_short import cut_short
 from hsp.doctor.next_step import next_lines, next_step
 from hsp.doctor.printing import json_of as findings_json
 from hsp.doctor.printing import lines as finding_lines
-from hsp.doctor.service_folder import read_in, sound, with_files
+from hsp.doctor.service_folder import Folder, read_in, sound, with_files
 from hsp.fleet.command import fleet
 from hsp.intake import bring
 from hsp.plans.answering import answer_lines, in_units
@@ -51,6 +51,9 @@ from hsp.plans.terminal import head, plan_lines, shortage_lines
 from hsp.plans.whatif import Changes, full_servers, server_named, sizes, standard
 from hsp.plans.whatif import csv_of as cases_csv
 from hsp.plans.whatif import lines as case_lines
+from hsp.plans.where import json_of as where_json
+from hsp.plans.where import lines as where_lines
+from hsp.plans.where import where as where_goes
 from hsp.proxy.command import export
 from hsp.proxy.steer import steer
 
@@ -224,7 +227,7 @@ def json_of(plan: Planned, reference: Reference | None) -> str:
     report = {
         "title": plan.service.titles.title,
         "served": True,
-        "rows_are": plan.service.mark.rows,
+        "rows_are": plan.service.rows_are,
         "unit": plan.service.unit,
         "queries": plan.service.asked,
         "cost": plan.cost,
@@ -305,7 +308,8 @@ def plan(
         found = with_gains(found, programs, progress(len(priced)))
     verdict = programs.verdict(service.inputs, service.plan_file)
     if verdict != "yes":
-        ended(1, f"hsplan check says {verdict} to hsplan's own plan: please report this with your files")
+        name = service.inputs.program
+        ended(1, f"{name} check says {verdict} to {name}'s own plan: please report this with your files")
     lines = [] if no_save else keep(service, programs, path)
     if as_csv or as_json:
         give(csv_of(found) if as_csv else json_of(found, reference))
@@ -316,7 +320,7 @@ def plan(
     kept = "" if no_save else f"; kept in {path}"
     for line in [f"check {colored(verdict, 'green')}: no plan within these capacities costs less{kept}", *lines]:
         say(line)
-    if not (service.sites and service.rows or any(given.values())):
+    if (not service.sites or service.is_empty) and not any(given.values()):
         say(next_step(service, programs))
 
 
@@ -361,7 +365,8 @@ def view_of(service: Service, programs: Programs, before: str | None) -> View:
         found = planned(after, programs)
         shown.plan = with_gains(found, programs, progress(sum(price > 0 for price in found.prices)))
         if programs.verdict(after.inputs, after.plan_file) != "yes":
-            raise Missing("hsplan check doesn't say yes to hsplan's own plan: please report this with your files")
+            name = after.inputs.program
+            raise Missing(f"{name} check doesn't say yes to {name}'s own plan: please report this with your files")
     held = earlier(before, programs, service) if before else None
     if held:
         shown.before, shown.reference = held
@@ -394,7 +399,7 @@ def view(
     text = render(view_of(service, programs, before))
     write(path, text)
     rows = some(len(service.rows), "kind" if service.mark.is_joined else "row")
-    say(f"{path}  {len(text.encode()) / 1024:,.0f} KiB, {rows}")
+    say(f"{path}  {len(text.encode()) / 1024:,.0f} KiB, {service.rows_words if service.log else rows}")
     sys.exit(0 if service.certificate.is_plan else 3)
 
 
@@ -446,6 +451,32 @@ def whatif(
             say(line)
     if chart:
         write(chart, drawn(service, cases, step))
+
+
+@main.command()
+@click.argument("folder", metavar="DIR", type=Folder())
+@click.argument("region", metavar="REGION")
+@click.argument("handle", metavar="HANDLE")
+@click.option("--json", "as_json", is_flag=True, help="the same for other programs")
+def where(folder: str, region: str, handle: str, as_json: bool) -> None:
+    """Says where the queries for a handle go.
+
+    hsplan-stream answers one query by the plan. Below it stands what the query pays at each server that it may use:
+    the cost of the site, and the prices of the server and of its machine.
+    """
+    if not is_utf8(region) or not is_utf8(handle):
+        ended(1, "a region and a handle are text")
+    programs = Programs()
+    service = sound(folder, programs, {})
+    if not service.certificate.is_plan:
+        ended(3, f"not all queries can be served, and there is no plan: hsp plan {shell_word(folder)}")
+    found = where_goes(service, programs, region, handle)
+    if as_json:
+        give(json.dumps(where_json(found, region, handle), indent=2, ensure_ascii=False) + "\n")
+    else:
+        for line in where_lines(service, found, region, handle):
+            say(line)
+    sys.exit(0 if found.servers else 1)
 
 
 class WordsBehind(click.Command):

@@ -49,12 +49,31 @@ class Front:
     port: int
     watch: int
     socket: str
-    process: "subprocess.Popen[bytes]"
+    config: Path
     log: Path
+    process: "subprocess.Popen[bytes]" = field(init=False)
     _asked: http.client.HTTPConnection = field(init=False)
 
     def __post_init__(self) -> None:
         self._asked = http.client.HTTPConnection("127.0.0.1", self.port, timeout=10)
+        self.start()
+
+    def start(self) -> None:
+        """Starts HAProxy, and waits until it listens."""
+        with open(self.log, "ab") as file:
+            command = ["haproxy", "-f", str(self.config)]
+            self.process = subprocess.Popen(command, stdout=file, stderr=subprocess.STDOUT, cwd="/")
+        wait(self.process, self.port, self.log)
+
+    def kill(self) -> None:
+        """Ends HAProxy without a word."""
+        self.process.kill()
+        self.process.wait(10)
+        self._asked.close()
+
+    def stop(self) -> None:
+        self.process.terminate()
+        self.process.wait(10)
 
     def ask(self, path: str, client: str = "", method: str = "GET", **headers: str) -> Answer:
         """What is answered for a path, to a client behind a trusted proxy."""
@@ -77,6 +96,11 @@ class Front:
             own.connect(self.socket)
             own.sendall(f"{words}\n".encode())
             return b"".join(received(own)).decode()
+
+    def uptime(self) -> int:
+        """For how many seconds HAProxy has run."""
+        said = dict(line.partition(": ")[::2] for line in self.say("show info").splitlines())
+        return int(said["Uptime_sec"])
 
     def taken(self) -> dict[str, int]:
         """How many queries each server was given."""
@@ -103,13 +127,9 @@ def answering(hsp: Hsp, folder: Path, into: Path, *words: str) -> Iterator[Front
     with tempfile.TemporaryDirectory(prefix="hsp-", dir="/tmp") as short, contextlib.ExitStack() as stack:
         addresses = ["--listen", f"127.0.0.1:{port}", "--watch", f"127.0.0.1:{watch}", "--socket", f"{short}/s"]
         hsp("export", "haproxy", str(folder), "--into", str(into), *addresses, *words)
-        file = stack.enter_context(open(log, "wb"))
-        command = ["haproxy", "-f", str(into / "haproxy.cfg")]
-        process = subprocess.Popen(command, stdout=file, stderr=subprocess.STDOUT, cwd="/")
-        stack.callback(process.wait, 10)
-        stack.callback(process.terminate)
-        wait(process, port, log)
-        yield Front(port, watch, f"{short}/s", process, log)
+        front = Front(port, watch, f"{short}/s", into / "haproxy.cfg", log)
+        stack.callback(front.stop)
+        yield front
 
 
 def wait(process: "subprocess.Popen[bytes]", port: int, log: Path) -> None:

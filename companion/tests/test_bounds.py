@@ -177,9 +177,9 @@ def test_queries_are_written_out_by_their_octets(monkeypatch: pytest.MonkeyPatch
     monkeypatch.setattr("hsp.intake.tally.MOST_HELD", 1 << 40)
     assert len(list(many.add(asked))) == 60
     assert one._spilled and not many._spilled
-    assert one.demand(inputs, 1)[0] == many.demand(inputs, 1)[0]
+    assert list(one.demand(inputs, 1).pieces()) == list(many.demand(inputs, 1).pieces())
     whole_table = list(Counter(asked).values())
-    counts = [int(it.rpartition(b",")[2]) for it in one.demand(inputs, 1)[0].split(b"\n")[1:-1]]
+    counts = [int(it.rpartition(b",")[2]) for it in b"".join(one.demand(inputs, 1).pieces()).split(b"\n")[1:-1]]
     assert sum(counts) == sum(whole_table) == 3000
 
 

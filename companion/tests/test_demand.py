@@ -18,7 +18,7 @@ import sys
 from collections import Counter
 from collections.abc import Callable
 from pathlib import Path
-from typing import NamedTuple
+from typing import Any, NamedTuple
 from urllib.parse import quote
 
 import pytest
@@ -417,10 +417,10 @@ def test_counts_beyond_memory_give_the_same_table(tmp_path: Path) -> None:
         reading, tally = Reading(Form(), seek, Judge(programs, 1000)), Tally(programs, most)
         for _ in tally.add(queries(str(path), reading)):
             pass
-        text, is_joined = tally.demand(inputs, None)
-        assert is_joined and tally.handles == (None if most == 100 else 20_000)
+        own = tally.demand(inputs, None)
+        assert own.is_joined and not own.why_log and tally.handles == (None if most == 100 else 20_000)
         assert tally.asked == 20_000 and tally.regions == {b"eu", b"us", b"asia"}
-        tables.append(text)
+        tables.append(b"".join(own.pieces()))
     assert tables[0] == tables[1]
 
 
@@ -435,15 +435,23 @@ def test_a_count_that_is_too_large_needs_a_unit(tmp_path: Path) -> None:
     for _ in range(1001):
         for _ in tally.add([(b"eu", b"20.1/a")] * 1000):
             pass
-    with pytest.raises(Exception, match="1 row of demand; hsplan takes 8,192, with counts up to 1,000,000"):
-        tally.demand(None, None)
-    with pytest.raises(Exception, match="more than 1,000,000 queries; give --unit 2$"):
-        tally.demand(inputs_of(folder), None)
-    assert tally.demand(inputs_of(folder), 2)[0] == b"region,handle,count\neu,20.1/a,500500\n"
+    in_units = tally.demand(inputs_of(folder), 2)
+    assert b"".join(in_units.pieces()) == b"region,handle,count\neu,20.1/a,500500\n" and not in_units.why_log
 
 
-def test_more_kinds_than_hsplan_takes(tmp_path: Path) -> None:
-    """Sites of 5, 7, 8 and 9 servers have 2,520 kinds in a region, so that four regions have too many."""
+def test_a_count_that_no_table_holds_makes_a_log() -> None:
+    """1,001,000 queries of one pair, with and without the sites by which rows could be joined."""
+    tally = Tally(Programs())
+    for _ in range(1001):
+        for _ in tally.add([(b"eu", b"20.1/a")] * 1000):
+            pass
+    own = tally.demand(None, None)
+    assert b"".join(own.pieces()) == b"region,handle,count\neu,20.1/a,1001000\n"
+    assert (own.rows, own.is_joined, own.why_log) == (1, False, "a row has more than 1,000,000 queries")
+
+
+def many_kinds(tmp_path: Path, rows: int = 60_000) -> tuple[Path, list[Asked], list[Any]]:
+    """Sites of 5, 7, 8 and 9 servers have 2,520 kinds in a region, so that four regions have more than a table."""
     folder = service(tmp_path)
     sizes = (5, 7, 8, 9)
     octets = [examples.site_octets("s", 1, ["192.0.2.1"] * size) for size in sizes]
@@ -451,14 +459,53 @@ def test_more_kinds_than_hsplan_takes(tmp_path: Path) -> None:
     (folder / "settings.toml").write_text("".join(blocks))
     costs = [f"{region},s{size},1\n" for region in NETWORKS.values() for size in sizes]
     (folder / "costs.csv").write_text("region,site,cost\n" + "".join(sorted(set(costs))))
-    rows = [Asked(CLIENTS[at % 4], "", f"20.1/{at // 4}") for at in range(60_000)]
-    (tmp_path / "log").write_text("\n".join(map(server_line, rows)))
-    words = ("demand", tmp_path / "log", "--regions", regions_file(tmp_path), "--into", folder)
-    said = invoke(*words, status=1).stderr.splitlines()
-    assert said[0].startswith("hsp: this service can have 10,080 kinds of handles, and hsplan takes 8,192 rows: ")
-    # Without s9 the other three have 280 kinds in a region.
-    assert said[-1].startswith("hsp: hsplan-stream can't join the rows: log: TooManyKinds row ")
-    assert "; 1,120 remain without costs to s9, the site that brings most" in said[-1]
+    asked = [Asked(CLIENTS[at % 4], "", f"20.1/{at // 4}") for at in range(rows)]
+    (tmp_path / "log").write_text("\n".join(map(server_line, asked)))
+    return folder, asked, ["demand", tmp_path / "log", "--regions", regions_file(tmp_path), "--into", folder]
+
+
+def test_more_kinds_than_a_table_has_rows_make_a_log(tmp_path: Path) -> None:
+    folder, asked, words = many_kinds(tmp_path)
+    (folder / "hsp.toml").write_text('title = "Many"\n\n[demand]\nrows = "kinds"\nunit = 5\n')
+    done = invoke(*words, "--unit", "1000")
+    assert done.stderr == (
+        "hsp: this service can have 10,080 kinds of handles, and a table has 8,192 rows; "
+        "where the logs have more, the demand is a log, and is planned by prices\n"
+    )
+    assert done.stdout.splitlines()[-2:] == [
+        f"{folder}/demand.csv has 60,000 rows, each for a region and a handle",
+        "no table holds it, as its handles have more than 8,192 kinds: it is a log, and is planned by prices",
+    ]
+    wanted = Counter(f"{region_of(it.client)},{it.handle},1" for it in asked)
+    head, *rows = (folder / "demand.csv").read_text().splitlines()
+    assert head == "region,handle,count" and Counter(rows) == wanted
+    assert (folder / "hsp.toml").read_text() == 'title = "Many"\n'
+
+
+def test_counts_that_were_put_into_files_are_one_log(tmp_path: Path) -> None:
+    """Pairs that come again after others were put away have several rows, which add up."""
+    folder, asked, _ = many_kinds(tmp_path)
+    pairs = [(str(region_of(it.client)).encode(), it.handle.encode()) for it in asked] * 2
+    tally = Tally(Programs(), most=20_000)
+    for _ in tally.add(pairs):
+        pass
+    own = tally.demand(inputs_of(folder), None)
+    rows = b"".join(own.pieces()).decode().splitlines()[1:]
+    sums: Counter[tuple[bytes, bytes]] = Counter()
+    for row in rows:
+        region, handle, count = row.split(",")
+        sums[region.encode(), handle.encode()] += int(count)
+    assert own.rows == len(rows) > len(sums) and sums == Counter(pairs)
+
+
+def test_a_log_is_refused_that_hsplan_stream_refuses(tmp_path: Path) -> None:
+    """As with 65 regions, of which it takes 64, and with a region that is no name."""
+    for name, said in (("r", "log: TooManyRegions row 64; join networks to at most 64 regions"), ("é", "BadName")):
+        tally = Tally(Programs())
+        counts = {(f"{name}{at}".encode(), b"20.1/a"): 1_000_001 for at in range(65)}
+        tally.take(counts, False)
+        with pytest.raises(Exception, match=f"hsplan-stream refuses this demand: .*{said}"):
+            tally.demand(None, None)
 
 
 def test_a_plan_of_the_demand_answers_the_whole_log(hsp: Hsp, tmp_path: Path) -> None:
@@ -545,5 +592,5 @@ def test_a_row_that_hsplan_refuses_is_shown() -> None:
 @pytest.mark.parametrize("unit, remedy", [(1_000_000, "give --unit 1000000"), (1_000_001, "count the logs in parts")])
 def test_no_unit_is_advised_that_is_refused(unit: int, remedy: str) -> None:
     """hsplan-stream takes units up to 1,000,000."""
-    line = advice(Refused(1, f"log: CountTooLarge row 3 unit {unit}"), Inputs("", "", "", ""), Programs())
+    line = advice(Refused(1, f"log: CountTooLarge row 3 unit {unit}"))
     assert line.endswith(remedy)

@@ -621,14 +621,14 @@ def test_what_a_refusal_of_hsplan_comes_to(tmp_path: Path) -> None:
 
 
 def test_sums_and_parts_of_answers(tmp_path: Path, monkeypatch: pytest.MonkeyPatch) -> None:
-    text = b"assigned paris 0 1\nspent\nunknown\nrefused Fields\nassigned reston 1 2\nspent\n"
-    sums = dict(zip(answers.SUMS, (2, 2, 1, 0, 1)))
+    text = b"assigned paris 0 1\nspent\nunknown\nrefused Fields\nassigned reston 1 2\nspent\ndiverted a 0 1\nfull\nfull\n"
+    sums = dict(zip(answers.SUMS, (2, 2, 1, 2, 1, 0, 1)))
     for size in (1, 2, 7, 1 << 16):
         monkeypatch.setattr(answers, "BLOCK", size)
         (tmp_path / "whole").write_bytes(text)
         assert answers.sums_of(str(tmp_path / "whole")) == sums
     paths = [str(tmp_path / it) for it in "abc"]
-    answers._cut(str(tmp_path / "whole"), paths, [2, 0, 4])
+    answers._cut(str(tmp_path / "whole"), paths, [2, 0, 7])
     lines = text.splitlines(keepends=True)
     assert [Path(it).read_bytes() for it in paths] == [b"".join(lines[:2]), b"", b"".join(lines[2:])]
     assert not (tmp_path / "whole").exists()

@@ -19,10 +19,9 @@ from hsp.base.unfit import Unfit
 from hsp.doctor import mark_doubts
 from hsp.fleet import engine
 from hsp.fleet.answers import blocks
-from hsp.intake import outlook, prefixes, progress, queries, tally
+from hsp.intake import prefixes, progress, queries, tally
 from hsp.intake.forms import Form
 from hsp.intake.logs import LONGEST, MOST_OF_LINE, Skipped, numbered
-from hsp.intake.outlook import sites_in
 from hsp.intake.prefixes import MOST_SHOWN, Prefixes
 from hsp.intake.queries import Judge, Reading
 from hsp.intake.sitefiles import Files
@@ -30,8 +29,6 @@ from hsp.intake.tally import Tally
 
 from printed import heads, kept
 from test_engine import Client, Future, fit, made
-from test_kinds import inputs_of, place
-from test_units import written
 
 
 @pytest.mark.parametrize("head", heads("exact"))
@@ -171,26 +168,6 @@ def test_what_is_nested_too_deep_is_said(monkeypatch: pytest.MonkeyPatch) -> Non
     monkeypatch.setattr(Files, "_sites", deep)
     with pytest.raises(Unfit, match="^a.json: its JSON is nested too deep$"):
         Files(Programs()).read("a.json", b"[]")
-
-
-def test_what_brings_most_kinds(tmp_path: Path, monkeypatch: pytest.MonkeyPatch) -> None:
-    """Nothing is said of sites or of regions that can't be left out."""
-    places = [place("a", 2, 7), place("b", 2, 8), place("c", 2, 3)]
-    folder = written(tmp_path / "s", settings="".join(it.block() for it in places), costs="", capacity="")
-    sites = sites_in(inputs_of(folder), Programs())
-    monkeypatch.setattr(outlook, "MOST_KINDS", 10)
-    apart = {"eu": {"a": 1}, "us": {"b": 1}}
-    assert list(outlook.fewer(sites, apart)) == ["7 remain without region us, which brings most"]
-    monkeypatch.setattr(outlook, "MOST_KINDS", 7)
-    assert list(outlook.fewer(sites, {"eu": {"a": 1, "b": 2}})) == [
-        "7 remain without costs to b, the site that brings most",
-        "7 remain with costs to only the 1 cheapest sites of each region",
-    ]
-    assert list(outlook.fewer(sites, {"eu": {"b": 3, "a": 2, "c": 1}, "us": {"c": 1}})) == [
-        "3 remain without region eu, which brings most",
-        "24 remain without costs to b, the site that brings most",
-        "6 remain with costs to only the 1 cheapest sites of each region",
-    ]
 
 
 def test_sweeps_at_hosts_are_waited_for(monkeypatch: pytest.MonkeyPatch) -> None:

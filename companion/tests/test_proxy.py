@@ -577,3 +577,19 @@ def test_a_proxy_trusts_a_server_by_its_name(
             answer = front.ask(path, CLIENTS["eu"])
             assert answer.status == status
             assert status != 200 or answer.text.startswith(b"paris:2\n" + path.encode())
+
+
+def test_the_doctor_warns_of_servers_of_one_url(hsp: Hsp, example: Example) -> None:
+    """Only where the folder is to be exported, and with the place of the table."""
+    folder = example("two-sites")
+    assert "one URL" not in hsp("doctor", str(folder)).stdout
+    put(folder, networks=NETWORKS, hsp='title = "x"\n[proxy]\nregions = "networks.csv"\n')
+    said = hsp("doctor", str(folder)).stdout
+    assert "warning: reston:2 and reston:3 have one URL, http://198.51.100.22:8000\n" in said
+    assert "hsp.toml:2:2\n" in said and 'write "reston:3" = "https://mirror.example" below [proxy.urls]' in said
+    put(folder, hsp='accept = ["one URL reston:2"]\n[proxy]\nregions = "networks.csv"\n')
+    assert "warning" not in hsp("doctor", str(folder)).stdout
+    put(folder, hsp='[proxy]\nregions = "networks.csv"\n[proxy.urls]\n"reston:3" = "http://198.51.100.23:8000"\n')
+    assert "warning" not in hsp("doctor", str(folder)).stdout
+    put(folder, hsp='[proxy.urls]\n"reston:4" = "http://198.51.100.23:8000"\n')
+    assert "[proxy.urls] has 'reston:4', and no server is called so" in hsp("doctor", str(folder)).stdout

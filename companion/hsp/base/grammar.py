@@ -35,6 +35,7 @@ COMMANDS: dict[str, dict[str, Command]] = {
     "hsplan-stream": {
         "kinds": Command("hsplan-stream", ("settings", "costs", "log"), ("values", "unit")),
         "places": Command("hsplan-stream", ("settings", "log"), ("values",)),
+        "plan": Command("hsplan-stream", ("settings", "costs", "capacity", "log"), ("values",)),
         "answer": Command(
             "hsplan-stream",
             ("settings", "costs", "capacity", "log"),

@@ -17,7 +17,7 @@ from dataclasses import dataclass, replace
 from typing import NamedTuple
 
 from hsp.base import units
-from hsp.base.grammar import GREATEST_CAPACITY, HEADERS
+from hsp.base.grammar import GREATEST_CAPACITY, HEADERS, LOG_HEADERS
 from hsp.base.signals import uncut
 
 # A capacity that no demand within hsplan's limits can fill.
@@ -77,7 +77,10 @@ def asked(name: str, *words: str) -> str:
 
 @dataclass(frozen=True)
 class Inputs:
-    """The files of a plan, by their paths. The demand counts in units of so many queries; the others never do."""
+    """The files of a plan, by their paths. The demand counts in units of so many queries; the others never do.
+
+    A demand that no table holds is a log, and is planned by prices.
+    """
 
     settings: str
     demand: str
@@ -85,6 +88,17 @@ class Inputs:
     capacity: str
     values: str | None = None
     unit: int = 1
+    is_log: bool = False
+
+    @property
+    def program(self) -> str:
+        """The program that plans and judges these files."""
+        return "hsplan-stream" if self.is_log else "hsplan"
+
+    @property
+    def plan_option(self) -> str:
+        """The option behind which a certificate of these files stands."""
+        return "--prices" if self.is_log else "--plan"
 
     def files(self) -> list[str]:
         """The paths of all files."""
@@ -96,8 +110,13 @@ class Inputs:
 
     def words(self) -> list[str]:
         """The options of all files."""
-        files = ["--demand", self.demand, "--costs", self.costs, "--capacity", self.capacity]
-        return self.of_sites() + files
+        tables = ["--costs", self.costs, "--capacity", self.capacity]
+        own = [*tables, "--log", self.demand] if self.is_log else ["--demand", self.demand, *tables]
+        return self.of_sites() + own
+
+    def priced(self, plan: str) -> list[str]:
+        """The options by which any handle is answered by a certificate by prices."""
+        return [*self.of_sites(), "--costs", self.costs, "--capacity", self.capacity, "--prices", plan]
 
     def but(self, **changed: str) -> Inputs:
         """The same with other files in some places."""
@@ -150,6 +169,37 @@ class Certificate:
         return [line[0] for line in self._lines["row"]]
 
 
+class Class(NamedTuple):
+    """So many queries of the rows of a region that pay least at the same servers go to each of these."""
+
+    region: str
+    amounts: dict[int, int]
+
+
+class Prices(Certificate):
+    """The text of a plan or of a shortage by prices. It names servers, and no row."""
+
+    def __init__(self, text: str, unit: int = 1) -> None:
+        super().__init__(text, unit)
+        end = dict(line.split(" ") for line in text[-200:].split("\n") if line.count(" ") == 1)
+        if not self.is_plan:
+            self.demand, self.capacity = (unit * int(end.get(word, 0)) for word in ("demand", "capacity"))
+
+    @property
+    def classes(self) -> list[Class]:
+        """The classes of a plan."""
+        lines = (line.split() for line in self.text.splitlines() if line.startswith("class "))
+        return [
+            Class(region, {int(at): self._unit * int(number) for at, number in zip(own[::2], own[1::2])})
+            for _, region, *own in lines
+        ]
+
+    @property
+    def servers(self) -> list[int]:
+        """The numbers of the servers of a shortage."""
+        return [line[0] for line in self._lines["server"]]
+
+
 class Load(NamedTuple):
     """What a server takes by a plan, what it can take, and its price."""
 
@@ -191,6 +241,8 @@ class Programs:
             self._folder = tempfile.TemporaryDirectory(prefix="hsp-")
         self._numbers = itertools.count(1)
         self._divided: dict[tuple[str, int], str] = {}
+        # The shorter logs that were made of logs, by the paths of settings and log.
+        self.shorter: dict[tuple[str, str], str] = {}
 
     def close(self) -> None:
         """Takes away the files that were made on the way."""
@@ -235,20 +287,23 @@ class Programs:
 
     def plan(self, inputs: Inputs) -> tuple[Certificate, str]:
         """The certificate of a plan or of a shortage, and the path of its file."""
-        printed = run("hsplan", "plan", *self.in_units(inputs).words())
+        name = inputs.program
+        printed = run(name, "plan", *self.in_units(inputs).words())
         if printed.status not in (0, 3):
-            raise Refused(printed.status, printed.line.removeprefix("hsplan: "))
+            raise Refused(printed.status, printed.line.removeprefix(f"{name}: "))
         if not printed.out.startswith("HSPLAN "):
-            raise Missing(f"{program('hsplan')} printed no plan: is it hsplan?")
-        return Certificate(printed.out, inputs.unit), self.put(printed.out)
+            raise Missing(f"{program(name)} printed no plan: is it {name}?")
+        certificate = Prices if inputs.is_log else Certificate
+        return certificate(printed.out, inputs.unit), self.put(printed.out)
 
     def verdict(self, inputs: Inputs, plan: str) -> str:
         """What the checker says of a certificate: `yes`, or `no` and why."""
-        return run("hsplan", "check", *self.in_units(inputs).words(), "--plan", plan).out.strip()
+        words = [*self.in_units(inputs).words(), inputs.plan_option, plan]
+        return run(inputs.program, "check", *words).out.strip()
 
     def _report(self, inputs: Inputs, plan: str, report: str) -> list[str]:
-        words = self.in_units(inputs).words()
-        return asked("hsplan", "report", *words, "--plan", plan, "--kind", report).splitlines()
+        words = [*self.in_units(inputs).words(), inputs.plan_option, plan]
+        return asked(inputs.program, "report", *words, "--kind", report).splitlines()
 
     def loads(self, inputs: Inputs, plan: str) -> tuple[list[Load], Bound]:
         """The load of each server, in the order of the settings, and the sums that show the cost."""
@@ -288,6 +343,34 @@ class Programs:
         printed = asked("hsplan-stream", "places", *inputs.of_sites(), "--log", log)
         rows = list(csv.reader(io.StringIO(printed, newline="")))[1:]
         return {(handle, site): int(place) for handle, site, place, _ in rows}
+
+    def places_by_site(self, inputs: Inputs, handles: list[bytes], sites: int) -> dict[bytes, tuple[bytes, ...]]:
+        """The places of the responsible servers of each handle at all sites, in their order. Handles are as they stand
+        in a log."""
+        log = self.put(b"handle\n" + b"".join(b"%b\n" % handle for handle in handles), ".csv")
+        words = [program("hsplan-stream"), "places", *inputs.of_sites(), "--log", log]
+        done = subprocess.run(words, stdin=subprocess.DEVNULL, capture_output=True)
+        os.unlink(log)
+        lines = done.stdout.split(b"\n")[1:-1]
+        if done.returncode or len(lines) != len(handles) * sites:
+            line = done.stderr.decode("utf-8", "replace").strip().removeprefix("hsplan-stream: ")
+            raise Refused(done.returncode or 1, line or "places of other handles")
+        places = zip(*([line.rsplit(b",", 2)[1] for line in lines[at::sites]] for at in range(sites)))
+        return dict(zip(handles, places))
+
+    def where(self, inputs: Inputs, plan: str, region: str, handle: str) -> str:
+        """What a query is answered by a certificate: the line of `hsplan-stream answer`."""
+        log = self.put_table(LOG_HEADERS["answer"][0], [[region, handle]])
+        own = self.in_units(inputs)
+        words = own.priced(plan) if inputs.is_log else [*own.words(), "--plan", plan]
+        return asked("hsplan-stream", "answer", *words, "--log", log).rstrip("\n")
+
+    def fault_of_log(self, log: str) -> str:
+        """The first fault of a log in which any sites and costs could be; nothing where it has none."""
+        path = self.put("HSPLAN PRICES 1\nPLAN\ncost 0\nEND\n")
+        inputs = replace(self.without_sites(), demand=log, is_log=True)
+        printed = run(inputs.program, "check", *inputs.words(), inputs.plan_option, path)
+        return printed.line.removeprefix(f"{inputs.program}: ") if printed.status not in (0, 3) else ""
 
     def without_sites(self, demand: bytes = b"") -> Inputs:
         """The inputs of a service that has no site and no cost, with the rows of a demand."""

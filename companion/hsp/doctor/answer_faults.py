@@ -7,7 +7,7 @@ import re
 from collections.abc import Iterator, Mapping
 from typing import NamedTuple
 
-from hsp.base.grammar import GREATEST_COUNT, GREATEST_UNIT
+from hsp.base.grammar import GREATEST_COUNT, GREATEST_PRICE, GREATEST_SUM, GREATEST_UNIT, MOST_CLASSES
 from hsp.base.numbers import listed, some
 from hsp.base.paths import shell_word
 from hsp.doctor.findings import Place, Text, Words, found, quoted
@@ -214,6 +214,14 @@ def streams(question: Question, said: Said) -> Explained:
             message, "make room on the disk, or keep the reader of the pipe open", "a full disk, or a closed pipe"
         )
     return Explained(found(log, Place(), words, said.line), [])
+
+
+def too_large(question: Question, said: Said) -> Explained:
+    """A plan that no certificate by prices may say."""
+    log = question.files["log"].original.path if "log" in question.files else ""
+    why = f"sums go up to {GREATEST_SUM:,}, prices up to {GREATEST_PRICE:,}, and classes are {MOST_CLASSES:,} at most"
+    remedy = "give smaller costs, or counts and capacities in a larger unit"
+    return Explained(found(log, Place(), Words("no certificate has room for the plan", remedy, why), said.line))
 
 
 def memory(question: Question, said: Said) -> Iterator[Explained]:

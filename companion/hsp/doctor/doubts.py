@@ -2,6 +2,7 @@
 
 from __future__ import annotations
 
+import itertools
 import os
 import re
 import tomllib
@@ -12,7 +13,7 @@ from dataclasses import dataclass, field, replace
 from typing import Any
 from urllib.parse import unquote
 
-from hsp.base.grammar import GREATEST_CAPACITY, HEADERS
+from hsp.base.grammar import GREATEST_CAPACITY, HEADERS, MOST_DEMAND_ROWS
 from hsp.base.numbers import listed, some
 from hsp.base.paths import path_in, shell_word
 from hsp.base.programs import Programs
@@ -21,6 +22,7 @@ from hsp.base.unfit import Unfit
 from hsp.doctor.accepting import is_named, needless
 from hsp.doctor.findings import WARNING, Finding, Place, Text, Words, decoded, found, quoted, read_text
 from hsp.doctor.mark_doubts import mark_doubts
+from hsp.doctor.proxy_doubts import proxy_doubts
 from hsp.doctor.rows import Row, Table, table_of
 from hsp.doctor.toml_places import value_of
 from hsp.plans.marks import KEYS as MARK_KEYS
@@ -39,7 +41,8 @@ ADDRESS = re.compile(
     r"|hdl:(?://)?|doi:|info:hdl/)",
     re.I,
 )
-OTHER_OCTETS = "other octets are hashed, so another server may be planned; a log's queries are 'unknown'"
+OTHER_OCTETS = "other octets are hashed, so another server may be planned"
+UNKNOWN = f"{OTHER_OCTETS}; a log's queries are 'unknown'"
 
 
 @dataclass
@@ -101,7 +104,8 @@ def handles(read: Read) -> None:
                 f", {len(handle)} letters become {len(meant)}" if group in ("blank", "unseen") else ""
             )
             remedy = shown if meant and meant != handle else "write the bare handle: prefix, '/', suffix"
-            read.of_row(read.demand, row, 1, Words(message, remedy, OTHER_OCTETS, "", f"handle {group}"))
+            why = OTHER_OCTETS if read.service.log else UNKNOWN
+            read.of_row(read.demand, row, 1, Words(message, remedy, why, "", f"handle {group}"))
 
 
 def twins(read: Read) -> None:
@@ -144,9 +148,15 @@ def firsts(table: Table) -> dict[str, Row]:
     return found_rows
 
 
+def asking_of(read: Read) -> dict[str, Row]:
+    """The first row of each region that asks. Of a log only the first rows are read: a region behind them has none."""
+    nowhere = Row(0, 0, ["", "", ""])
+    return {region: nowhere for region in read.service.regions} | firsts(read.demand)
+
+
 def priceless(read: Read) -> None:
     """Regions that ask and have no cost."""
-    asking, paying = firsts(read.demand), firsts(read.costs)
+    asking, paying = asking_of(read), firsts(read.costs)
     costs = os.path.basename(read.costs.text.path)
     for region, row in asking.items():
         if region in paying or not paying:
@@ -157,7 +167,8 @@ def priceless(read: Read) -> None:
         if meant and meant not in asking:
             remedy = f"write {region} in {costs}, from line {paying[meant].first} on, or {meant} here"
         message = f"region {quoted(region)} has no cost for any site"
-        why = f"no site may serve its {some(number, 'row')}, so the plan is a shortage"
+        rows = "rows" if read.service.log else some(number, "row")
+        why = f"no site may serve its {rows}, so the plan is a shortage"
         words = Words(message, remedy, why, f"{costs} has {meant}" if meant else "", f"no cost {region}")
         read.of_row(read.demand, row, 0, words)
 
@@ -169,7 +180,7 @@ def namesake(region: str, asking: Iterable[str], paying: Iterable[str]) -> str:
 
 def idle(read: Read) -> None:
     """Regions that have costs and ask for nothing, but for those that another spelling explains."""
-    asking, paying = firsts(read.demand), firsts(read.costs)
+    asking, paying = asking_of(read), firsts(read.costs)
     explained = {namesake(region, asking, paying) for region in asking if region not in paying}
     for region, row in paying.items():
         if region in asking or region in explained or not asking:
@@ -186,7 +197,7 @@ def idle(read: Read) -> None:
 
 def pairs(read: Read) -> None:
     """Pairs of region and site without a cost, where a region has costs for half of the sites or more."""
-    asking, paying = firsts(read.demand), firsts(read.costs)
+    asking, paying = asking_of(read), firsts(read.costs)
     there = {(row.fields[0], row.fields[1]) for row in read.costs.rows}
     for region in (own for own in asking if own in paying):
         lacking = [site.name for site in read.service.sites if (region, site.name) not in there]
@@ -296,9 +307,9 @@ def free(read: Read) -> None:
 
 
 def unused(read: Read) -> None:
-    """Servers that no row of the demand may use."""
+    """Servers that no row of the demand may use; of a log, only sites."""
     service = read.service
-    if not service.rows or not service.costs:
+    if service.is_empty or not service.costs:
         return
     used = {
         (at, service.places[row.handle, service.sites[at].name])
@@ -306,6 +317,13 @@ def unused(read: Read) -> None:
         if row.count
         for at in service.sites_for(row.region)
     }
+    if service.log:
+        used = {
+            (at, place)
+            for region in service.regions
+            for at in service.sites_for(region)
+            for place in range(len(service.sites[at].servers))
+        }
     reached = {site for site, _ in used}
     for at, site in enumerate(service.sites):
         own = [row for row in read.capacity.rows if row.fields[0] == site.name]
@@ -411,6 +429,12 @@ def odd_proxy(read: Read, text: Text, table: Any) -> None:
         read.doubt(text, place, words)
 
 
+def first_rows(path: str) -> Text:
+    """The beginning of a log, as long as a table may be: a log is longer than what can be looked through."""
+    with open(path, "rb") as file:
+        return Text(path, b"".join(itertools.islice(file, MOST_DEMAND_ROWS)))
+
+
 # What makes the whole plan meaningless, what loses queries, and the rest.
 WHOLE, LOST = (sites, rows, units, free), (priceless, handles, twins)
 REST = (hosts, idle, pairs, zeros, unused)
@@ -422,7 +446,8 @@ def doubts(service: Service, programs: Programs, of_folder: bool = True) -> Iter
     What hsp.toml accepts is left out.
     """
     inputs = service.inputs
-    demand, costs, capacity = (table_of(read_text(own)) for own in (inputs.demand, inputs.costs, inputs.capacity))
+    demand = table_of(first_rows(inputs.demand) if inputs.is_log else read_text(inputs.demand))
+    costs, capacity = (table_of(read_text(own)) for own in (inputs.costs, inputs.capacity))
     read = Read(service, demand, costs, capacity, read_text(inputs.settings))
     for look in WHOLE:
         look(read)
@@ -431,6 +456,7 @@ def doubts(service: Service, programs: Programs, of_folder: bool = True) -> Iter
         look(read)
     if of_folder:
         titles(read)
+        read.findings += proxy_doubts(service, programs)
         old_plan(read, programs)
     accept = service.titles.accept
     yield from (own for own in read.findings if not any(is_named(own, name) for name in accept))

@@ -15,8 +15,9 @@ from hsp.base.unfit import Unfit
 from hsp.doctor.doubts import doubts
 from hsp.doctor.findings import ERROR, Finding, Place, Words, found, read_text
 from hsp.doctor.guard import SECONDS, guarded
-from hsp.doctor.question import Diagnosis, Question, Said, Show, draft_of
+from hsp.doctor.question import Diagnosis, Draft, Question, Said, Show, draft_of
 from hsp.doctor.toml_places import value_of
+from hsp.plans.counted import is_log
 from hsp.plans.marks import MOST_OF_TITLES, TABLE, TITLES, bad_keys
 from hsp.plans.service import NAMES, VALUES, Service, inputs_in, mark_of, service_of, titles_in
 
@@ -57,8 +58,9 @@ def examined(
         paths["values"] = values
     if not any(os.path.exists(paths[role]) for role in NAMES):
         return Examined([_no_service(folder)], 5)
-    question = Question(programs, "plan", {role: draft_of(programs, path) for role, path in paths.items()})
-    copies = {role: draft.copy for role, draft in question.files.items() if draft.copy}
+    drafts = {role: draft_of(programs, path) for role, path in paths.items()}
+    copies = {role: draft.copy for role, draft in drafts.items() if draft.copy}
+    question = question_of_plan(programs, drafts)
     try:
         mark = mark_of(folder, given)
         inputs = inputs_in(folder, {**given, **copies}, mark.unit)
@@ -67,6 +69,15 @@ def examined(
         return _refused(question, folder, fault)
     work = guarded(lambda show: _all(doubts(service, programs), show))
     return Examined(work.findings, 0, work.is_ended, service)
+
+
+def question_of_plan(programs: Programs, drafts: dict[str, Draft]) -> Question:
+    """What plans the files of a folder: hsplan, or hsplan-stream where no table holds the demand."""
+    demand = drafts["demand"]
+    if not is_log(demand.copy or demand.original.path):
+        return Question(programs, "plan", drafts)
+    files = {"log" if role == "demand" else role: draft for role, draft in drafts.items()}
+    return Question(programs, "plan", files, program="hsplan-stream")
 
 
 def _all(findings: Iterable[Finding], show: Show) -> None:

@@ -115,6 +115,8 @@ def explained(question: Question, said: Said, line: Line | None) -> Explained:
         one = answer_faults.wrong_kind(question, said)
     elif said.word in ("NoValue", "NotSiteValue") and "file" in question.files:
         one = record_faults.value_of_list(question, said)
+    elif said.word == "TooLarge":
+        one = answer_faults.too_large(question, said)
     elif said.word == "OutOfMemory" or said.detail == "OutOfMemory":
         one = next(answer_faults.memory(question, said))
     elif line and said.where == "handle":

@@ -55,7 +55,7 @@ def looks_joined(service: Service) -> bool:
 
 def unmarked(service: Service, demand: Text) -> Iterator[Finding]:
     """A table of kinds that hsp.toml doesn't call one."""
-    if service.mark.is_joined or not looks_joined(service):
+    if service.log or service.mark.is_joined or not looks_joined(service):
         return
     why = f"each of its {some(len(service.rows), 'row')} has servers of its own, which so many handles seldom have"
     message = "the demand looks joined by kinds, and hsp.toml doesn't say so"
@@ -69,7 +69,7 @@ def of_another(service: Service) -> Iterator[Finding]:
     known = service.mark.queries
     if known is None or service.unit != service.mark.unit:  # words of hsplan, which reads no mark
         return
-    if 0 <= service.asked - known <= len(service.rows) * (service.unit - 1):
+    if 0 <= service.asked - known <= len(service.rows) * (service.unit - 1):  # a log has no unit, and no rows here
         return
     path = path_in(service.folder, TITLES)
     remedy = "count the logs again, or write [demand] for this demand by hand"

@@ -77,9 +77,9 @@ def next_step(service: Service, programs: Programs) -> str:
             f"hsp sites FILE.. --into {shell_word(service.folder)}",
             "brings the sites in, of a proxy's JSON or their records",
         )
-    if not service.rows and (lacking := costs_first(service)):
+    if service.is_empty and (lacking := costs_first(service)):
         return step(NAMES["costs"], lacking)
-    if not service.rows:
+    if service.is_empty:
         command = f"hsp demand LOG.. --regions FILE --into {shell_word(service.folder)}"
         return step(command, "counts the queries of access logs, by a table network,region")
     if not {region for region, _ in service.costs} & set(service.regions):

@@ -6,7 +6,7 @@ import re
 from decimal import Decimal
 from typing import NamedTuple
 
-from hsp.base.grammar import GREATEST_CAPACITY, GREATEST_COST, GREATEST_COUNT, GREATEST_ID
+from hsp.base.grammar import GREATEST_CAPACITY, GREATEST_COST, GREATEST_COUNT, GREATEST_ID, GREATEST_ROW_COUNT
 from hsp.doctor.findings import quoted
 
 
@@ -70,8 +70,8 @@ def _of_signs(bare: str) -> Advice | None:
     return None
 
 
-def advice(text: str, name: str) -> Advice:
-    """What to do about the number of a column."""
+def advice(text: str, name: str, is_log: bool = False) -> Advice:
+    """What to do about the number of a column, of a table or of a log."""
     bare = "".join(sign for sign in text if sign.isprintable() and sign not in "\u200b\ufeff").strip(" \t\u00a0")
     if re.fullmatch(r"0|[1-9][0-9]*", bare) and bare != text:
         return Advice("a blank, or a sign that isn't seen, beside the digits", f"write {bare}, without it", bare)
@@ -81,7 +81,8 @@ def advice(text: str, name: str) -> Advice:
                 f"a {name} is at most {GREATEST_ID:,}", "write the number that it has, as hsplan site prints it"
             )
         what = "costs" if name == "cost" else "counts and capacities"
-        limits = {"cost": GREATEST_COST, "count": GREATEST_COUNT, "capacity": GREATEST_CAPACITY}
+        count = GREATEST_ROW_COUNT if is_log else GREATEST_COUNT
+        limits = {"cost": GREATEST_COST, "count": count, "capacity": GREATEST_CAPACITY}
         limit = f"{limits[name]:,}" if name in limits else "the limit"
         return Advice(
             f"a {name} is at most {limit}", f"take a larger unit in all {what}, as thousands; or mend the digits"

@@ -173,7 +173,7 @@ def bad_number(faulty: Faulty) -> Words:
     fields, header = faulty.fields, faulty.header
     at = faulty.field or 0
     name = header[at]
-    advised = advice(fields[at], name)
+    advised = advice(fields[at], name, faulty.table == "log")
     message, group = (
         f"{name} {quoted(fields[at], 30)} isn't a whole number within its limit",
         f"BadNumber {name} {advised.why}",

@@ -20,8 +20,9 @@ from hsp.intake import logs
 
 HEADER = LOG_HEADERS["dispatch"][0].encode()
 OF_ALL = LOG_HEADERS["fronts"][0].encode()
-FILES = ("settings", "values", "demand", "costs", "capacity", "plan")
-SUMS = ("assigned", "spent", "unknown", "nofront", "refused")
+FILES = ("settings", "values", "demand", "costs", "capacity", "plan", "prices")
+# The first words of answers. Their first letters differ.
+SUMS = ("assigned", "spent", "diverted", "full", "unknown", "nofront", "refused")
 BLOCK = 1 << 22
 # Statuses of hsplan that another try doesn't change: refused inputs, wrong words, no plan.
 LASTING = (1, 2, 3)

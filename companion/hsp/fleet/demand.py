@@ -10,9 +10,9 @@ from typing import Any
 import click
 
 from hsp.base.bounds import whole
-from hsp.base.files import locked, replace_all
+from hsp.base.files import locked, together
 from hsp.base.programs import Inputs, Programs
-from hsp.base.text import give, say
+from hsp.base.text import say
 from hsp.base.unfit import Unfit
 from hsp.fleet import kit
 from hsp.fleet.engine import Engine, Reply
@@ -26,7 +26,7 @@ from hsp.intake.bring import (
     foreseen,
     form_of,
     mark_of,
-    of_folder,
+    give_demand,
     output_of,
     refuse_own,
     rows_lines,
@@ -35,6 +35,7 @@ from hsp.intake.bring import (
     summary,
     twice,
     with_forms,
+    write_demand,
 )
 from hsp.intake.queries import Judge, Reading
 from hsp.intake.regions import regions_in
@@ -140,16 +141,17 @@ def demand(logs: tuple[str, ...], regions: str, into: str | None, keep: str | No
         tally.asked = whole["asked"]
         some_in(logs, reading, tally.asked > 0)
         tally.take(dict(counts_in(whole["table"])), whole["is_joined"])
-        text, is_joined = tally.demand(inputs, given["unit"])
+        found = tally.demand(inputs, given["unit"])
         hosts = [engine.host(log.host) if log.host else None for log in named]
         engine.is_publishing = True
         with locked(os.path.dirname(os.path.realpath(path)) for path in [output] if path):
             if output:
-                mark = mark_of(tally, tuple(logs), given["unit"]) if is_joined else Mark()
-                replace_all({output: text, **of_folder(into, output, mark)})
+                mark = mark_of(tally, tuple(logs), given["unit"]) if found.is_joined else Mark()
+                with together() as files:
+                    write_demand(found, output, into, mark, files)
             engine.publish([(log.kept, head, host) for log, head, host in zip(named, heads, hosts) if log.kept])
     if not output:
-        give(text)
-    closing = rows_lines(output, text, is_joined, (inputs.costs, tally.without_costs(inputs)) if inputs else None)
+        give_demand(found)
+    closing = rows_lines(output, found, (inputs.costs, tally.without_costs(inputs)) if inputs else None)
     for line in [*summary(logs, reading, tally, not given["prefix"]), *closing]:
         say(line, err=output is None)

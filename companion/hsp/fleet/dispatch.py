@@ -162,7 +162,14 @@ def of_these_files(folder: str, programs: Programs, inputs: Inputs, plan: str) -
         return
     newer = newer_than(inputs.files(), plan)
     why = f"the plan is older than {listed(newer)}" if newer else "the plan isn't one of these files"
-    raise Unfit(f"{plan}: {why}: hsp plan {shell_word(folder)}; hsplan check says {verdict}")
+    raise Unfit(f"{plan}: {why}: hsp plan {shell_word(folder)}; {inputs.program} check says {verdict}")
+
+
+def by_prices(given: dict[str, Any]) -> None:
+    """Sets the options of answers by prices: they are for any handle, and a plan of a log has no unit."""
+    if given["unit"]:
+        raise click.UsageError("--unit is of a table, and no table holds this demand: its plan counts queries")
+    given["any_handle"] = True
 
 
 @click.command()
@@ -194,6 +201,8 @@ def dispatch(folder: str, logs: tuple[str, ...], plan: str | None, **given: Any)
     if not os.path.isfile(certificate):
         raise Missing(f"{certificate}: no such file: hsp plan {shell_word(folder)} makes it")
     inputs, own = inputs_in(folder, {}, mark.unit), [front for front in fronts if not front.host]
+    if inputs.is_log:
+        by_prices(given)
     read = [certificate, *inputs.files(), *(path for front in own for path in front.logs)]
     refuse_clashes(read, [path for front in own for path in front.targets])
     if not mark.is_plain and not given["any_handle"]:

@@ -18,6 +18,10 @@ from hsp.fleet.answers import FILES
 UNCHECKED = (1).to_bytes(4, "little")
 
 
+# The kinds of files that are certificates.
+CERTIFICATES = ("plan", "prices")
+
+
 def _modules(folder: Any, name: str) -> Iterator[tuple[str, bytes]]:
     for entry in folder.iterdir():
         if entry.is_dir() and not entry.name.startswith("__"):
@@ -49,6 +53,9 @@ def programs() -> dict[str, bytes]:
 
 
 def files_of(inputs: Inputs, plan: str = "") -> dict[str, bytes]:
-    """The files of a service by their kinds, those that there are."""
-    paths = {file: getattr(inputs, file) for file in FILES if file != "plan"} | {"plan": plan}
+    """The files of a service by their kinds, those that there are. Answers by prices need no demand."""
+    paths = {file: getattr(inputs, file) for file in FILES if file not in CERTIFICATES}
+    if inputs.is_log:
+        del paths["demand"]
+    paths[inputs.plan_option.removeprefix("--")] = plan
     return {role: whole(path) for role, path in paths.items() if path}

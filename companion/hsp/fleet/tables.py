@@ -1,4 +1,7 @@
-"""Counts that add up: tables of parts, joined by kinds as soon as they are long, so that no table grows with a log."""
+"""Counts that add up: tables of parts, joined by kinds as soon as they are long, so that no table grows with a log.
+
+Where no table holds their kinds, the pairs stay as they are, up to a bound.
+"""
 
 from __future__ import annotations
 
@@ -17,8 +20,8 @@ from hsp.base.unfit import Unfit
 from hsp.intake.logs import Skipped
 from hsp.intake.tally import HEADER, advice, rows_of
 
-# So many pairs are counted in memory, before they are joined.
-MOST_PAIRS = 1 << 19
+# So many pairs are counted in memory, before they are joined; and so many where no table holds their kinds.
+MOST_PAIRS, MOST_WIDE = 1 << 19, 1 << 20
 Counts = list[tuple[Query, int]]
 
 
@@ -60,13 +63,17 @@ class Table:
     counts: dict[Query, int] = field(default_factory=dict)
     is_joined: bool = False
     octets: int = 0
+    # Whether there are more kinds than a table has rows, so that pairs stay as they are.
+    is_wide: bool = False
 
     def add(self, pairs: Iterable[tuple[Query, int]]) -> None:
         counts, before = self.counts, len(self.counts)
         for pair, count in pairs:
             counts[pair] = counts.get(pair, 0) + count
         self.octets += weight(itertools.islice(reversed(counts), len(counts) - before))
-        if len(counts) > self.most or self.octets > MOST_HELD // 2:
+        if self.is_wide:
+            self._refuse_more()
+        elif len(counts) > self.most or self.octets > MOST_HELD // 2:
             self.join()
 
     def join(self) -> None:
@@ -79,12 +86,24 @@ class Table:
         try:
             self.counts = dict(joined(self.programs, self.inputs, list(self.counts.items())))
         except Refused as fault:
-            raise Unfit(advice(fault, self.inputs, self.programs)) from None
+            if "TooManyKinds" not in fault.line:
+                raise Unfit(advice(fault)) from None
+            self.is_wide = True
+            self._refuse_more()
+            return
         self.is_joined, self.octets = True, weight(self.counts)
+
+    def _refuse_more(self) -> None:
+        """Refuses more pairs than a part may hold and pass on."""
+        if len(self.counts) > MOST_WIDE or self.octets > MOST_HELD:
+            raise Unfit(
+                f"more than {MOST_WIDE:,} pairs of region and handle, of more than {MOST_DEMAND_ROWS:,} kinds: parts can't "
+                "pass on so many; hsp demand counts any number"
+            )
 
     def said(self) -> dict[str, object]:
         """The table as a part returns it, short enough to be passed on."""
-        if len(self.counts) > MOST_DEMAND_ROWS:
+        if len(self.counts) > MOST_DEMAND_ROWS and not self.is_wide:
             self.join()
         text = HEADER + b"".join(rows_of(self.counts.items()))
         return {"table": text.decode(), "is_joined": self.is_joined}
@@ -95,7 +114,7 @@ def merged(tables: Iterable[dict[str, object]], into: Table) -> Table:
     for table in tables:
         into.is_joined |= bool(table["is_joined"])
         into.add(counts_in(str(table["table"])))
-    if into.is_joined:
+    if into.is_joined and not into.is_wide:
         into.join()
     return into
 

@@ -12,7 +12,7 @@ from typing import Any, TypeVar
 import click
 
 from hsp.base.bounds import whole
-from hsp.base.files import create, locked, refuse_clashes, replace_all, together
+from hsp.base.files import Outputs, create, locked, refuse_clashes, replace_all, together
 from hsp.base.grammar import GREATEST_CAPACITY, GREATEST_UNIT, LOG_HEAD
 from hsp.base.numbers import listed, some
 from hsp.base.paths import path_in, shell_word
@@ -29,7 +29,7 @@ from hsp.intake.progress import Gauge, Progress
 from hsp.intake.queries import Judge, Reading, field_of, queries
 from hsp.intake.regions import named_in, regions_in
 from hsp.intake.sitefiles import Files, Found
-from hsp.intake.tally import Tally
+from hsp.intake.tally import Demand, Tally
 from hsp.intake.times import FIRST, LAST, Span, iso_seconds
 from hsp.plans.marks import KINDS, TITLES, Mark, marked
 from hsp.plans.service import NAMES, VALUES
@@ -272,10 +272,12 @@ def summary(logs: tuple[str, ...], reading: Reading, tally: Tally, of_any_prefix
     return [first, *skipped_lines(reading), *(tally.prefixes.lines() if of_any_prefix else [])]
 
 
-def rows_lines(output: str | None, text: bytes, is_joined: bool, lacking: tuple[str, list[str]] | None) -> list[str]:
-    """How many rows the table has, what each stands for, and which regions a file of costs lacks."""
-    kinds = ", each for the handles that have the same servers" if is_joined else ""
-    lines = [f"{output or 'the table'} has {some(text.count(10) - 1, 'row')}{kinds}"]
+def rows_lines(output: str | None, own: Demand, lacking: tuple[str, list[str]] | None) -> list[str]:
+    """How many rows the demand has, what each stands for, and which regions a file of costs lacks."""
+    kinds = ", each for the handles that have the same servers" if own.is_joined else ""
+    log = ", each for a region and a handle" if own.why_log and not own.is_joined else ""
+    lines = [f"{output or 'the table'} has {some(own.rows, 'row')}{kinds}{log}"]
+    lines += [f"no table holds it, as {own.why_log}: it is a log, and is planned by prices"] if own.why_log else []
     return lines + ([f"{lacking[0]} has no cost yet of {listed(lacking[1])}"] if lacking and lacking[1] else [])
 
 
@@ -288,6 +290,21 @@ def of_folder(folder: str | None, output: str, mark: Mark) -> dict[str, bytes]:
     """The folder's hsp.toml with a mark, where its own demand is written."""
     own = path_in(folder, NAMES["demand"]) if folder else ""
     return marked(folder, mark) if folder and os.path.realpath(own) == os.path.realpath(output) else {}
+
+
+def give_demand(own: Demand) -> None:
+    """Prints a demand."""
+    for piece in own.pieces():
+        give(piece)
+
+
+def write_demand(own: Demand, output: str, into: str | None, mark: Mark, files: Outputs) -> None:
+    """Writes a demand, and what its rows stand for into the folder's hsp.toml."""
+    file = files.open(output)
+    for piece in own.pieces():
+        file.write(piece)
+    for path, octets in of_folder(into, output, mark).items():
+        files.open(path).write(octets)
 
 
 FORM_OPTIONS = [
@@ -375,14 +392,13 @@ def demand(logs: tuple[str, ...], regions: str, into: str | None, kept: str | No
     busiest = by_time(logs, reading, given)
     with together() as files:
         counted(logs, reading, tally, files.open(kept) if kept else None)
-        text, is_joined = tally.demand(inputs, given["unit"])
-        closing = rows_lines(output, text, is_joined, (inputs.costs, tally.without_costs(inputs)) if inputs else None)
+        own = tally.demand(inputs, given["unit"])
+        closing = rows_lines(output, own, (inputs.costs, tally.without_costs(inputs)) if inputs else None)
         if output:
-            mark = mark_of(tally, logs, given["unit"]) if is_joined else Mark()
-            for path, octets in {output: text, **of_folder(into, output, mark)}.items():
-                files.open(path).write(octets)
+            mark = mark_of(tally, logs, given["unit"]) if own.is_joined else Mark()
+            write_demand(own, output, into, mark, files)
         else:
-            give(text)
+            give_demand(own)
     for line in [*busiest, *summary(logs, reading, tally, not given["prefix"]), *closing]:
         say(line, err=output is None)
 

@@ -1,4 +1,4 @@
-"""What is known of a demand before its logs are read: regions without costs, and more kinds than hsplan takes."""
+"""What is known of a demand before its logs are read: regions without costs, and more kinds than a table has rows."""
 
 from __future__ import annotations
 
@@ -7,7 +7,7 @@ import os
 import stat
 import tomllib
 from collections import defaultdict
-from collections.abc import Iterator, Sequence
+from collections.abc import Sequence
 
 from hsp.base.numbers import listed
 from hsp.base.programs import Inputs, Programs, Refused
@@ -55,49 +55,19 @@ def _sum(sites: list[Site], costs: Costs) -> int:
     return sum(most_kinds(sites, costs).values())
 
 
-def _cheapest(costs: Costs, most: int) -> Costs:
-    """The costs of only so many sites of each region, the cheapest ones."""
-    return {region: dict(sorted(own.items(), key=lambda pair: pair[1])[:most]) for region, own in costs.items()}
-
-
-def _without(site: str, costs: Costs) -> Costs | None:
-    """The costs without those of a site. None where a region would have no site."""
-    rest = {region: {name: cost for name, cost in own.items() if name != site} for region, own in costs.items()}
-    return rest if all(rest.values()) else None
-
-
-def fewer(sites: list[Site], costs: Costs) -> Iterator[str]:
-    """What brings most kinds, and how many there are without it."""
-    kinds = most_kinds(sites, costs)
-    whole = sum(kinds.values())
-    region = max(kinds, key=lambda name: kinds[name])
-    if len(kinds) > 1:
-        yield f"{whole - kinds[region]:,} remain without region {region}, which brings most"
-    rests = {own.name: _sum(sites, rest) for own in sites if (rest := _without(own.name, costs)) is not None}
-    site = min(rests, key=lambda name: rests[name], default="")
-    if site and rests[site] < whole:
-        yield f"{rests[site]:,} remain without costs to {site}, the site that brings most"
-    for most in range(max(map(len, costs.values())) - 1, 0, -1):
-        rest_of = _sum(sites, _cheapest(costs, most))
-        if rest_of <= MOST_KINDS:
-            yield f"{rest_of:,} remain with costs to only the {most} cheapest sites of each region"
-            return
-
-
-def too_many(inputs: Inputs, programs: Programs, regions: Sequence[str] | None = None) -> str:
-    """Says that a service can have more kinds than hsplan takes, and what brings them; nothing where it can't.
+def many_kinds(inputs: Inputs, programs: Programs, regions: Sequence[str] | None = None) -> str:
+    """Says that a service can have more kinds than a table has rows, and what follows; nothing where it can't.
 
     Only the given regions count, where they are known.
     """
     costs = costs_in(inputs.costs)
     if regions is not None:
         costs = {region: costs[region] for region in regions if region in costs}
-    sites = sites_in(inputs, programs)
-    whole = _sum(sites, costs)
+    whole = _sum(sites_in(inputs, programs), costs)
     if whole <= MOST_KINDS:
         return ""
-    head = f"this service can have {whole:,} kinds of handles, and hsplan takes {MOST_KINDS:,} rows"
-    return f"{head}: {'; '.join(fewer(sites, costs))}"
+    head = f"this service can have {whole:,} kinds of handles, and a table has {MOST_KINDS:,} rows"
+    return f"{head}; where the logs have more, the demand is a log, and is planned by prices"
 
 
 def refuse_unit(inputs: Inputs | None, regions: Sequence[str]) -> None:
@@ -123,5 +93,5 @@ def outlook(inputs: Inputs | None, regions: Sequence[str], folder: str | None, p
             f"{inputs.costs} has no cost yet of {listed(lacking)}; "
             f"a demand of more than {MOST_KINDS:,} rows needs the costs first"
         )
-    many = too_many(inputs, programs, regions or None)
+    many = many_kinds(inputs, programs, regions or None)
     return [*lines, many] if many else lines

@@ -10,13 +10,13 @@ import itertools
 import re
 from collections import Counter
 from collections.abc import Callable, Iterable, Iterator
+from dataclasses import dataclass
 
 from hsp.base.bounds import MOST_HELD, Query, pieces, weight
 from hsp.base.grammar import GREATEST_COUNT, GREATEST_UNIT, HEADERS, MOST_DEMAND_ROWS, MOST_REGIONS, NAME_RULE
 from hsp.base.numbers import listed, some
 from hsp.base.programs import Inputs, Programs, Refused
 from hsp.base.unfit import Unfit
-from hsp.intake.outlook import too_many
 from hsp.intake.prefixes import Prefixes
 from hsp.intake.queries import field_of
 from hsp.plans.service import table
@@ -28,6 +28,8 @@ REMEDIES = {
 }
 # So many pairs are counted in memory, before they are put into a file.
 MOST_PAIRS = 1 << 20
+# So many octets of a log are written at once.
+BLOCK = 1 << 20
 
 
 def rows_of(counts: Iterable[tuple[Query, int]]) -> Iterator[bytes]:
@@ -41,6 +43,19 @@ def _most_first(counts: Counter[Query]) -> list[tuple[Query, int]]:
     return sorted(counts.items(), key=lambda pair: (-pair[1], pair[0]))
 
 
+@dataclass(frozen=True)
+class Demand:
+    """A demand that is to be written: how many rows it has, and its octets in pieces.
+
+    Its rows may be joined by kinds. Where no table holds them, it is a log, and it is said why.
+    """
+
+    rows: int
+    pieces: Callable[[], Iterator[bytes]]
+    is_joined: bool = False
+    why_log: str = ""
+
+
 class Tally:
     """How often each region asks for each handle."""
 
@@ -49,6 +64,10 @@ class Tally:
         self._counts: Counter[Query] = Counter()
         self._octets = 0
         self._spilled: str | None = None
+        # How many rows the file has in which counts were put.
+        self._rows = 0
+        # Whether the counts are sums of kinds.
+        self._is_joined = False
         self.asked = 0
         self.regions: set[bytes] = set()
         # How many handles there are, where all were in memory at once.
@@ -78,21 +97,23 @@ class Tally:
     def take(self, counts: dict[Query, int], is_joined: bool) -> None:
         """Takes the counts of pairs, or the sums of kinds that were joined before."""
         self._counts.update(counts)
+        self._is_joined = is_joined
         if is_joined:
             self._spill()
             self.prefixes = Prefixes()
 
     def _spill(self) -> None:
-        """Puts the counts into a file in their order, since a table is a log of `kinds`."""
+        """Puts the counts into a file in their order, since a table is a log."""
         self.regions.update(region for region, _ in self._counts)
         self.prefixes.add(self._counts)
         self._spilled = self._spilled or self._programs.put(HEADER, ".csv")
         self._programs.add(self._spilled, rows_of(self._counts.items()))
+        self._rows += len(self._counts)
         self._counts.clear()
         self._octets = 0
 
-    def demand(self, inputs: Inputs | None, unit: int | None) -> tuple[bytes, bool]:
-        """The table of demand, and whether rows of one kind were joined. `inputs` are those of the service."""
+    def demand(self, inputs: Inputs | None, unit: int | None) -> Demand:
+        """The demand: a table, a table whose rows are joined by kinds, or a log. `inputs` are those of the service."""
         self.regions.update(region for region, _ in self._counts)
         self.handles = None if self._spilled else len({handle for _, handle in self._counts})
         rows = len(self._counts)
@@ -101,15 +122,28 @@ class Tally:
             self.prefixes.add(self._counts)
             text = HEADER + b"".join(rows_of(_most_first(self._counts)))
             self._accepted(text)
-            return text, False
+            return _of_table(text)
+        if large and unit is None and not self._spilled:
+            return self._log(f"a row has more than {GREATEST_COUNT:,} queries")
         service = self._can_join(inputs)
         self._spill()
         try:
             joined = self._programs.kinds(service, self._spilled or "", unit).encode()
         except Refused as fault:
-            raise Unfit(advice(fault, service, self._programs)) from None
+            if why := _why_log(fault, unit):
+                return self._log(why)
+            raise Unfit(advice(fault)) from None
         self._accepted(joined)
-        return joined, True
+        return _of_table(joined, True)
+
+    def _log(self, why: str) -> Demand:
+        """The demand as a log of all pairs, which hsplan-stream reads once before it is written."""
+        self._spill()
+        path = self._spilled or ""
+        fault = self._programs.fault_of_log(path)
+        if fault:
+            raise Unfit(f"hsplan-stream refuses this demand: {fault}{_remedy(fault)}")
+        return Demand(self._rows, lambda: _blocks(path), self._is_joined, why)
 
     def _can_join(self, inputs: Inputs | None) -> Inputs:
         """Rows are joined by the sites that their regions may use, so these have to be known."""
@@ -145,21 +179,39 @@ class Tally:
             row = re.search(r"row ([0-9]+)", fault.line)
             line = demand.split(b"\n")[int(row[1]) + 1] if row else b""
             where = f" in the row {line.decode('utf-8', 'replace')!r}" if line else ""
-            raise Unfit(f"hsplan refuses this demand: {fault.line}{where}{_remedy(fault)}") from None
+            raise Unfit(f"hsplan refuses this demand: {fault.line}{where}{_remedy(fault.line)}") from None
 
 
-def _remedy(fault: Refused) -> str:
+def _remedy(line: str) -> str:
     """What an operator does about a fault of a demand, where it is one of these."""
-    found = next((remedy for word, remedy in REMEDIES.items() if word in fault.line), "")
+    found = next((remedy for word, remedy in REMEDIES.items() if word in line), "")
     return f"; {found}" if found else ""
 
 
-def advice(fault: Refused, inputs: Inputs, programs: Programs) -> str:
+def _of_table(text: bytes, is_joined: bool = False) -> Demand:
+    """A demand that a table holds."""
+    return Demand(text.count(b"\n") - 1, lambda: iter([text]), is_joined)
+
+
+def _blocks(path: str) -> Iterator[bytes]:
+    """A file in blocks."""
+    with open(path, "rb") as file:
+        while block := file.read(BLOCK):
+            yield block
+
+
+def _why_log(fault: Refused, unit: int | None) -> str:
+    """Why no table holds rows that can't be joined; nothing where another fault is in the way."""
+    if "TooManyKinds" in fault.line:
+        return f"its handles have more than {MOST_DEMAND_ROWS:,} kinds"
+    return f"a kind has more than {GREATEST_COUNT:,} queries" if "CountTooLarge" in fault.line and not unit else ""
+
+
+def advice(fault: Refused) -> str:
     """What an operator does where rows can't be joined."""
     unit = re.search(r"CountTooLarge.* unit ([0-9]+)", fault.line)
     if unit:
         fits = int(unit[1]) <= GREATEST_UNIT
         remedy = f"give --unit {unit[1]}" if fits else "no unit suffices: count the logs in parts"
         return f"a row of the demand has more than {GREATEST_COUNT:,} queries; {remedy}"
-    many = too_many(inputs, programs) if "TooManyKinds" in fault.line else ""
-    return f"hsplan-stream can't join the rows: {fault.line}{'; ' + many if many else _remedy(fault)}"
+    return f"hsplan-stream can't join the rows: {fault.line}{_remedy(fault.line)}"

@@ -1,4 +1,4 @@
-"""How queries are answered by a plan whose demand was joined or counts in units: by `hsplan-stream answer`."""
+"""How `hsplan-stream answer` answers by a plan whose demand was joined, counts in units, or is a log."""
 
 from __future__ import annotations
 
@@ -16,7 +16,8 @@ CAPACITY, SETTINGS = "capacity-in-units.csv", "settings-in-units.toml"
 
 def answer_command(inputs: Inputs, plan: str, unit: int, log: str = "/dev/stdin") -> str:
     """The command that answers a log by a plan. The inputs are those in units."""
-    words = [*inputs.words(), "--plan", plan, *(["--unit", str(unit)] if unit > 1 else []), "--log", log]
+    of_plan = [*inputs.words(), "--plan", plan, *(["--unit", str(unit)] if unit > 1 else [])]
+    words = [*(inputs.priced(plan) if inputs.is_log else of_plan), "--log", log]
     shown = [word if word.startswith("--") else shlex.quote(named(word)) for word in words]
     return " ".join(["hsplan-stream", "answer", *shown])
 
@@ -43,7 +44,7 @@ def in_units(service: Service, programs: Programs, plan: str) -> tuple[Inputs, d
 
 def answer_lines(service: Service, inputs: Inputs, plan: str) -> list[str]:
     """What is kept in units, and the command that answers by the plan; nothing where dispatch answers by it."""
-    if service.mark.is_plain:
+    if service.mark.is_plain and not service.log:
         return []
     lines = []
     if inputs.capacity != service.inputs.capacity:

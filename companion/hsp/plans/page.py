@@ -12,17 +12,22 @@ from dataclasses import dataclass, field
 from typing import TYPE_CHECKING
 
 from hsp import __version__
+from hsp.base.grammar import MOST_DEMAND_ROWS
 from hsp.base.numbers import average, listed, percent, queries_of, signed, some
+from hsp.base.paths import shell_word
 from hsp.base.text import escaped
+from hsp.plans.flows import beside_of
 from hsp.plans.plans import Gain, Host, Planned, Reference, Shortage, above, above_limits, by_shares
 from hsp.plans.service import Row, Server, Service, dotted
-from hsp.plans.sources import Source, now
+from hsp.plans.sources import Source, now, sum_of
 
 if TYPE_CHECKING:
     import jinja2
 
 # So many rows stand in the page; a script shows the others.
 ROWS_SHOWN = 100
+# At most so many classes of a log are in the page, as many as a table has rows.
+CLASSES_SHOWN = MOST_DEMAND_ROWS
 # Above so many servers of a site, only those with something to see are shown, until the reader opens the others.
 SERVERS_SHOWN = 24
 # So many servers of a purchase are named in its sentence; each is drawn below.
@@ -146,8 +151,27 @@ def reserve(servers: list[ServerView], hosts: list[Host]) -> str:
     return f"{said}{first}, {most.label}, is {percent(most.load, most.capacity)} full."
 
 
+def classes_of(plan: Planned) -> list[RowView]:
+    """What the regions of a log send to the servers where queries pay least, those first that cost most above their
+    cheapest site. The servers stand in place of a handle."""
+    service, beside, found = plan.service, beside_of(plan.service), []
+    sites = [at for at, site in enumerate(service.sites) for _ in site.servers]
+    for region, amounts in plan.classes:
+        servers = [service.servers[number] for number in amounts]
+        names = " or ".join(server.label for server in servers)
+        price = service.costs[region, servers[0].site] + beside[servers[0].number]
+        uses = [(sites[it], service.servers[it].id, queries) for it, queries in amounts.items() if queries]
+        added = plan.added_at(region, [(site, queries) for site, _, queries in uses])
+        shown = [(site, f"{site}.{number}", queries) for site, number, queries in uses]
+        if shown:
+            found.append(RowView(region, names, sum(amounts.values()), price, added, shown))
+    return sorted(found, key=lambda row: (-row.added, -row.count))[:CLASSES_SHOWN]
+
+
 def rows_of(plan: Planned) -> list[RowView]:
     """The rows that ask for something, those first that cost most above their cheapest site."""
+    if plan.service.log:
+        return classes_of(plan)
     service, prices = plan.service, plan.service.certificate.prices("row")
     found = []
     for at, own in enumerate(service.rows):
@@ -186,11 +210,20 @@ def changes_between(old: Service, new: Service) -> list[str]:
     said = _changed("capacity of {} {}", _texts(old.capacities), _texts(new.capacities))
     said += _changed("cost {} to {}", _texts(old.costs), _texts(new.costs))
     by_kind = old.mark.is_joined or new.mark.is_joined
+    if old.log or new.log:
+        is_other = _octets_of(old) != _octets_of(new)
+        said += [f"demand: {old.asked:,} → {new.asked:,} queries"] if is_other else []
+        return said + _changed("limit of {}{}", _limits(old), _limits(new))
     rows = [_counts(service, by_kind) for service in (old, new)]
     other = sum(rows[0].get(key) != rows[1].get(key) for key in {*rows[0], *rows[1]})
     if other:
         said.append(f"demand: {some(other, 'kind' if by_kind else 'row')}, {old.asked:,} → {new.asked:,} queries")
     return said + _changed("limit of {}{}", _limits(old), _limits(new))
+
+
+def _octets_of(service: Service) -> str:
+    """The sum of a demand's octets: a log is too long to be compared row by row."""
+    return sum_of(service.inputs.demand)
 
 
 def _counts(service: Service, by_kind: bool) -> Counter[tuple[object, ...]]:
@@ -267,6 +300,7 @@ def render(view: View) -> str:
         "reference": view.reference,
         "unit": f" {view.service.titles.cost}" if view.service.titles.cost else "",
         "is_joined": view.service.mark.is_joined,
+        "where": f"hsp where {shell_word(view.service.folder)}",
         "names": names,
         "bought_shown": BOUGHT_SHOWN,
         "lacking": lacking(view.service, view.short) if view.short else [],

@@ -12,14 +12,20 @@ from typing import Any
 
 from hsp.base.grammar import GREATEST_COST, HEADERS, MOST_SERVERS, MOST_SITES
 from hsp.base.numbers import some
-from hsp.base.programs import Bound, Certificate, Inputs, Missing, Programs
+from hsp.base.programs import Bound, Certificate, Class, Inputs, Missing, Programs
 from hsp.base.units import hosts_text, settings_text
+from hsp.plans.flows import classes_of, flows_of, loads_of, servers_of
+from hsp.plans.flows import shares_of as shares_of_classes
+from hsp.plans.joined import joined
 from hsp.plans.service import Row, Server, Service, dotted
 
 # At most so many full servers are asked what room there saves, those with the greatest prices.
 MOST_GAINS = 40
 
 Shares = dict[tuple[str, int], int]
+# How many queries of a region may go to a server of a site.
+Leads = dict[tuple[str, int, int], int]
+DIFFERS = "the uses by place differ from hsplan's report of {}: please report this with your files"
 
 
 @dataclass(frozen=True)
@@ -67,8 +73,11 @@ class Planned:
     regions: dict[str, tuple[int, int]]
     shares: Shares
     uses: dict[int, list[tuple[int, int]]]
+    leads: Leads
     hosts: list[Host]
     gains: list[Gain] = field(default_factory=list)
+    # Of a log, in place of uses: what each region sends to the servers where its queries pay least.
+    classes: list[Class] = field(default_factory=list)
 
     @property
     def cost(self) -> int:
@@ -84,23 +93,27 @@ class Planned:
 
     def added(self, row: int) -> int:
         """What a row costs above its cheapest site."""
-        own = self.service.rows[row]
-        costs = {
-            at: self.service.costs[own.region, self.service.sites[at].name]
-            for at in self.service.sites_for(own.region)
-        }
-        return sum(queries * (costs[site] - min(costs.values())) for site, queries in self.uses.get(row, []))
+        return self.added_at(self.service.rows[row].region, self.uses.get(row, []))
+
+    def added_at(self, region: str, uses: Iterable[tuple[int, int]]) -> int:
+        """What queries of a region at some sites cost above its cheapest site."""
+        costs = {at: self.service.costs[region, self.service.sites[at].name] for at in self.service.sites_for(region)}
+        return sum(queries * (costs[site] - min(costs.values())) for site, queries in uses)
 
 
 @dataclass(frozen=True)
 class Shortage:
-    """Rows that ask for more than the servers that they may use can take."""
+    """Rows that ask for more than the servers that they may use can take, and what those of each region ask for.
+
+    Of a log the rows aren't listed.
+    """
 
     demand: int
     capacity: int
     rows: list[Row]
     servers: list[Server]
     stranded: list[str]
+    regions: dict[str, int]
 
     @property
     def lack(self) -> int:
@@ -134,8 +147,19 @@ def _hosts(service: Service, loads: list[int]) -> list[Host]:
     return found
 
 
+def _leads(service: Service) -> Leads:
+    """Which servers the queries of each region may use, of a table."""
+    leads: Counter[tuple[str, int, int]] = Counter()
+    for row in service.rows:
+        for site in service.sites_for(row.region):
+            leads[row.region, site, service.server(site, row.handle).number] += row.count
+    return leads
+
+
 def planned(service: Service, programs: Programs) -> Planned:
     """The plan of a service. Its uses, added up by places, have to be the loads of hsplan's report."""
+    if service.log:
+        return _priced(service, programs)
     reports, bound = programs.loads(service.inputs, service.plan_file)
     uses: dict[int, list[tuple[int, int]]] = {}
     sums = [0] * len(service.servers)
@@ -144,7 +168,7 @@ def planned(service: Service, programs: Programs) -> Planned:
         sums[service.server(use.site, service.rows[use.row].handle).number] += use.queries
     loads = [report.load for report in reports]
     if sums != loads:
-        raise Missing("the uses by place differ from hsplan's report of loads: please report this with your files")
+        raise Missing(DIFFERS.format("loads"))
     return Planned(
         service,
         loads,
@@ -153,20 +177,36 @@ def planned(service: Service, programs: Programs) -> Planned:
         programs.regions(service.inputs, service.plan_file),
         _shares(service, service.certificate),
         uses,
+        _leads(service),
         _hosts(service, loads),
     )
+
+
+def _priced(service: Service, programs: Programs) -> Planned:
+    """The plan of a log, whose sums have to be those of both reports of hsplan-stream."""
+    reports, bound = programs.loads(service.inputs, service.plan_file)
+    regions = programs.regions(service.inputs, service.plan_file)
+    flows, loads = flows_of(service, programs), [report.load for report in reports]
+    classes = classes_of(service, flows)
+    if loads_of(service, classes) != loads:
+        raise Missing(DIFFERS.format("loads"))
+    if service.log and {region: asked for region, (asked, _) in regions.items()} != service.log.regions:
+        raise Missing(DIFFERS.format("regions"))
+    shares, prices = shares_of_classes(service, classes), [report.price for report in reports]
+    hosts = _hosts(service, loads)
+    return Planned(service, loads, prices, bound, regions, shares, {}, flows.leads, hosts, classes=classes)
 
 
 def cheapest(service: Service, programs: Programs) -> Reference | None:
     """Where all queries go to their cheapest site: the plan without any limit. None where a region has no site."""
     everywhere = {key: service.boundless for key in service.capacities}
     settings = programs.put(settings_text(service.settings), ".toml")
-    inputs = service.inputs.but(settings=settings, capacity=capacity_file(programs, everywhere))
+    inputs = joined(service, programs).but(settings=settings, capacity=capacity_file(programs, everywhere))
     certificate, plan = programs.plan(inputs)
     if not certificate.is_plan:
         return None
     loads, _ = programs.loads(inputs, plan)
-    shares = _shares(service, certificate)
+    shares = {} if service.log else _shares(service, certificate)
     regions = programs.regions(inputs, plan)
     words = "if all asked their cheapest site"
     return Reference(words, certificate.cost, service.asked, [load.load for load in loads], regions, shares)
@@ -174,9 +214,8 @@ def cheapest(service: Service, programs: Programs) -> Reference | None:
 
 def _with_room(programs: Programs, service: Service, server: Server, room: int) -> Inputs:
     """The inputs where a server can take `room` queries."""
-    return service.inputs.but(
-        capacity=capacity_file(programs, {**service.capacities, (server.site, server.id): room})
-    )
+    capacity = capacity_file(programs, {**service.capacities, (server.site, server.id): room})
+    return joined(service, programs).but(capacity=capacity)
 
 
 def _gain(programs: Programs, plan: Planned, server: Server) -> Gain:
@@ -205,28 +244,41 @@ def with_gains(plan: Planned, programs: Programs, done: Callable[[], None] = lam
 
 def shortage(service: Service, programs: Programs) -> Shortage:
     """Who lacks what, and the servers that these rows may use."""
-    reached = programs.reached(service.inputs, service.plan_file)
-    certificate = service.certificate
-    rows = [service.rows[number] for number in certificate.rows]
-    stranded = sorted({row.region for row in rows if not service.sites_for(row.region)})
-    servers = [server for server in service.servers if (server.site, server.id) in reached]
-    return Shortage(certificate.demand, certificate.capacity, rows, servers, stranded)
+    certificate, rows = service.certificate, list[Row]()
+    asked: Counter[str] = Counter()
+    if service.log:
+        servers, asked = servers_of(service), flows_of(service, programs).caught
+    else:
+        reached = programs.reached(service.inputs, service.plan_file)
+        servers = [server for server in service.servers if (server.site, server.id) in reached]
+        rows = [service.rows[number] for number in certificate.rows]
+        for row in rows:
+            asked[row.region] += row.count
+    if sum(asked.values()) != certificate.demand:
+        raise Missing(DIFFERS.format("the shortage"))
+    stranded = sorted(region for region in asked if asked[region] and not service.sites_for(region))
+    return Shortage(certificate.demand, certificate.capacity, rows, servers, stranded, +asked)
 
 
-def _twinned(service: Service, programs: Programs, cost: Callable[[int], int], dear: int) -> Certificate:
-    """A plan where each site has a twin without limits, at a cost that is `dear` higher."""
+def _twinned(
+    service: Service, programs: Programs, cost: Callable[[int], int], dear: int
+) -> tuple[Certificate, Counter[Server]]:
+    """A plan where each site has a twin without limits, at a cost that is `dear` higher, and the loads of twins."""
     sites = settings_text(service.settings) + settings_text(service.settings, "hsp-twin-")
     rows: list[tuple[str, str, int]] = []
     for (region, site), price in service.costs.items():
         rows += [(region, site, cost(price)), (region, f"hsp-twin-{site}", cost(price) + dear)]
     room = dict(service.capacities)
     room.update({(f"hsp-twin-{site}", at): service.boundless for site, at in service.capacities})
-    inputs = service.inputs.but(
+    inputs = joined(service, programs).but(
         settings=programs.put(sites + hosts_text(service.settings), ".toml"),
         costs=programs.put_table(HEADERS["costs"], rows),
         capacity=capacity_file(programs, room),
     )
-    return programs.plan(inputs)[0]
+    certificate, path = programs.plan(inputs)
+    loads = programs.loads(inputs, path)[0] if certificate.is_plan else []
+    own = zip(service.servers, loads[len(service.servers) :])
+    return certificate, Counter({server: load.load for server, load in own if load.load})
 
 
 def least_purchase(service: Service, programs: Programs) -> dict[Server, int] | None:
@@ -235,15 +287,9 @@ def least_purchase(service: Service, programs: Programs) -> dict[Server, int] | 
     dearest = max(service.costs.values(), default=0)
     if 2 * len(service.sites) > MOST_SITES or 2 * len(service.servers) > MOST_SERVERS or dearest * 20 > GREATEST_COST:
         return None
-    least = _twinned(service, programs, lambda _: 0, 1)
-    best = _twinned(service, programs, lambda cost: cost, GREATEST_COST - dearest)
-    if not least.is_plan or not best.is_plan:
-        return None
-    bought: Counter[Server] = Counter()
-    for use in best.uses:
-        if use.site >= len(service.sites):
-            bought[service.server(use.site - len(service.sites), service.rows[use.row].handle)] += use.queries
-    return dict(bought) if sum(bought.values()) == least.cost else None
+    least, _ = _twinned(service, programs, lambda _: 0, 1)
+    best, bought = _twinned(service, programs, lambda cost: cost, GREATEST_COST - dearest)
+    return dict(bought) if least.is_plan and best.is_plan and bought.total() == least.cost else None
 
 
 def with_purchase(service: Service, programs: Programs, bought: dict[Server, int]) -> Service | None:
@@ -251,8 +297,9 @@ def with_purchase(service: Service, programs: Programs, bought: dict[Server, int
     room = dict(service.capacities)
     for server, more in bought.items():
         room[server.site, server.id] += more
-    inputs = service.inputs.but(capacity=capacity_file(programs, room))
-    certificate, path = programs.plan(inputs)
+    capacity = capacity_file(programs, room)
+    inputs = service.inputs.but(capacity=capacity)
+    certificate, path = programs.plan(joined(service, programs).but(capacity=capacity))
     if not certificate.is_plan:
         return None
     return replace(service, inputs=inputs, capacities=room, certificate=certificate, plan_file=path)
@@ -306,12 +353,8 @@ class ByShares:
 def by_shares(plan: Planned) -> ByShares:
     """What the shares of regions do by themselves. A share is a mean over handles, and a handle has one server."""
     service = plan.service
-    counts: Counter[tuple[str, int, int]] = Counter()
-    for row in service.rows:
-        for site in service.sites_for(row.region):
-            counts[row.region, site, service.server(site, row.handle).number] += row.count
     loads = [Fraction(0)] * len(service.servers)
-    for (region, site, server), count in counts.items():
+    for (region, site, server), count in plan.leads.items():
         asked = plan.regions[region][0]
         if asked:
             loads[server] += Fraction(count * plan.shares.get((region, site), 0), asked)

@@ -19,7 +19,8 @@ from hsp.base.paths import path_in
 from hsp.base.programs import BOUNDLESS, Certificate, Inputs, Missing, Programs, Refused
 from hsp.base.text import escaped
 from hsp.base.unfit import Unfit
-from hsp.plans.marks import Mark, mark_in, titles_of
+from hsp.plans.counted import Counted, counted_in, is_log
+from hsp.plans.marks import TITLES, Mark, mark_in, titles_of
 
 # The conventional names of the files.
 NAMES = {"settings": "settings.toml", "demand": "demand.csv", "costs": "costs.csv", "capacity": "capacity.csv"}
@@ -73,7 +74,10 @@ class Titles:
 
 @dataclass(frozen=True)
 class Service:
-    """All that is read from a folder, and its certificate."""
+    """All that is read from a folder, and its certificate.
+
+    Of a demand that no table holds, only the sums are read: it has no rows here, and its plan is one by prices.
+    """
 
     folder: str
     titles: Titles
@@ -87,11 +91,22 @@ class Service:
     plan_file: str
     places: dict[tuple[str, str], int] = field(repr=False)
     mark: Mark = Mark()
+    log: Counted | None = None
 
     @property
     def unit(self) -> int:
         """How many queries a count of the demand stands for."""
         return self.inputs.unit
+
+    @property
+    def rows_are(self) -> str:
+        """What a row stands for: a handle, all handles of a kind, or a handle of a log."""
+        return "log" if self.log else self.mark.rows
+
+    @property
+    def is_empty(self) -> bool:
+        """Whether the demand has no row."""
+        return not self.rows and not self.log
 
     @property
     def boundless(self) -> int:
@@ -100,7 +115,9 @@ class Service:
 
     @property
     def rows_words(self) -> str:
-        """How many handles there are, or how many kinds of them."""
+        """How many handles there are, or how many kinds of them; of a log, how many rows."""
+        if self.log:
+            return some(self.log.rows, "row")
         if not self.mark.is_joined:
             return some(self.handles, "handle")
         handles = some(self.mark.handles, "handle") if self.mark.handles else "handles"
@@ -134,7 +151,7 @@ class Service:
 
     @property
     def regions(self) -> list[str]:
-        return list(dict.fromkeys(row.region for row in self.rows))
+        return list(self.log.regions) if self.log else list(dict.fromkeys(row.region for row in self.rows))
 
     @property
     def handles(self) -> int:
@@ -144,7 +161,7 @@ class Service:
     @property
     def asked(self) -> int:
         """How many queries there are."""
-        return sum(row.count for row in self.rows)
+        return sum(self.log.regions.values()) if self.log else sum(row.count for row in self.rows)
 
     def capacity(self, server: Server) -> int:
         return self.capacities[server.site, server.id]
@@ -186,7 +203,11 @@ def inputs_in(folder: str, given: dict[str, str | None], unit: int) -> Inputs:
     beside = path_in(folder, VALUES)
     if not values and os.path.isfile(beside):
         values = beside
-    return Inputs(**files, values=values, unit=unit)
+    own = Inputs(**files, values=values, unit=unit, is_log=is_log(files["demand"]))
+    if own.is_log and unit > 1:
+        remedy = f"take unit out of [demand] in {path_in(folder, TITLES)}, and give the counts in queries"
+        raise Unfit(f"{own.demand}: no table has so many rows or such counts, and a log counts queries; {remedy}")
+    return own
 
 
 def newer_than(files: Iterable[str | None], plan: str) -> list[str]:
@@ -287,8 +308,10 @@ def service_of(folder: str, programs: Programs, inputs: Inputs, titles: Titles, 
     """Reads files, as `read_service` does."""
     certificate, plan_file = programs.plan(inputs)
     settings = settings_in(inputs.settings)
-    rows = [Row(region, handle, inputs.unit * int(count)) for region, handle, count in table(inputs.demand)]
-    _in_one_line(inputs.demand, rows)
+    rows: list[Row] = []
+    if not inputs.is_log:
+        rows = [Row(region, handle, inputs.unit * int(count)) for region, handle, count in table(inputs.demand)]
+        _in_one_line(inputs.demand, rows)
     return Service(
         folder,
         titles,
@@ -300,8 +323,9 @@ def service_of(folder: str, programs: Programs, inputs: Inputs, titles: Titles, 
         {(site, int(server)): int(room) for site, server, room in table(inputs.capacity)},
         certificate,
         plan_file,
-        programs.places(inputs, dict.fromkeys(row.handle for row in rows)),
+        {} if inputs.is_log else programs.places(inputs, dict.fromkeys(row.handle for row in rows)),
         mark,
+        counted_in(inputs.demand) if inputs.is_log else None,
     )
 
 

@@ -30,6 +30,12 @@ def now() -> str:
     return f"{moment.day} {moment:%B %Y, %H:%M} UTC"
 
 
+def sum_of(path: str) -> str:
+    """The SHA-256 of a file."""
+    with open(path, "rb") as file:
+        return hashlib.file_digest(file, "sha256").hexdigest()
+
+
 def sources_of(folder: str, inputs: Inputs) -> list[Source]:
     """The files of a plan, and the titles where the folder has them."""
     titles = os.path.join(folder, TITLES)
@@ -37,6 +43,5 @@ def sources_of(folder: str, inputs: Inputs) -> list[Source]:
     found = []
     for path in [*paths, titles if os.path.isfile(titles) else None]:
         if path:
-            with open(path, "rb") as file:
-                found.append(Source(os.path.basename(path), hashlib.file_digest(file, "sha256").hexdigest()))
+            found.append(Source(os.path.basename(path), sum_of(path)))
     return found

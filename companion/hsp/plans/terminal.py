@@ -130,8 +130,11 @@ def shortage_lines(
 
 
 def _who(service: Service, short: Shortage) -> str:
-    """The handles that lack room, or the kinds of them, those first that ask for most."""
+    """The handles that lack room, or the kinds of them, those first that ask for most; of a log the regions."""
     asked: Counter[str] = Counter()
+    if service.log:
+        most = sorted(short.regions.items(), key=lambda pair: -pair[1])
+        return f"rows of {some(len(most), 'region')}: {listed(f'{region} ({count:,})' for region, count in most)}"
     for row in short.rows:
         name = f"{service.like(row.handle)} of {row.region}" if service.mark.is_joined else row.handle
         asked[name] += row.count

@@ -12,6 +12,8 @@ from hsp.base.numbers import average, listed, queries_of, signed
 from hsp.base.programs import Missing, Programs
 from hsp.base.spelling import near
 from hsp.base.text import bold, colored
+from hsp.plans.counted import grown, more
+from hsp.plans.joined import joined
 from hsp.plans.plans import capacity_file
 from hsp.plans.service import Server, Service
 
@@ -40,7 +42,7 @@ class Changes:
         self.service, self.programs, self.done = service, programs, done
 
     def planned(self, variant: str, what: str, room: int = 0, **changed: str) -> Case:
-        certificate, _ = self.programs.plan(self.service.inputs.but(**changed))
+        certificate, _ = self.programs.plan(joined(self.service, self.programs).but(**changed))
         self.done()
         if not certificate.is_plan:
             return Case(variant, what, room, None, None, certificate.demand - certificate.capacity)
@@ -59,13 +61,15 @@ class Changes:
         return self.planned(LOST, site, costs=self.programs.put_table(HEADERS["costs"], costs))
 
     def with_demand(self, percent: float) -> Case:
-        """Each row asks for more queries, rounded up to units."""
-        unit = self.service.unit
-        rows = (
-            (row.region, row.handle, -int(-row.count * (100 + percent) // (100 * unit))) for row in self.service.rows
-        )
-        what = f"{percent:g}% more demand"
-        return self.planned(DEMAND, what, demand=self.programs.put_table(HEADERS["demand"], rows))
+        """Each row asks for more queries, rounded up to units; those of a log all together."""
+        service, what = self.service, f"{percent:g}% more demand"
+        if service.log:
+            path = self.programs.put(b"", ".csv")
+            self.programs.add(path, grown(joined(service, self.programs).demand, percent))
+        else:
+            rows = ((row.region, row.handle, more(row.count, percent, service.unit)) for row in service.rows)
+            path = self.programs.put_table(HEADERS["demand"], rows)
+        return self.planned(DEMAND, what, demand=path)
 
 
 def full_servers(service: Service) -> list[Server]:
@@ -79,14 +83,14 @@ def full_servers(service: Service) -> list[Server]:
 def standard(changes: Changes, step: float) -> list[Case]:
     """A step of room at each full server, each site lost, and 10% more demand."""
     service = changes.service
-    more = []
+    wider = []
     for server in full_servers(service):
         room = service.capacity(server)
-        more.append(changes.with_room(MORE, server, room + max(service.unit, round(room * step / 100))))
-    more.sort(key=lambda case: (case.cost is None, case.cost or case.lack))
+        wider.append(changes.with_room(MORE, server, room + max(service.unit, round(room * step / 100))))
+    wider.sort(key=lambda case: (case.cost is None, case.cost or case.lack))
     lost = [changes.without(site.name) for site in service.sites]
     lost.sort(key=lambda case: (case.cost is not None, -(case.cost or case.lack)))
-    return more + lost + [changes.with_demand(10)]
+    return wider + lost + [changes.with_demand(10)]
 
 
 def server_named(service: Service, words: str) -> Server:

@@ -14,15 +14,15 @@ from hsp.base.files import locked, refuse_clashes, replace_all
 from hsp.base.groups import Group
 from hsp.base.numbers import listed, some
 from hsp.base.paths import path_in, shell_word
-from hsp.base.programs import Missing, Programs
+from hsp.base.programs import Missing, Prices, Programs
 from hsp.base.text import say
 from hsp.base.unfit import Unfit, shown
 from hsp.doctor.service_folder import read_in, sound, with_files
-from hsp.plans.marks import TITLES
+from hsp.intake.addresses import targets_of, twins
+from hsp.plans.marks import TITLES, titles_of
 from hsp.plans.proxied import CHECK, PROXY, Proxied, is_address, network_of, proxied_in
 from hsp.plans.service import Service
-from hsp.proxy.addresses import targets_of, twins
-from hsp.proxy.config import CONFIG, LONGEST_SOCKET, SOCKET, Frame, files_of, refuse_others
+from hsp.proxy.config import CONFIG, LONGEST_SOCKET, SOCKET, Frame, files_of, quoted, refuse_others
 from hsp.proxy.kinds import shares_of
 from hsp.proxy.networks import Map, map_of
 
@@ -85,6 +85,7 @@ def frame_of(words: Words, said: Proxied) -> Frame:
     if said.check and not CHECK.fullmatch(said.check):
         raise Unfit(f"check: {shown(said.check)} is no path such as /api/handles/0.NA/20.500.1234")
     socket = os.path.abspath(words.socket or os.path.join(words.into, SOCKET))
+    quoted(socket)  # Refuses what no configuration can hold.
     if len(os.fsencode(socket)) > LONGEST_SOCKET:
         raise Unfit(f"{socket}: a socket has a path of at most {LONGEST_SOCKET} octets; give --socket")
     certificate = os.path.abspath(words.certificate) if words.certificate else ""
@@ -121,6 +122,14 @@ def warnings(service: Service, networks: Map, same: list[list[str]]) -> list[str
     return lines + [f"{listed(names)} have one URL, so nothing tells them apart" for names in same]
 
 
+def _answers(service: Service) -> str:
+    """By what HAProxy answers: kinds of a table, or prices and classes of a log."""
+    certificate = service.certificate
+    if isinstance(certificate, Prices):
+        return f"prices and {some(len(certificate.classes), 'class', 'classes')}"
+    return some(len(shares_of(service)), "kind")
+
+
 @export.command()
 @with_files
 @click.option(
@@ -155,11 +164,12 @@ def haproxy(folder: str, **given: Any) -> None:
     with locked([words.into]):
         refuse_others(words.into, contents)
         replace_all({path_in(words.into, name): octets for name, octets in contents.items()})
-    for line in warnings(service, networks, twins(targets)):
+    is_doctored = PROXY in titles_of(folder)  # then the doctor has named servers of one URL
+    for line in warnings(service, networks, [] if is_doctored else twins(targets)):
         say(f"hsp: {line}", err=True)
     config = path_in(words.into, CONFIG)
     sizes = [
-        some(len(shares_of(service)), "kind"),
+        _answers(service),
         some(len(targets), "server"),
         some(networks.number, "network"),
     ]

@@ -13,21 +13,23 @@ from dataclasses import dataclass
 import jinja2
 
 from hsp.base.bounds import whole
-from hsp.base.grammar import GREATEST_COST
+from hsp.base.grammar import GREATEST_PRICE
 from hsp.base.paths import path_in, shell_word
 from hsp.base.programs import Missing
 from hsp.base.unfit import Unfit
+from hsp.intake.addresses import Target
 from hsp.plans.service import Service, Site
-from hsp.proxy.addresses import Target
 from hsp.proxy.kinds import LOTS, cost_lines, plan_lines, server_lines, shares_of, site_lines
 from hsp.proxy.networks import trusted_lines
+from hsp.proxy.pricing import class_lines, price_lines
 
-CONFIG, SOCKET, PLAN = "haproxy.cfg", "admin.sock", "plan.map"
+CONFIG, SOCKET, PLAN, PRICES = "haproxy.cfg", "admin.sock", "plan.map", "prices.map"
+SITES, COSTS, SERVERS = "sites.map", "costs.map", "servers.map"
 # What each hash option takes of a handle, by converters of HAProxy.
 PARTS = {0: "var(txn.handle),field(1,/)", 1: "var(txn.handle),field(2,/,0)", 2: "var(txn.handle)"}
-# What being down adds to a cost, and a cost above all others.
-DOWN = 10 * GREATEST_COST
-MOST = 100 * GREATEST_COST
+# What being down adds to what a query pays, and an amount above all others. It may pay two prices beside the cost.
+DOWN = 10 * GREATEST_PRICE
+MOST = 100 * GREATEST_PRICE
 # The longest path of a socket, less what HAProxy adds to it while it starts: its process behind a point, and `.tmp`.
 LONGEST_SOCKET = 95
 RUNTIME = re.compile(r"^  stats socket (.+) mode 600 level admin$", re.MULTILINE)
@@ -96,6 +98,11 @@ def place_of(at: int, site: Site) -> str:
     return f"set-var(txn.place{at}) var(txn.hash{site.option}),mod({len(site.servers)})"
 
 
+def line_of_server(target: Target) -> str:
+    """The line of a server in its backend, up to how it is asked by TLS."""
+    return f"  server {target.name} {target.url.host}:{target.url.port} check"
+
+
 def config_of(service: Service, targets: list[Target], frame: Frame) -> str:
     """The configuration of HAProxy."""
     options = sorted({site.option for site in service.sites})
@@ -108,11 +115,13 @@ def config_of(service: Service, targets: list[Target], frame: Frame) -> str:
             hashes={option: PARTS[option] for option in options},
             names=any(target.url.is_name for target in targets),
             secured=_secured,
+            line_of_server=line_of_server,
             place_of=place_of,
             frame=frame,
             socket=quoted(frame.socket),
             tls=f" ssl crt {quoted(frame.certificate)} alpn h2,http/1.1" if frame.certificate else "",
             lots=LOTS,
+            by_prices=service.log is not None,
             down=DOWN,
             most=MOST,
         )
@@ -133,16 +142,23 @@ def maps_of(service: Service) -> dict[str, list[str]]:
     """The maps that say which servers a kind may have, and which of them is the cheapest."""
     regions = dict.fromkeys(region for region, _ in service.costs)
     return {
-        "sites.map": site_lines(service, regions),
-        "costs.map": cost_lines(service),
-        "servers.map": server_lines(service),
+        SITES: site_lines(service, regions),
+        COSTS: cost_lines(service),
+        SERVERS: server_lines(service),
     }
+
+
+def answers_of(service: Service) -> dict[str, list[str]]:
+    """The maps of the plan: the servers of each kind; or prices and classes, where no table holds the demand."""
+    if service.log:
+        return {PLAN: class_lines(service), PRICES: price_lines(service)}
+    return {PLAN: plan_lines(shares_of(service))}
 
 
 def files_of(service: Service, targets: list[Target], networks: list[str], frame: Frame) -> dict[str, bytes]:
     """All files, by their names."""
     lines = {
-        PLAN: plan_lines(shares_of(service)),
+        **answers_of(service),
         "regions.map": networks,
         **maps_of(service),
         "trusted.map": trusted_lines(frame.trusted),
@@ -157,21 +173,33 @@ def socket_in(folder: str) -> str:
     path = path_in(folder, CONFIG)
     if not os.path.isfile(path):
         raise Missing(f"{path}: no such file; hsp export haproxy writes it")
-    with open(path, encoding="utf-8") as file:
+    with open(path, encoding="utf-8", errors="replace") as file:
         match = RUNTIME.search(file.read())
     if not match:
         raise Unfit(f"{path}: hsp export hasn't written it so: it has no socket of HAProxy's runtime")
     return shlex.split(match[1])[0]
 
 
-def refuse_other_sites(folder: str, service: Service) -> None:
-    """Refuses a service whose handles have other kinds than those of the files of a folder."""
-    wanted = {name: sealed(text_of(lines)) for name, lines in maps_of(service).items()}
-    differs = [name for name, octets in wanted.items() if whole(path_in(folder, name)) != octets]
-    config = whole(path_in(folder, CONFIG)).decode()
-    if differs or not all(place_of(at, site) in config for at, site in enumerate(service.sites)):
-        remedy = f"export it again: hsp export haproxy {shell_word(service.folder)} --into {shell_word(folder)}"
-        raise Unfit(f"{folder}: it was written from other sites, servers or costs; {remedy}; then reload HAProxy")
+def _is_of(config: str, target: Target) -> bool:
+    """Whether a configuration has a server at the same URL."""
+    begin = config.find(f"\nbackend {target.name}\n")
+    backend = config[begin : config.find("\n\n", begin + 1)] if begin >= 0 else ""
+    ways = (f" location {target.url.text}%[pathq]\n", f" set-header host {target.url.authority}\n")
+    return line_of_server(target) in backend and any(way in backend for way in ways)
+
+
+def refuse_other_sites(folder: str, service: Service, targets: Iterable[Target]) -> None:
+    """Refuses a service whose handles have other kinds, or whose servers stand elsewhere, than the files of a folder
+    have it. Other costs and capacities need no other files."""
+    config = whole(path_in(folder, CONFIG)).decode("utf-8", "replace")
+    is_same = whole(path_in(folder, SERVERS)) == sealed(text_of(server_lines(service)))
+    places = (place_of(at, site) in config for at, site in enumerate(service.sites))
+    remedy = f"export it again: hsp export haproxy {shell_word(service.folder)} --into {shell_word(folder)}"
+    if not is_same or not all(places) or not all(_is_of(config, target) for target in targets):
+        raise Unfit(f"{folder}: it was written from other sites or servers; {remedy}; then reload HAProxy")
+    if (f"({PRICES}" in config) != (service.log is not None):
+        other = "a table, and the demand is a log" if service.log else "a log, and the demand is a table"
+        raise Unfit(f"{folder}: it was written from {other}; {remedy}; then reload HAProxy")
 
 
 def refuse_others(folder: str, names: Mapping[str, bytes]) -> None:

@@ -3,6 +3,7 @@
 from __future__ import annotations
 
 from collections import Counter
+from collections.abc import Iterable
 from dataclasses import dataclass
 
 from hsp.proxy.runtime import Reading
@@ -19,6 +20,8 @@ class Counts:
     run: str
     seen: dict[str, int]
     taken: dict[str, int]
+    # When that was, in seconds since 1970.
+    at: float
 
     @property
     def ends(self) -> float:
@@ -30,20 +33,28 @@ class Counts:
         return min(1.0, max(0.0, (self.ends - at) / self.length))
 
 
-def _fresh(before: Counts | None, now: Reading) -> dict[str, int]:
-    """What was given since it was read before. A run of HAProxy begins at 0."""
+def _fresh(before: Counts | None, now: Reading, begins: float) -> Counter[str]:
+    """What was given since a period began, and since the last reading. Where that was in an earlier period, queries
+    are taken to have come evenly. A run of HAProxy begins at 0."""
     is_same = before is not None and before.run == now.run
-    seen = before.seen if before and is_same else {}
-    return {name: count - seen.get(name, 0) for name, count in now.counts.items() if count >= seen.get(name, 0)}
+    since, seen = (before.at, before.seen) if before and is_same else (now.began, {})
+    share = 1.0 if since >= begins else (now.at - begins) / (now.at - since)
+    more = {name: round(share * (count - seen.get(name, 0))) for name, count in now.counts.items()}
+    return Counter({name: number for name, number in more.items() if number > 0})
 
 
 def counted(before: Counts | None, now: Reading, length: float) -> Counts:
-    """The counts after another reading. At the turn of a period they begin anew. Where nothing was read before, or in
-    another period, HAProxy's own counts are of this period only if it has begun since then."""
+    """The counts after another reading. They begin anew at the turn of a period, and with another length."""
     period = int(now.at // length)
-    is_same = before is not None and (before.period, before.length) == (period, length)
-    taken = Counter(before.taken if before and is_same else {})
-    is_new = before is None or before.run != now.run
-    if is_same or (is_new and now.began >= period * length):
-        taken.update(_fresh(before, now))
-    return Counts(period, length, now.run, now.counts, dict(taken))
+    known = before if before and before.length == length else None
+    taken = Counter(known.taken) if known and known.period == period else Counter[str]()
+    return Counts(
+        period, length, now.run, now.counts, dict(taken + _fresh(known, now, period * length)), now.at
+    )
+
+
+def sum_of(counts: Iterable[Counts], period: int, length: float) -> Counts:
+    """What all proxies gave each server in a period. What was read last in another period is none of it."""
+    own = [each for each in counts if (each.period, each.length) == (period, length)]
+    taken = sum((Counter(each.taken) for each in own), Counter[str]())
+    return Counts(period, length, "", {}, dict(taken), max((each.at for each in own), default=0.0))

@@ -11,8 +11,8 @@ from collections.abc import Iterable, Mapping
 from dataclasses import replace
 
 from hsp.base.programs import Use
+from hsp.intake.addresses import name_of
 from hsp.plans.service import Row, Server, Service
-from hsp.proxy.addresses import name_of
 
 # One of so many lots is drawn for a request.
 LOTS = 1_000_000

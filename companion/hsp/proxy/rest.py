@@ -12,17 +12,20 @@ from collections.abc import Collection, Iterable, Mapping
 from dataclasses import dataclass, replace
 
 from hsp.base.grammar import GREATEST_CAPACITY, GREATEST_COUNT, HEADERS, MOST_SERVERS, MOST_SITES
-from hsp.base.numbers import some
-from hsp.base.programs import Certificate, Inputs, Missing, Programs, Use
+from hsp.base.programs import Certificate, Inputs, Missing, Programs
 from hsp.base.units import hosts_text, settings_text
+from hsp.intake.addresses import name_of
 from hsp.intake.records import ServerRecord, SiteRecord
 from hsp.plans.plans import capacity_file, servers_at
 from hsp.plans.service import Row, Server, Service
-from hsp.proxy.addresses import name_of
+from hsp.proxy.config import PLAN, PRICES
 from hsp.proxy.kinds import key_of, plan_lines, shares_by, shares_of
+from hsp.proxy.lowering import Lowering
 
 # A site that is nowhere, for what is left out.
 NOWHERE = "hsp-nowhere"
+# How many queries of which row are left out.
+_Lacking = dict[int, int]
 
 
 @dataclass(frozen=True)
@@ -37,6 +40,13 @@ class Rest:
     cost: int
     # What each server gets in the rest, by its name.
     loads: dict[str, int]
+    # The lines of the map of prices, where no table holds the demand. The other map has classes then.
+    prices: list[str] | None = None
+
+    @property
+    def maps(self) -> dict[str, list[str]]:
+        """The lines of the maps, by the names of their files."""
+        return {PLAN: self.lines, **({} if self.prices is None else {PRICES: self.prices})}
 
 
 @dataclass(frozen=True)
@@ -67,6 +77,10 @@ def _in_parts(kinds: list[Row], left: float) -> tuple[_Parts, list[Row]]:
     ]
 
 
+def _demand(rows: Iterable[Row], own: Programs) -> str:
+    return own.put_table(HEADERS["demand"], ((row.region, row.handle, row.count) for row in rows))
+
+
 def _inputs(service: Service, rows: Iterable[Row], room: Mapping[str, int], parts: _Parts, own: Programs) -> Inputs:
     """The files of the rest. None of the folder's is read again, since it may be edited meanwhile."""
     capacities = {(server.site, server.id): parts.room(room[name_of(server)]) for server in service.servers}
@@ -74,7 +88,7 @@ def _inputs(service: Service, rows: Iterable[Row], room: Mapping[str, int], part
     costs = ((region, site, cost) for (region, site), cost in service.costs.items())
     return Inputs(
         own.put(settings_text(service.settings) + hosts_text({"host": hosts}), ".toml"),
-        own.put_table(HEADERS["demand"], ((row.region, row.handle, row.count) for row in rows)),
+        _demand(rows, own),
         own.put_table(HEADERS["costs"], costs),
         capacity_file(own, capacities),
         service.inputs.values,
@@ -99,7 +113,7 @@ def _nowhere() -> str:
     return settings_text({"site": [{"name": NOWHERE, "record": record.octets().hex()}]})
 
 
-def _with_nowhere(service: Service, inputs: Inputs, rows: list[Row], own: Programs, room: int) -> Inputs:
+def with_nowhere(service: Service, inputs: Inputs, own: Programs, room: int) -> Inputs:
     """The inputs with a site that is nowhere, at which there is so much room. Where that has to be found out, a query
     costs 1 there and nothing elsewhere."""
     is_sought = not room
@@ -108,7 +122,7 @@ def _with_nowhere(service: Service, inputs: Inputs, rows: list[Row], own: Progra
     with open(inputs.capacity, encoding="utf-8") as file:
         capacity = file.read()
     costs = [(region, site, 0 if is_sought else cost) for (region, site), cost in service.costs.items()]
-    costs += [(region, NOWHERE, int(is_sought)) for region in dict.fromkeys(row.region for row in rows)]
+    costs += [(region, NOWHERE, int(is_sought)) for region in service.regions]
     return inputs.but(
         settings=own.put(settings + _nowhere(), ".toml"),
         costs=own.put_table(HEADERS["costs"], costs),
@@ -116,23 +130,29 @@ def _with_nowhere(service: Service, inputs: Inputs, rows: list[Row], own: Progra
     )
 
 
-def _checked(inputs: Inputs, own: Programs) -> Certificate:
-    """A plan or a shortage, to which hsplan check says yes."""
+def has_place(service: Service) -> bool:
+    """Whether hsplan has a place for one more site."""
+    return len(service.sites) < MOST_SITES and len(service.servers) < MOST_SERVERS
+
+
+def checked(inputs: Inputs, own: Programs) -> tuple[Certificate, str]:
+    """A plan or a shortage, to which hsplan check says yes, and its file."""
     certificate, path = own.plan(inputs)
     verdict = own.verdict(inputs, path)
     if verdict != "yes":
-        raise Missing(f"hsplan check says {verdict} to hsplan's own plan: please report this with your files")
-    return certificate
+        name = inputs.program
+        raise Missing(f"{name} check says {verdict} to {name}'s own plan: please report this with your files")
+    return certificate, path
 
 
-def _least_left_out(service: Service, inputs: Inputs, rows: list[Row], own: Programs) -> Certificate:
-    """The cheapest plan of those that leave out the fewest. What it leaves out stands at the last site, which is
-    nowhere."""
-    if len(service.sites) + 1 > MOST_SITES or len(service.servers) + 1 > MOST_SERVERS:
-        sizes = f"{some(len(service.sites), 'site')} and {some(len(service.servers), 'server')}"
-        raise Missing(f"a shortage, and with {sizes} hsplan has no place for what is left out; the map stays")
-    least = _checked(_with_nowhere(service, inputs, rows, own, 0), own).cost
-    return _checked(_with_nowhere(service, inputs, rows, own, least), own)
+def _least_left_out(service: Service, inputs: Inputs, rows: list[Row], own: Programs) -> tuple[Certificate, _Lacking]:
+    """A plan of those that leave out the fewest, and how many queries of which row it leaves out."""
+    if not has_place(service):
+        lowering = Lowering(service, rows, lambda lowered: checked(inputs.but(demand=_demand(lowered, own)), own)[0])
+        return lowering.best(), lowering.left_out
+    least = checked(with_nowhere(service, inputs, own, 0), own)[0].cost
+    certificate, _ = checked(with_nowhere(service, inputs, own, least), own)
+    return certificate, {use.row: use.queries for use in certificate.uses if use.site == len(service.sites)}
 
 
 def _usual(service: Service, row: Row, plan: Mapping[str, Counter[Server]]) -> Counter[Server]:
@@ -141,14 +161,14 @@ def _usual(service: Service, row: Row, plan: Mapping[str, Counter[Server]]) -> C
     return plan.get(key_of(service, row)) or Counter(service.server(at, row.handle) for at in sites[:1])
 
 
-def _with_left_out(service: Service, rest: Service, left_out: Iterable[Use]) -> dict[str, Counter[Server]]:
+def _with_left_out(service: Service, rest: Service, left_out: _Lacking) -> dict[str, Counter[Server]]:
     """What each server gets of each kind that is left out: what the folder's own plan gives it."""
     plan = shares_of(service) if service.certificate.is_plan else {}
     found: dict[str, Counter[Server]] = {}
-    for use in left_out:
-        row = rest.rows[use.row]
+    for at, lacking in left_out.items():
+        row = rest.rows[at]
         usual = _usual(service, row, plan)
-        own = {server: round(use.queries * queries / usual.total()) for server, queries in usual.items()}
+        own = {server: round(lacking * queries / usual.total()) for server, queries in usual.items()}
         found[key_of(rest, row)] = Counter(own)
     return found
 
@@ -169,18 +189,18 @@ def rest_of(service: Service, kinds: list[Row], left: float, room: Mapping[str, 
     """The plan of the rest of a period, of which this share is left, where servers and hosts have this room."""
     parts, rows = _in_parts(kinds, left)
     inputs = _inputs(service, rows, room, parts, own)
-    certificate = _checked(inputs, own)
+    certificate, _ = checked(inputs, own)
+    left_out: _Lacking = {}
     if not certificate.is_plan:
-        certificate = _least_left_out(service, inputs, rows, own)
+        certificate, left_out = _least_left_out(service, inputs, rows, own)
     if not certificate.is_plan:
         raise Missing("hsplan has no plan though all may be left out: please report this with your files")
     rest = replace(service, rows=rows, certificate=certificate)
     planned = shares_by(rest, (use for use in certificate.uses if use.site < len(service.sites)))
-    left_out = [use for use in certificate.uses if use.site == len(service.sites)]
     return Rest(
         plan_lines(_joined(planned, _with_left_out(service, rest, left_out))),
         parts.queries(sum(row.count for row in rows)),
-        parts.queries(sum(use.queries for use in left_out)),
+        parts.queries(sum(left_out.values())),
         parts.queries(certificate.cost),
         _loads(service, planned, parts),
     )

@@ -6,7 +6,7 @@ import os
 import re
 import socket
 import time
-from collections.abc import Iterable, Iterator
+from collections.abc import Iterable, Iterator, Mapping
 from dataclasses import dataclass
 
 from hsp.base.programs import Missing
@@ -54,11 +54,11 @@ class Runtime:
     def __init__(self, path: str) -> None:
         self.path = path
 
-    def say(self, words: str) -> str:
+    def say(self, words: str, patience: float = PATIENCE) -> str:
         """What HAProxy answers to a command."""
         try:
             with socket.socket(socket.AF_UNIX) as own:
-                own.settimeout(PATIENCE)
+                own.settimeout(patience)
                 own.connect(self.path)
                 own.sendall(f"{words}\n".encode())
                 return b"".join(iter(lambda: own.recv(1 << 16), b"")).decode("utf-8", "replace")
@@ -70,9 +70,9 @@ class Runtime:
         lines = (line.split() for line in self.say("show servers state").splitlines()[2:])
         return frozenset(line[3] for line in lines if len(line) > 6 and (line[5] not in UP or line[6] != "0"))
 
-    def reading(self) -> Reading:
-        """What HAProxy says now."""
-        said = dict(line.partition(": ")[::2] for line in self.say("show info").splitlines())
+    def reading(self, patience: float = PATIENCE) -> Reading:
+        """What HAProxy says now. Its first word is waited for so long."""
+        said = dict(line.partition(": ")[::2] for line in self.say("show info", patience).splitlines())
         counts = {name: int(count) for name, count in COUNT.findall(self.say("show table taken"))}
         down, now = self.down(), time.time()
         try:
@@ -81,21 +81,31 @@ class Runtime:
             raise Missing(f"{self.path}: what answers there isn't HAProxy") from None
         return Reading(now, run, began, counts, down)
 
-    def _name(self, file: str) -> str:
-        """What HAProxy calls a map that it has read from a file of this name."""
+    def _names(self) -> dict[str, str]:
+        """What HAProxy calls its maps, by the names of the files that it has read them from."""
         named = re.findall(r"^[0-9]+ \((.+?)\) ", self.say("show map"), re.MULTILINE)
-        found = [name for name in named if os.path.basename(name) == file]
-        if not found:
-            raise Missing(f"{self.path}: the HAProxy that answers there has no {file}")
-        return str(found[0])
+        return {os.path.basename(name): name for name in named}
 
-    def swap(self, file: str, lines: Iterable[str]) -> None:
-        """Puts lines in place of a map, for all queries at once. What fails before the last word changes nothing."""
-        name = self._name(file)
+    def _prepared(self, name: str, lines: Iterable[str]) -> str:
+        """A new version of a map, with these lines, which isn't in force yet: the words that put it in force."""
         match = VERSION.search(self.say(f"prepare map {name}"))
         if not match:
-            raise Missing(f"{self.path}: HAProxy prepares no new {file}")
-        faults = [self.say(f"add map @{match[1]} {name} <<\n{piece}").strip() for piece in pieces(lines)]
-        fault = next(filter(None, faults), "") or self.say(f"commit map @{match[1]} {name}").strip()
+            raise Missing(f"{self.path}: HAProxy prepares no new {os.path.basename(name)}")
+        faults = (self.say(f"add map @{match[1]} {name} <<\n{piece}").strip() for piece in pieces(lines))
+        self._refuse(next(filter(None, faults), ""), name)
+        return f"commit map @{match[1]} {name}"
+
+    def _refuse(self, fault: str, name: str) -> None:
         if fault:
+            file = os.path.basename(name)
             raise Missing(f"{self.path}: HAProxy doesn't take the new {file}: {escaped(fault)[:200]}")
+
+    def swap(self, maps: Mapping[str, Iterable[str]]) -> None:
+        """Puts lines in place of those of maps, by the names of their files, for all queries at once. What fails
+        before the last word changes nothing."""
+        names = self._names()
+        for file in maps:
+            if file not in names:
+                raise Missing(f"{self.path}: the HAProxy that answers there has no {file}")
+        words = [self._prepared(names[file], lines) for file, lines in maps.items()]
+        self._refuse(self.say("; ".join(words)).strip(), "maps")

@@ -46,6 +46,8 @@ class State:
     asked: int
     left_out: int
     cost: int
+    # The folders of all proxies that are steered together, and whether each has this plan.
+    proxies: dict[str, bool]
     servers: dict[str, Standing]
 
     def given(self, counts: Counts, down: frozenset[str]) -> State:
@@ -79,6 +81,7 @@ def _are_numbers(state: State, counts: Counts) -> bool:
     numbers = [state.made, state.left, state.asked, state.left_out, state.cost, counts.period, counts.length]
     numbers += [*counts.seen.values(), *counts.taken.values()]
     numbers += [number for own in state.servers.values() for number in (own.load, own.planned, own.capacity)]
+    numbers += [counts.at, *state.proxies.values()]
     return all(isinstance(number, (int, float)) for number in numbers) and counts.length > 0
 
 
@@ -115,6 +118,11 @@ def _labels(name: str) -> str:
     return f'{{site="{site}",server_id="{identifier}"}}'
 
 
+def _proxy_label(folder: str) -> str:
+    """A folder as the value of a label."""
+    return '{proxy="' + folder.replace("\\", r"\\").replace('"', r"\"").replace("\n", r"\n") + '"}'
+
+
 def metrics_text(state: State, now: float) -> str:
     """The figures as Prometheus' textfile collector reads them."""
     servers = {_labels(name): asdict(own) for name, own in state.servers.items()}
@@ -122,6 +130,8 @@ def metrics_text(state: State, now: float) -> str:
         _figure(name, meaning, {labels: float(own[name]) for labels, own in servers.items()})
         for name, meaning in METRICS.items()
     ]
+    steered = {_proxy_label(folder): float(has) for folder, has in state.proxies.items()}
+    texts.append(_figure("proxy", "1 where a proxy answers by the plan in force.", steered))
     plan = {
         "asked": ("Queries of the rest of this period.", state.asked),
         "left_out": ("Queries of the rest that no server has room for.", state.left_out),

@@ -8,7 +8,7 @@ import math
 import os
 import signal
 import time
-from collections.abc import Callable, Iterator
+from collections.abc import Callable, Collection, Iterable, Iterator
 from dataclasses import dataclass, field
 from typing import Any
 
@@ -22,33 +22,31 @@ from hsp.base.text import give, say
 from hsp.base.unfit import Unfit
 from hsp.doctor.service_folder import read_in, sound, with_files
 from hsp.plans.service import Service, read_service
-from hsp.proxy.config import CONFIG, PLAN, socket_in
-from hsp.proxy.counts import counted
-from hsp.proxy.runtime import Runtime
+from hsp.proxy.config import CONFIG, COSTS, PLAN, PRICES, SITES, socket_in
+from hsp.proxy.proxies import Proxies
 from hsp.proxy.standing import STATE, line_of, metrics_text, state_in, table_lines
-from hsp.proxy.steering import Steering
+from hsp.proxy.steering import FAULTS, Steering
+from hsp.proxy.watched import Watched
 
 LOCK = "steer.lock"
 # HAProxy is asked at least once in so many seconds whether a server is lost or has returned.
 TICK = 1.0
 # A day, and a year.
 MOST_EVERY, MOST_PERIOD = 86_400, 31_622_400
-FAULTS = (Missing, Refused, Unfit, OSError)
 
 
 @contextlib.contextmanager
-def _alone(into: str) -> Iterator[None]:
-    """Refuses a second run for one proxy. The kernel unlocks the file when a run ends, however it ends."""
-    path = path_in(into, LOCK)
-    descriptor = os.open(path, os.O_RDWR | os.O_CREAT | os.O_NOFOLLOW | os.O_CLOEXEC, 0o666)
-    try:
-        try:
-            fcntl.flock(descriptor, fcntl.LOCK_EX | fcntl.LOCK_NB)
-        except BlockingIOError:
-            raise Missing(f"{path}: another hsp steer keeps this proxy in step") from None
+def _alone(folders: Iterable[str]) -> Iterator[None]:
+    """Refuses a second run for a proxy. The kernel unlocks the files when a run ends, however it ends."""
+    with contextlib.ExitStack() as stack:
+        for path in (path_in(folder, LOCK) for folder in folders):
+            descriptor = os.open(path, os.O_RDWR | os.O_CREAT | os.O_NOFOLLOW | os.O_CLOEXEC, 0o666)
+            stack.callback(os.close, descriptor)
+            try:
+                fcntl.flock(descriptor, fcntl.LOCK_EX | fcntl.LOCK_NB)
+            except BlockingIOError:
+                raise Missing(f"{path}: another hsp steer keeps this proxy in step") from None
         yield
-    finally:
-        os.close(descriptor)
 
 
 def _text(fault: BaseException) -> str:
@@ -77,8 +75,11 @@ class _Loop:
     given: dict[str, str | None]
     every: float
     metrics: str | None
-    # What was said last of faults of each kind; whether there is a shortage; whether SIGHUP has come.
+    watched: Watched
+    # What was said last of faults of each kind, and of each proxy; whether there is a shortage; whether SIGHUP came.
     _said: dict[str, str] = field(default_factory=dict)
+    _lost: dict[str, str] = field(default_factory=dict)
+    _refused: str = ""
     _is_short: bool = False
     _is_asked: bool = False
     _due: float = 0.0
@@ -103,18 +104,35 @@ class _Loop:
     def reload(self) -> None:
         """Reads the folder anew. Where it is broken, the old plan stays."""
         self._is_asked = False
+        self.watched.are_read()
         programs = Programs()
         try:
             self.steering.take(_read(self.folder, self.given, programs))
+            self._refused = ""
         except FAULTS as fault:
-            doctor = f"the old plan stays (hsp doctor {shell_word(self.folder)})"
-            say(f"hsp: {self.folder} isn't read anew: {_text(fault)}; {doctor}", err=True)
+            doctor = f" (hsp doctor {shell_word(self.folder)})" if isinstance(fault, Refused) else ""
+            line = f"hsp: {self.folder} isn't read anew: {_text(fault)}; the old plan stays{doctor}"
+            if line != self._refused:
+                say(line, err=True)
+            self._refused = line
         finally:
             programs.close()
+
+    def _say_lost(self) -> None:
+        """Says which proxies don't have the plan that others have, once, and when they have it again."""
+        lost = {folder: _text(fault) for folder, fault in self.steering.faults().items()}
+        for folder, fault in lost.items():
+            if self._lost.get(folder) != fault:
+                say(f"hsp: {folder} keeps its last map, and its last counts: {fault}", err=True)
+        for folder in self._lost:
+            if folder not in lost:
+                say(f"hsp: {folder} has the plan again", err=True)
+        self._lost = lost
 
     def step(self) -> None:
         """Plans, swaps, and says how servers stand."""
         state = self.steering.step(self.steering.read())
+        self._say_lost()
         if state.left_out and not self._is_short:
             why = "no room for them within capacities, so they go where the folder's own plan sends them"
             say(f"hsp: a shortage: {queries_of(state.left_out)} of the rest of this period: {why}", err=True)
@@ -133,6 +151,8 @@ class _Loop:
         """One look at HAProxy, and a step where it is time or something has changed."""
         if time.monotonic() < self._due and not self.steering.has_turned(self.steering.read()):
             return False
+        if self.steering.is_exported_anew():
+            self.reload()
         self._due = time.monotonic() + self.every
         self.step()
         return True
@@ -142,7 +162,7 @@ class _Loop:
         before = signal.signal(signal.SIGHUP, self.ask)
         try:
             while True:
-                if self._is_asked:
+                if self.watched.have_changed() or self._is_asked:
                     self.reload()
                 self._try("the last map stays", self._step_if_due)
                 self._try("the figures aren't written", self.measure)
@@ -158,32 +178,44 @@ def _number(_: click.Context, option: click.Parameter, value: float) -> float:
     return value
 
 
-def _files(folder: str, into: str, given: dict[str, str | None], metrics: str | None) -> None:
-    """Refuses a file of figures that is one of the others."""
-    written = [PLAN, STATE, LOCK]
-    maps = [name for name in os.listdir(into) if name.endswith(".map") and name not in written]
-    read = [path_in(into, name) for name in (CONFIG, *maps)]
-    own = [path_in(into, name) for name in written]
-    refuse_clashes([*read_in(folder, given), *read], own + ([metrics] if metrics else []))
+def _files(folder: str, folders: Collection[str], given: dict[str, str | None], metrics: str | None) -> None:
+    """Refuses a file of figures that is one of the others, and a proxy that is given twice."""
+    real = [os.path.realpath(into) for into in folders]
+    for at, into in enumerate(folders):
+        if real[at] in real[:at]:
+            raise Unfit(f"{into}: this proxy is given twice")
+    written = [PLAN, PRICES, SITES, COSTS, STATE, LOCK]
+    read, own = read_in(folder, given), list[str]()
+    for into in folders:
+        maps = [name for name in os.listdir(into) if name.endswith(".map") and name not in written]
+        read += [path_in(into, name) for name in (CONFIG, *maps)]
+        own += [path_in(into, name) for name in written]
+    refuse_clashes(read, own + ([metrics] if metrics else []))
 
 
-def _show(into: str) -> None:
-    """Prints how servers stand now."""
-    state, counts = state_in(into)
-    now = Runtime(socket_in(into)).reading()
-    counts = counted(counts, now, counts.length)
+def _show(folders: Collection[str]) -> None:
+    """Prints how servers stand now, by all proxies that are steered together."""
+    state, counts = max((state_in(folder) for folder in folders), key=lambda own: own[0].made)
+    others = [folder for folder in state.proxies if os.path.isfile(path_in(folder, CONFIG))]
+    proxies = Proxies(dict.fromkeys([os.path.abspath(folder) for folder in folders] + others))
+    now = proxies.read(counts.length, len(state.servers))
+    counts = proxies.counts(now.at, counts.length)
     for line in table_lines(state.given(counts, now.down), counts, now.at):
         say(line)
+    for own in (own for own in proxies.all if not own.now):
+        say(f"{own.folder} doesn't answer; its last counts are among these")
 
 
 @click.command()
 @with_files
 @click.option(
     "--into",
+    "folders",
     metavar="PROXY",
     required=True,
+    multiple=True,
     type=click.Path(file_okay=False),
-    help="the folder that hsp export wrote",
+    help="the folder that hsp export wrote; several for several proxies",
 )
 @click.option(
     "--every",
@@ -204,23 +236,26 @@ def _show(into: str) -> None:
 @click.option("--metrics", metavar="FILE", help="figures for Prometheus' textfile collector")
 @click.option("--once", is_flag=True, help="one plan, and the end")
 @click.option("--status", is_flag=True, help="only prints the loads of now against plan and capacity")
-def steer(folder: str, into: str, every: float, period: float, **given: Any) -> None:
+def steer(folder: str, folders: tuple[str, ...], every: float, period: float, **given: Any) -> None:
     """Keeps the plan in step by which HAProxy answers.
 
     Every --every seconds the rest of the period is planned from what each server was given, and HAProxy's map is
-    swapped. If this command ends, HAProxy goes on by its last map.
+    swapped. If this command ends, HAProxy goes on by its last map. Of several proxies the counts are added up, and
+    all have one plan.
     """
     metrics, is_once, is_status = (given.pop(key) for key in ("metrics", "once", "status"))
     if is_status:
-        _show(into)
+        _show(folders)
         return
-    socket_in(into)
-    _files(folder, into, given, metrics)
-    with _alone(into), contextlib.closing(Programs()) as programs:
+    for into in folders:
+        socket_in(into)
+    _files(folder, folders, given, metrics)
+    with _alone(folders), contextlib.closing(Programs()) as programs:
+        watched = Watched(read_in(folder, given))
         service = sound(folder, programs, given)
         if not service.sites:
             raise Unfit(f"{service.inputs.settings}: no site, so nobody can answer")
-        loop = _Loop(Steering(into, service, period), folder, given, every, metrics)
+        loop = _Loop(Steering(folders, service, period), folder, given, every, metrics, watched)
         if is_once:
             loop.step()
             loop.measure()

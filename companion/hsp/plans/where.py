@@ -1,0 +1,118 @@
+"""Where the queries for one handle go by a plan: what hsplan-stream answers, and what each server costs."""
+
+from __future__ import annotations
+
+from collections.abc import Iterator
+from dataclasses import dataclass, replace
+
+from hsp.base.numbers import percent
+from hsp.base.programs import Prices, Programs
+from hsp.base.text import bold, colored, escaped
+from hsp.plans.flows import beside_of
+from hsp.plans.service import Row, Server, Service
+
+ASSIGNED, REFUSED = "assigned", "refused"
+
+
+@dataclass(frozen=True)
+class Choice:
+    """A server that a handle may use: what a query costs and pays there, and how many queries like it go there.
+
+    Queries like it are those of its row or its class. Of a handle that pays least at one server no number is known.
+    """
+
+    server: Server
+    cost: int
+    pays: int
+    queries: int | None
+
+    @property
+    def price(self) -> int:
+        """The prices of the server and of its machine."""
+        return self.pays - self.cost
+
+
+@dataclass(frozen=True)
+class Where:
+    """What a query is answered, and the servers that it may use, those first where it pays least."""
+
+    answer: str
+    choices: list[Choice]
+
+    @property
+    def servers(self) -> list[Server]:
+        """The servers to which such queries go; the one that is answered first."""
+        word, *rest = self.answer.split()
+        if word != ASSIGNED:
+            return []
+        own = [choice for choice in self.choices if [choice.server.site, str(choice.server.id)] == [rest[0], rest[2]]]
+        own += [choice for choice in self.choices if choice.queries and choice not in own]
+        return [choice.server for choice in own]
+
+
+def _of_class(service: Service, region: str, servers: list[int]) -> dict[int, int]:
+    """What the class of a region and its least servers sends to each."""
+    certificate = service.certificate
+    own = certificate.classes if isinstance(certificate, Prices) else []
+    return next((amounts for name, amounts in own if name == region and sorted(amounts) == sorted(servers)), {})
+
+
+def _of_row(service: Service, region: str, handle: str) -> dict[int, int]:
+    """What the row of a handle, or of its kind, sends to each server."""
+    asked = Row(region, handle, 0)
+    rows = [at for at, row in enumerate(service.rows) if (row.region, row.handle) == (region, handle)]
+    if not rows:
+        kind = service.kind(asked)
+        rows = [at for at, row in enumerate(service.rows) if row.region == region and service.kind(row) == kind]
+    uses = [use for use in service.certificate.uses if use.row in rows[:1]]
+    return {service.server(use.site, handle).number: use.queries for use in uses}
+
+
+def where(service: Service, programs: Programs, region: str, handle: str) -> Where:
+    """Where a query goes by the plan of a service."""
+    answer = programs.where(service.inputs, service.plan_file, region, handle)
+    if answer.startswith(REFUSED):
+        return Where(answer, [])
+    places, beside = programs.places(service.inputs, [handle]), beside_of(service)
+    found = []
+    for at in service.sites_for(region):
+        site = service.sites[at]
+        server = site.servers[places[handle, site.name]]
+        cost = service.costs[region, site.name]
+        found.append((server, cost, cost + beside[server.number]))
+    least = min((pays for _, _, pays in found), default=0)
+    if service.log:
+        amounts = _of_class(service, region, [server.number for server, _, pays in found if pays == least])
+    else:
+        amounts = _of_row(replace(service, places={**service.places, **places}), region, handle)
+    choices = [Choice(server, cost, pays, amounts.get(server.number)) for server, cost, pays in found]
+    return Where(answer, sorted(choices, key=lambda choice: (choice.pays, choice.server.number)))
+
+
+def lines(service: Service, found: Where, region: str, handle: str) -> Iterator[str]:
+    """The answer, and a line for each server that the handle may use."""
+    goes = f"goes to {' or '.join(server.label for server in found.servers)}" if found.servers else found.answer
+    yield f"{bold(escaped(handle))} from {escaped(region)}  {colored(goes, 'green' if found.servers else 'yellow')}"
+    wide = max((len(choice.server.label) for choice in found.choices), default=0)
+    unit = f" {service.titles.cost}" if service.titles.cost else ""
+    whole = sum(choice.queries or 0 for choice in found.choices)
+    for choice in found.choices:
+        price = f" and its price {choice.price:,}" if choice.price else ""
+        is_split = choice.queries and len(found.servers) > 1
+        part = f"; {percent(choice.queries or 0, whole)} of such queries" if is_split else ""
+        yield f"  {choice.server.label.ljust(wide)}  pays {choice.pays:,}{unit}: cost {choice.cost:,}{price}{part}"
+
+
+def json_of(found: Where, region: str, handle: str) -> dict[str, object]:
+    """The same for other programs."""
+    servers = [
+        {
+            "site": choice.server.site,
+            "server_id": choice.server.id,
+            "cost": choice.cost,
+            "price": choice.price,
+            "queries": choice.queries,
+        }
+        for choice in found.choices
+    ]
+    return {"region": region, "handle": handle, "answer": found.answer, "servers": servers}
