@@ -29,5 +29,5 @@ pub use grouping::groups;
 pub use instance::Instance;
 pub use row_arcs::RowArcs;
 pub use runs::Runs;
-pub use site_reading::build_sites;
+pub use site_reading::{build_sites, site_octets};
 pub use sites::Sites;

@@ -32,8 +32,10 @@ fn site_value<'a>(number: u32, value: Option<Value<'a>>) -> Result<&'a [u8], Bui
     Ok(value.octets())
 }
 
-// The octets of the record of a site.
-fn site_octets<'a>(
+/// The octets of the record of a site: those of its source, or the data of the value with the source's index.
+///
+/// Faults in this order, each with the site's number: NoValue (also where no value list was given) and NotSiteValue.
+pub fn site_octets<'a>(
     values: Option<&ValueList<'a>>,
     number: u32,
     source: Source<'a>,
