@@ -5,7 +5,7 @@ _hsp_commands() {
         "") echo "demand doctor export fleet new plan sites steer view whatif where --help --version" ;;
         export) echo "haproxy --help" ;;
         fleet) echo "demand dispatch --help" ;;
-        "doctor --") echo "locate site plan check dispatch report kinds places answer faults" ;;
+        "doctor --") echo "locate site plan check dispatch report kinds places answer interfaces faults" ;;
     esac
 }
 
@@ -32,6 +32,7 @@ _hsp_options() {
         "doctor -- kinds") echo "--settings --costs --log --values --unit --help" ;;
         "doctor -- places") echo "--settings --log --values --help" ;;
         "doctor -- answer") echo "--settings --costs --capacity --log --values --demand --plan --prices --unit --fronts --front --help" ;;
+        "doctor -- interfaces") echo "--settings --values --help" ;;
         "doctor -- faults") echo "--demand --costs --capacity --log --help" ;;
     esac
 }

@@ -2,7 +2,7 @@
 
 _hsplan_stream_commands() {
     case $1 in
-        "") echo "kinds places plan answer check report faults --help --version" ;;
+        "") echo "kinds places plan answer check report interfaces faults --help --version" ;;
     esac
 }
 
@@ -14,6 +14,7 @@ _hsplan_stream_options() {
         "answer") echo "--settings --costs --capacity --log --values --demand --plan --prices --unit --fronts --front --help" ;;
         "check") echo "--settings --costs --capacity --log --prices --values --help" ;;
         "report") echo "--settings --costs --capacity --log --prices --kind --values --help" ;;
+        "interfaces") echo "--settings --values --help" ;;
         "faults") echo "--demand --costs --capacity --log --help" ;;
     esac
 }

@@ -31,18 +31,17 @@ PROTOCOLS = ("UDP", "TCP", "HTTP")
 
 def site_json(name: str, serial: int, **more: Any) -> dict[str, Any]:
     """The JSON of an example's site, as handle.net documents it."""
-    interfaces = [
-        {"query": True, "admin": True, "protocol": PROTOCOLS[protocol], "port": port}
-        for _, protocol, port in examples.INTERFACES
-    ]
     servers = [
         {
-            "serverId": at,
+            "serverId": at + 1,
             "address": address,
-            "publicKey": {"format": "base64", "value": base64.b64encode(examples.key_of(name, at)).decode()},
-            "interfaces": interfaces,
+            "publicKey": {"format": "base64", "value": base64.b64encode(examples.key_of(name, at + 1)).decode()},
+            "interfaces": [
+                {"query": True, "admin": True, "protocol": PROTOCOLS[protocol], "port": port}
+                for _, protocol, port in examples.interfaces_of(at, ADDRESSES[name])
+            ],
         }
-        for at, address in enumerate(ADDRESSES[name], 1)
+        for at, address in enumerate(ADDRESSES[name])
     ]
     head = {"version": 1, "protocolVersion": "2.11", "serialNumber": serial, "primarySite": False}
     attributes = [{"name": "desc", "value": f"mirror {name}"}]

@@ -61,7 +61,7 @@ REPORTS = [f"report {BY_PRICES} --kind {kind}" for kind in KINDS_OF_REPORTS]
 LIMIT_KB = 64 * 1024
 HELP_BEGINS = "hsplan-stream: tables, places and answers for logs of any length\n"
 
-COMMANDS = ("kinds", "places", "plan", "answer", "check", "report", "faults")
+COMMANDS = ("kinds", "places", "plan", "answer", "check", "report", "interfaces", "faults")
 
 Ended = tuple[bytes, bytes, int]
 

@@ -60,13 +60,20 @@ def key_of(name: str, server_id: int) -> bytes:
     )
 
 
-def server_octets(name: str, server_id: int, address: str) -> bytes:
-    interfaces = b"".join(whole(kind, 1) + whole(protocol, 1) + whole(port, 4) for kind, protocol, port in INTERFACES)
+def interfaces_of(at: int, addresses: list[str]) -> list[tuple[int, int, int]]:
+    """The interfaces of the server at a place. Those that stand at one address have ports of their own."""
+    before = addresses[:at].count(addresses[at])
+    return [(kind, protocol, port + before) for kind, protocol, port in INTERFACES]
+
+
+def server_octets(name: str, at: int, addresses: list[str]) -> bytes:
+    own = interfaces_of(at, addresses)
+    interfaces = b"".join(whole(kind, 1) + whole(protocol, 1) + whole(port, 4) for kind, protocol, port in own)
     return (
-        whole(server_id, 4)
-        + address_of(address)
-        + counted(key_of(name, server_id))
-        + whole(len(INTERFACES), 4)
+        whole(at + 1, 4)
+        + address_of(addresses[at])
+        + counted(key_of(name, at + 1))
+        + whole(len(own), 4)
         + interfaces
     )
 
@@ -75,7 +82,7 @@ def site_octets(name: str, serial: int, addresses: list[str]) -> bytes:
     """HS_SITE data of a site whose servers have the identifiers 1, 2, 3 and so on, and these addresses."""
     head = whole(1, 2) + bytes([2, 11]) + whole(serial, 2) + bytes([0, BY_HANDLE])
     attributes = whole(1, 4) + counted(b"desc") + counted(f"mirror {name}".encode())
-    servers = [server_octets(name, at + 1, it) for at, it in enumerate(addresses)]
+    servers = [server_octets(name, at, addresses) for at in range(len(addresses))]
     return head + counted(b"") + attributes + whole(len(servers), 4) + b"".join(servers)
 
 
@@ -245,14 +252,14 @@ CLIENTS = {
 NO_QUERIES = ["GET /favicon.ico", "GET /", "POST /20.500.1234/film-5", "GET /static"]
 
 
-def server_json(name: str, server_id: int, address: str) -> dict[str, object]:
+def server_json(name: str, at: int, addresses: list[str]) -> dict[str, object]:
     """A server as a handle proxy answers it."""
-    key = {"format": "base64", "value": base64.b64encode(key_of(name, server_id)).decode()}
+    key = {"format": "base64", "value": base64.b64encode(key_of(name, at + 1)).decode()}
     interfaces = [
         {"query": True, "admin": True, "protocol": PROTOCOLS[protocol], "port": port}
-        for _, protocol, port in INTERFACES
+        for _, protocol, port in interfaces_of(at, addresses)
     ]
-    return {"serverId": server_id, "address": address, "publicKey": key, "interfaces": interfaces}
+    return {"serverId": at + 1, "address": addresses[at], "publicKey": key, "interfaces": interfaces}
 
 
 def site_json(name: str, serial: int, addresses: list[str]) -> dict[str, object]:
@@ -267,7 +274,7 @@ def site_json(name: str, serial: int, addresses: list[str]) -> dict[str, object]
     return {
         **head,
         "attributes": attributes,
-        "servers": [server_json(name, at + 1, it) for at, it in enumerate(addresses)],
+        "servers": [server_json(name, at, addresses) for at in range(len(addresses))],
     }
 
 

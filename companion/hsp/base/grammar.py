@@ -47,6 +47,7 @@ COMMANDS: dict[str, dict[str, Command]] = {
             ("settings", "costs", "capacity", "log", "prices", "kind"),
             ("values",),
         ),
+        "interfaces": Command("hsplan-stream", ("settings",), ("values",)),
         "faults": Command("hsplan-stream", (), ("demand", "costs", "capacity", "log")),
     },
 }

@@ -200,6 +200,21 @@ class Prices(Certificate):
         return [line[0] for line in self._lines["server"]]
 
 
+class Interface(NamedTuple):
+    """A service interface of the server at a place of a site: what is served, by which protocol, at which port.
+
+    The address has 32 hexadecimal digits.
+    """
+
+    site: str
+    place: int
+    server: int
+    address: str
+    service: int
+    protocol: int
+    port: int
+
+
 class Load(NamedTuple):
     """What a server takes by a plan, what it can take, and its price."""
 
@@ -336,6 +351,15 @@ class Programs:
     def site_of_value(self, values: str, index: int) -> str:
         """The fields of the record that a value list has at an index."""
         return asked("hsplan", "site", "--index", str(index), values)
+
+    def interfaces(self, inputs: Inputs) -> list[Interface]:
+        """The service interfaces of all servers, site by site and place by place."""
+        printed = asked("hsplan-stream", "interfaces", *inputs.of_sites())
+        rows = list(csv.reader(io.StringIO(printed, newline="")))[1:]
+        return [
+            Interface(site, int(place), int(server), address, *map(int, numbers))
+            for site, place, server, address, *numbers in rows
+        ]
 
     def places(self, inputs: Inputs, handles: Iterable[str]) -> dict[tuple[str, str], int]:
         """The place of the responsible server of each handle at each site, by handle and site."""

@@ -349,26 +349,57 @@ def unused(read: Read) -> None:
                 read.of_row(read.capacity, row, 1, words)
 
 
+def shared_records(service: Service) -> Iterator[tuple[str, str]]:
+    """Sites whose record is that of a site before them, by both names."""
+    seen: dict[str, str] = {}
+    for site in service.settings.get("site", []):
+        key = str(site.get("record", f"index {site.get('index')}")).lower()
+        if key in seen:
+            yield site["name"], seen[key]
+        seen.setdefault(key, site["name"])
+
+
 def sites(read: Read) -> None:
     """Settings without a site, and a record that two sites share."""
     if not read.service.sites:
         remedy, why = "add a block [[site]] for each: hsp sites makes it", "without a site no query is served"
         read.doubt(read.settings, Place(), Words("the settings have no site", remedy, why, group="no site"))
-    seen: dict[str, str] = {}
-    for number, site in enumerate(read.service.settings.get("site", [])):
-        key = str(site.get("record", f"index {site.get('index')}")).lower()
-        if key in seen:
-            place = value_of(read.settings, "site", number, "record" if "record" in site else "index")
-            place = Place(place.line, place.column, min(place.width, 24), place.text)
+    blocks = {site["name"]: (number, site) for number, site in enumerate(read.service.settings.get("site", []))}
+    for name, other in shared_records(read.service):
+        number, site = blocks[name]
+        place = value_of(read.settings, "site", number, "record" if "record" in site else "index")
+        place = Place(place.line, place.column, min(place.width, 24), place.text)
+        words = Words(
+            f"site {quoted(name)} has the record of {quoted(other)}",
+            "copy its own record: hsp sites makes the block",
+            "both are the same servers, so their room counts twice",
+            group="shared record",
+            name=f"shared record {name}",
+        )
+        read.doubt(read.settings, place, words)
+
+
+def one_place(read: Read, programs: Programs) -> None:
+    """Servers that are asked at one address and port, but for those of sites that share a record."""
+    shared = {site for site, _ in shared_records(read.service)}
+    servers: dict[tuple[str, int, int], dict[str, None]] = defaultdict(dict)
+    for own in programs.interfaces(read.service.inputs):
+        if own.site not in shared:
+            servers[own.address, own.port, own.protocol][f"{own.site} {own.server}"] = None
+    places: dict[tuple[str, tuple[str, ...]], dict[int, None]] = defaultdict(dict)
+    for (address, port, _), labels in servers.items():
+        places[address, tuple(labels)][port] = None
+    for (address, alike), ports in places.items():
+        if len(alike) > 1:
+            asked = f"{dotted(address)}, {'port' if len(ports) == 1 else 'ports'} {listed(map(str, ports))}"
             words = Words(
-                f"site {quoted(site['name'])} has the record of {quoted(seen[key])}",
-                "copy its own record: hsp sites makes the block",
-                "both are the same servers, so their room counts twice",
-                group="shared record",
-                name=f"shared record {site['name']}",
+                f"{listed(alike)} are asked at one address and port: {asked}",
+                "give each an address or a port of its own: hsp sites makes the block",
+                "whoever asks one of them may reach the other, and what is planned for one goes to the other",
+                group="one place",
+                name=f"one place {alike[-1]}",
             )
-            read.doubt(read.settings, place, words)
-        seen.setdefault(key, site["name"])
+            read.doubt(read.settings, Place(), words)
 
 
 def stale_plan(service: Service, programs: Programs, path: str) -> list[str] | None:
@@ -454,6 +485,7 @@ def doubts(service: Service, programs: Programs, of_folder: bool = True) -> Iter
     read.findings += mark_doubts(service, demand.text)
     for look in (*LOST, *REST):
         look(read)
+    one_place(read, programs)
     if of_folder:
         titles(read)
         read.findings += proxy_doubts(service, programs)

@@ -2,7 +2,7 @@
 
 from __future__ import annotations
 
-from collections.abc import Iterator
+from collections.abc import Iterator, Set
 
 from hsp.base.numbers import listed
 from hsp.base.paths import path_in
@@ -18,10 +18,11 @@ from hsp.plans.service import Service
 HEAD = r"^\s*\[?\"?(proxy)\b"
 
 
-def _one_url(targets: list[Target]) -> Iterator[Words]:
-    """Servers that have one URL."""
+def _one_url(targets: list[Target], named: Set[str]) -> Iterator[Words]:
+    """Servers that have one URL, where the titles name one of them. Records that have it are doubted with or without a
+    proxy."""
     urls = {target.name: target.url.text for target in targets}
-    for names in twins(targets):
+    for names in (own for own in twins(targets) if not named.isdisjoint(own)):
         message = f"{listed(names)} have one URL, {urls[names[0]]}"
         remedy = f'write "{names[-1]}" = "https://mirror.example" below [{PROXY}.{URLS}]'
         why = "no redirect tells them apart, so one of them may get what is planned for the other"
@@ -39,7 +40,7 @@ def proxy_doubts(service: Service, programs: Programs) -> Iterator[Finding]:
     except Unfit:  # the table itself is a doubt
         return
     try:
-        words = list(_one_url(targets_of(service, said.urls, programs)))
+        words = list(_one_url(targets_of(service, said.urls, programs), said.urls.keys()))
     except Unfit as fault:
         words = [Words("hsp export refuses the table of a proxy", "mend it", fault.message, name="URLs of a proxy")]
     yield from (found(text.path, place, own, "", WARNING) for own in words)

@@ -60,6 +60,7 @@ stream_commands = (
       codes "report",
       price_inputs ++ needed (codes "log") ∷ needed (codes "prices") ∷ needed (codes "kind") ∷ [],
     )
+    ∷ (codes "interfaces", needed (codes "settings") ∷ option (codes "values") ∷ [])
     ∷ (
       codes "faults",
       option (codes "demand") ∷ option (codes "costs") ∷ option (codes "capacity") ∷ option (codes "log") ∷ [],

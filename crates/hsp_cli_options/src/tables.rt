@@ -106,7 +106,7 @@ pub(crate) const COMMANDS: [Subcommand<'static>; 6] = [
 ];
 
 /// The commands of `hsplan-stream`.
-pub(crate) const STREAM_COMMANDS: [Subcommand<'static>; 7] = [
+pub(crate) const STREAM_COMMANDS: [Subcommand<'static>; 8] = [
     Subcommand {
         name: "kinds",
         inputs: &[Needed("settings"), Optional("values"), Needed("costs")],
@@ -143,6 +143,11 @@ pub(crate) const STREAM_COMMANDS: [Subcommand<'static>; 7] = [
         name: "report",
         inputs: &PRICE_INPUTS,
         others: &[Needed("log"), Needed("prices"), Needed("kind")],
+    },
+    Subcommand {
+        name: "interfaces",
+        inputs: &[Needed("settings"), Optional("values")],
+        others: &[],
     },
     Subcommand {
         name: "faults",

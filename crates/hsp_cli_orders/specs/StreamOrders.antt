@@ -18,6 +18,7 @@ use Rattle.hsp_cli_orders.specs.declared.stream_order.PlaceFiles.{PlaceFiles}
 use Rattle.hsp_cli_orders.specs.declared.stream_order.PlanFiles.{PlanFiles}
 use Rattle.hsp_cli_orders.specs.declared.stream_order.PriceFiles.{PriceFiles}
 use Rattle.hsp_cli_orders.specs.declared.stream_order.ServiceFiles.{ServiceFiles}
+use Rattle.hsp_cli_orders.specs.declared.stream_order.SiteFiles.{SiteFiles}
 use Rattle.hsp_cli_orders.specs.declared.stream_order.StreamOrder.{StreamOrder}
 use Rattle.hsp_cli_orders.specs.declared.stream_order.StreamOrder.TheVariants as order
 
@@ -51,10 +52,14 @@ pub record HasKindFiles (rows : List Row) (files : KindFiles) : Type 0 where
   pub costs : first_of (codes "costs") rows ≡ Some files.costs
   pub log : first_of (codes "log") rows ≡ Some files.log
 
--- a log, and the sites at which its handles have places
-pub record HasPlaceFiles (rows : List Row) (files : PlaceFiles) : Type 0 where
+-- what defines sites
+pub record HasSiteFiles (rows : List Row) (files : SiteFiles) : Type 0 where
   pub settings : first_of (codes "settings") rows ≡ Some files.settings
   pub values : first_of (codes "values") rows ≡ files.values
+
+-- a log, and the sites at which its handles have places
+pub record HasPlaceFiles (rows : List Row) (files : PlaceFiles) : Type 0 where
+  pub sites : HasSiteFiles rows files.sites
   pub log : first_of (codes "log") rows ≡ Some files.log
 
 -- a log, a certificate, and what that is checked by
@@ -115,6 +120,7 @@ IsStreamOrderIn (order.Check files) name rows = (name ≡ codes "check") × HasP
 IsStreamOrderIn (order.Report files kind) name rows =
     (name ≡ codes "report") × HasPriceFiles rows files
     × (first_of (codes "kind") rows ≡ Some (price_report_word kind))
+IsStreamOrderIn (order.Interfaces files) name rows = (name ≡ codes "interfaces") × HasSiteFiles rows files
 IsStreamOrderIn (order.Faults of file) name rows = (name ≡ codes "faults") × IsOnly of file rows
 
 -- the order of what clap's matches give

@@ -13,7 +13,7 @@ pub use order::{AskedReport, InputFiles, Order, Word};
 pub use reading::read_command;
 pub use stream_order::{
     AskedPriceReport, FaultsOf, FrontWords, KindFiles, PlaceFiles, PlanFiles, PriceFiles,
-    ServiceFiles, StreamOrder,
+    ServiceFiles, SiteFiles, StreamOrder,
 };
 pub use stream_reading::read_stream_command;
 pub use words::split_words;

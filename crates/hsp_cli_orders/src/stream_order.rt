@@ -18,11 +18,17 @@ pub struct KindFiles<'a> {
     pub log: Word<'a>,
 }
 
-/// A log, and the sites at which its handles have places: `--settings F [--values F] --log F`.
+/// What defines sites: `--settings F [--values F]`.
 #[derive(Debug, Drop)]
-pub struct PlaceFiles<'a> {
+pub struct SiteFiles<'a> {
     pub settings: Word<'a>,
     pub values: Option<Word<'a>>,
+}
+
+/// A log, and the sites at which its handles have places: the files of the sites with `--log F`.
+#[derive(Debug, Drop)]
+pub struct PlaceFiles<'a> {
+    pub sites: SiteFiles<'a>,
     pub log: Word<'a>,
 }
 
@@ -112,6 +118,10 @@ pub enum StreamOrder<'a> {
     Report {
         files: PriceFiles<'a>,
         kind: AskedPriceReport,
+    },
+    /// `interfaces` with the sites whose servers have them
+    Interfaces {
+        files: SiteFiles<'a>,
     },
     /// `faults` with one of `--demand F`, `--costs F`, `--capacity F` and `--log F`
     Faults {

@@ -5,8 +5,8 @@ ghost use Rattle.std.specs.Prelude.{string_bytes};
 ghost use Rattle.clap.specs.Words.{fault_of, first_of, found_of, rows_of, subcommand_of};
 ghost use Rattle.hsp_cli_options.specs.Commands.{stream_app};
 ghost use Rattle.hsp_cli_orders.specs.StreamOrders.{HasFront, HasKindFiles, HasPlaceFiles, HasPlanFiles};
-ghost use Rattle.hsp_cli_orders.specs.StreamOrders.{HasPriceFiles, HasServiceFiles, IsStreamOrder, IsStreamOrderIn};
-ghost use Rattle.hsp_cli_orders.specs.StreamOrders.{IsStreamOrdered};
+ghost use Rattle.hsp_cli_orders.specs.StreamOrders.{HasPriceFiles, HasServiceFiles, HasSiteFiles, IsStreamOrder};
+ghost use Rattle.hsp_cli_orders.specs.StreamOrders.{IsStreamOrderIn, IsStreamOrdered};
 ghost use Rattle.hsp_cli_orders.specs.StreamOrders.{IsStreamUsage, asked, is_help, is_version, price_report_word};
 ghost use Rattle.hsp_cli_orders.specs.declared.fault.CommandFault.TheVariants as fault;
 ghost use Rattle.hsp_cli_orders.specs.declared.stream_order.AskedPriceReport.{AskedPriceReport};
@@ -16,6 +16,7 @@ ghost use Rattle.hsp_cli_orders.specs.declared.stream_order.PlaceFiles.{PlaceFil
 ghost use Rattle.hsp_cli_orders.specs.declared.stream_order.PlanFiles.{PlanFiles};
 ghost use Rattle.hsp_cli_orders.specs.declared.stream_order.PriceFiles.{PriceFiles};
 ghost use Rattle.hsp_cli_orders.specs.declared.stream_order.ServiceFiles.{ServiceFiles};
+ghost use Rattle.hsp_cli_orders.specs.declared.stream_order.SiteFiles.{SiteFiles};
 ghost use Rattle.hsp_cli_orders.specs.declared.stream_order.StreamOrder.{StreamOrder};
 ghost use Rattle.std.specs.Prelude.{Option};
 
@@ -23,7 +24,7 @@ use crate::fault::CommandFault;
 use crate::reading::{command_fault, inputs_of, is_given, text_of, word_of};
 use crate::stream_order::{
     AskedPriceReport, FaultsOf, FrontWords, KindFiles, PlaceFiles, PlanFiles, PriceFiles,
-    ServiceFiles, StreamOrder,
+    ServiceFiles, SiteFiles, StreamOrder,
 };
 use clap::ArgMatches;
 use hsp_cli_options::stream_command;
@@ -94,6 +95,19 @@ fn kinds_of<'a>(matches: &ArgMatches<'a>) -> Option<StreamOrder<'a>>
     })
 }
 
+// The names of the files that define sites, or None where one is absent.
+fn site_files_of<'a>(matches: &ArgMatches<'a>) -> Option<SiteFiles<'a>>
+    ensures given { IfSome result
+        (λ files. HasSiteFiles (rows_of (found_of matches.now)) files) }
+    ensures absent { IfNone result ((files : SiteFiles)
+        → HasSiteFiles (rows_of (found_of matches.now)) files → ⊥) }
+{
+    Some(SiteFiles {
+        settings: word_of(matches, "settings")?,
+        values: word_of(matches, "values"),
+    })
+}
+
 // The names of a log and of what defines its sites, or None where one is absent.
 fn place_files_of<'a>(matches: &ArgMatches<'a>) -> Option<PlaceFiles<'a>>
     ensures given { IfSome result
@@ -102,8 +116,7 @@ fn place_files_of<'a>(matches: &ArgMatches<'a>) -> Option<PlaceFiles<'a>>
         → HasPlaceFiles (rows_of (found_of matches.now)) files → ⊥) }
 {
     Some(PlaceFiles {
-        settings: word_of(matches, "settings")?,
-        values: word_of(matches, "values"),
+        sites: site_files_of(matches)?,
         log: word_of(matches, "log")?,
     })
 }
@@ -254,6 +267,17 @@ fn report_of<'a>(matches: &ArgMatches<'a>) -> Option<StreamOrder<'a>>
     })
 }
 
+fn interfaces_of<'a>(matches: &ArgMatches<'a>) -> Option<StreamOrder<'a>>
+    ensures order { IfSome result (λ order.
+        IsStreamOrderIn order (codes "interfaces") (rows_of (found_of matches.now))) }
+    ensures none { IfNone result ((order : StreamOrder)
+        → IsStreamOrderIn order (codes "interfaces") (rows_of (found_of matches.now)) → ⊥) }
+{
+    Some(StreamOrder::Interfaces {
+        files: site_files_of(matches)?,
+    })
+}
+
 // The one file that is given, if there is just one.
 fn faults_of<'a>(matches: &ArgMatches<'a>) -> Option<StreamOrder<'a>>
     ensures order { IfSome result (λ order.
@@ -291,6 +315,7 @@ fn form_of<'a>(name: &str, matches: &ArgMatches<'a>) -> Option<StreamOrder<'a>>
         "answer" => answer_of(matches),
         "check" => check_of(matches),
         "report" => report_of(matches),
+        "interfaces" => interfaces_of(matches),
         "faults" => faults_of(matches),
         _ => None,
     }

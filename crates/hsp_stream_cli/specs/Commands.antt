@@ -10,6 +10,7 @@ use Rattle.hsp_cli_orders.specs.declared.stream_order.PlaceFiles.{PlaceFiles}
 use Rattle.hsp_cli_orders.specs.declared.stream_order.PlanFiles.{PlanFiles}
 use Rattle.hsp_cli_orders.specs.declared.stream_order.PriceFiles.{PriceFiles}
 use Rattle.hsp_cli_orders.specs.declared.stream_order.ServiceFiles.{ServiceFiles}
+use Rattle.hsp_cli_orders.specs.declared.stream_order.SiteFiles.{SiteFiles}
 use Rattle.hsp_cli_orders.specs.declared.stream_order.StreamOrder.{StreamOrder}
 use Rattle.hsp_cli_orders.specs.declared.stream_order.StreamOrder.TheVariants as order
 use Rattle.hsp_cli.specs.Commands.{AreOpened, DispatchFails}
@@ -26,6 +27,7 @@ use Rattle.hsp_stream_cli.specs.Checking.{PrintsVerdict}
 use Rattle.hsp_stream_cli.specs.Faults.{EndsList, HoldsText, asked_for}
 use Rattle.hsp_stream_cli.specs.Files.{AreKindsHeld, ArePricesHeld, AreServiceHeld, AreSourcesHeld, KindsFail}
 use Rattle.hsp_stream_cli.specs.Files.{PricesFail, ServiceFails, SourcesFail}
+use Rattle.hsp_stream_cli.specs.Listing.{PrintsInterfaces}
 use Rattle.hsp_stream_cli.specs.Planning.{PrintsPlan}
 use Rattle.hsp_stream_cli.specs.Printing.{Ended, PrintsTable, PrintsText}
 use Rattle.hsp_stream_cli.specs.Reporting.{PrintsReport, kind_of}
@@ -50,8 +52,8 @@ PrintsKinds disk MayFail files unit old new ended =
 -- the places of a log's handles are stated
 abbrev pub StatesPlaces : Disk → Type 0 → PlaceFiles → Option (List ℕ) → Option (List ℕ) → Ended → Type 0
 StatesPlaces disk MayFail files old new ended =
-    LacksFile (SourcesFail disk files ⊎ disk.fails files.log) old new ended
-    ⊎ ((sources : Sources) × (left : Option (List ℕ)) × AreSourcesHeld disk files sources
+    LacksFile (SourcesFail disk files.sites ⊎ disk.fails files.log) old new ended
+    ⊎ ((sources : Sources) × (left : Option (List ℕ)) × AreSourcesHeld disk files.sites sources
     × HoldsRest disk files.log left
     × TalksOver (disk.fails files.log) MayFail left old new ended (EndsPlaces sources ended))
 
@@ -100,6 +102,12 @@ PlansLog disk MayFail files old new ended =
     ⊎ ((inputs : Inputs) × (left : Option (List ℕ)) × AreServiceHeld disk files inputs × HoldsRest disk files.log left
     × PrintsPlan MayFail inputs left old new ended)
 
+-- the service interfaces of servers are listed
+abbrev pub ListsInterfaces : Disk → Type 0 → SiteFiles → Option (List ℕ) → Option (List ℕ) → Ended → Type 0
+ListsInterfaces disk MayFail files old new ended =
+    LacksFile (SourcesFail disk files) old new ended
+    ⊎ ((sources : Sources) × AreSourcesHeld disk files sources × PrintsInterfaces MayFail sources old new ended)
+
 -- the faulty rows of a file are listed
 abbrev pub ListsFaults : Disk → FaultsOf → List ℕ → Option (List ℕ) → Option (List ℕ) → Ended → Type 0
 ListsFaults disk of file old new ended =
@@ -119,6 +127,7 @@ CarriesOut disk MayFail (order.AnswerPrices files front) old new ended =
 CarriesOut disk MayFail (order.Plan files) old new ended = PlansLog disk MayFail files old new ended
 CarriesOut disk MayFail (order.Check files) old new ended = ChecksPrices disk MayFail files old new ended
 CarriesOut disk MayFail (order.Report files kind) old new ended = ReportsPrices disk MayFail files kind old new ended
+CarriesOut disk MayFail (order.Interfaces files) old new ended = ListsInterfaces disk MayFail files old new ended
 CarriesOut disk MayFail (order.Faults of file) old new ended = ListsFaults disk of file old new ended
 
 -- the order is carried out; where there is none, nothing was written, and the failure is reported

@@ -3,9 +3,9 @@ use Rattle.std.specs.Prelude.{◌≡◌, ◌⊎◌, option_map}
 use Rattle.hsp_cli.specs.Commands.{FailsNamed, HoldsNamed}
 use Rattle.hsp_cli.specs.Files.{Disk}
 use Rattle.hsp_cli_orders.specs.declared.stream_order.KindFiles.{KindFiles}
-use Rattle.hsp_cli_orders.specs.declared.stream_order.PlaceFiles.{PlaceFiles}
 use Rattle.hsp_cli_orders.specs.declared.stream_order.PriceFiles.{PriceFiles}
 use Rattle.hsp_cli_orders.specs.declared.stream_order.ServiceFiles.{ServiceFiles}
+use Rattle.hsp_cli_orders.specs.declared.stream_order.SiteFiles.{SiteFiles}
 use Rattle.hsp_headline.specs.declared.inputs.Inputs.{Inputs}
 use Rattle.hsp_stream.specs.declared.kinds_files.KindsInputs.{KindsInputs}
 use Rattle.hsp_stream_cli.specs.declared.files.Priced.{Priced}
@@ -13,7 +13,7 @@ use Rattle.hsp_stream_cli.specs.declared.files.Sources.{Sources}
 use Rattle.hsp_stream_cli.specs.declared.files.TheConstants.{NO_ROWS}
 
 -- each source is what its own file holds
-pub record AreSourcesHeld (disk : Disk) (files : PlaceFiles) (sources : Sources) : Type 0 where
+pub record AreSourcesHeld (disk : Disk) (files : SiteFiles) (sources : Sources) : Type 0 where
   pub settings_held : disk.holds files.settings sources.settings.items
   pub values_held : HoldsNamed disk files.values (option_map (λ v. v.items) sources.values)
 
@@ -36,7 +36,7 @@ pub record ArePricesHeld (disk : Disk) (files : PriceFiles) (priced : Priced) : 
   pub prices_held : disk.holds files.prices priced.prices.items
 
 -- one of the files may fail to be read
-abbrev pub SourcesFail : Disk → PlaceFiles → Type 0
+abbrev pub SourcesFail : Disk → SiteFiles → Type 0
 SourcesFail disk files = disk.fails files.settings ⊎ FailsNamed disk files.values
 
 abbrev pub KindsFail : Disk → KindFiles → Type 0

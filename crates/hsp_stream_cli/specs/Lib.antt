@@ -4,6 +4,7 @@ pub mod Sums
 pub mod Printing
 pub mod Talking
 pub mod Checking
+pub mod Listing
 pub mod Planning
 pub mod Reporting
 pub mod Commands

@@ -7,6 +7,7 @@ ghost use Rattle.hsp_stream_cli.specs.Printing.{IsHandedOn};
 use crate::answering::{AskedPortion, answer_log, answer_priced};
 use crate::checking::check_prices;
 use crate::faults::list_faults;
+use crate::listing::list_interfaces;
 use crate::placing::state_places;
 use crate::planning::plan_log;
 use crate::printing::{print, print_kinds};
@@ -46,6 +47,7 @@ fn carry_out<S: FileSource, P: Progress + Drop, O: Output>(
         ),
         StreamOrder::Check { files } => check_prices(alloc, source, files, out),
         StreamOrder::Report { files, kind } => report_prices(alloc, source, files, *kind, out),
+        StreamOrder::Interfaces { files } => list_interfaces(alloc, source, files, out),
         StreamOrder::Faults { of, file } => list_faults(alloc, source, *of, file, out),
     }
 }

@@ -6,7 +6,7 @@ ghost use Rattle.hsp_stream_cli.specs.Files.{AreKindsHeld, ArePricesHeld, AreSou
 ghost use Rattle.hsp_stream_cli.specs.Files.{AreServiceHeld, ServiceFails, SourcesFail};
 
 use hsp_cli::{FileSource, Unread, read_named, read_whole};
-use hsp_cli_orders::{KindFiles, PlaceFiles, PriceFiles, ServiceFiles};
+use hsp_cli_orders::{KindFiles, PriceFiles, ServiceFiles, SiteFiles};
 use hsp_runs::Inputs;
 use hsp_stream::KindsInputs;
 use std::alloc::Global;
@@ -33,7 +33,7 @@ pub(crate) const NO_ROWS: &[u8] = b"region,handle,count\n";
 pub(crate) fn read_sources<S: FileSource>(
     alloc: Global,
     files: &S,
-    named: &PlaceFiles<'_>,
+    named: &SiteFiles<'_>,
 ) -> Result<Sources, Unread>
     ensures held { IfOk result
         (λ sources. AreSourcesHeld (S.disk files.now) named.now sources) }

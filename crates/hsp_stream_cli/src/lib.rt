@@ -7,6 +7,7 @@ mod checking;
 mod commands;
 mod faults;
 mod files;
+mod listing;
 mod placing;
 mod planning;
 mod printing;

@@ -40,7 +40,7 @@ pub(crate) fn state_places<S: FileSource, O: Output>(
     ensures handed { IsHandedOn (O.contents out.old) (O.handed out.old) (O.contents out.new)
         (O.handed out.new) result }
 {
-    let sources = read_sources(alloc, files, named)?;
+    let sources = read_sources(alloc, files, &named.sites)?;
     let log = files.open(&named.log)?;
     talk_over(alloc, &sources, log, out)
 }

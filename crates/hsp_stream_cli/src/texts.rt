@@ -40,6 +40,10 @@ hsplan-stream report --settings F [--values F] --costs F --capacity F --log F
     prints a line for each server or region by a certificate by prices, and last
     the bound or the sums.
 
+hsplan-stream interfaces --settings F [--values F]
+    prints a row for each service interface of each server: its site, place,
+    server_id, address, type, protocol and port.
+
 hsplan-stream faults --demand F | --costs F | --capacity F | --log F
     prints every faulty row of a table or a log: its row, line, field and fault.
 

@@ -10,6 +10,8 @@ mod fakes;
 #[cfg(test)]
 mod faulty_tests;
 #[cfg(test)]
+mod interface_tests;
+#[cfg(test)]
 mod kinds_tests;
 #[cfg(test)]
 mod line_tests;

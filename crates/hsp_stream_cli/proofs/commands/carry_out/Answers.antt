@@ -20,3 +20,6 @@ returns-in-Report-clause-carries_out g c = rw c.in-Report.is c.report_prices.ens
 
 pub returns-in-Plan-clause-carries_out : goal.returns-in-Plan-clause-carries_out
 returns-in-Plan-clause-carries_out g c = rw c.in-Plan.is c.plan_log.ensures.plans
+
+pub returns-in-Interfaces-clause-carries_out : goal.returns-in-Interfaces-clause-carries_out
+returns-in-Interfaces-clause-carries_out g c = rw c.in-Interfaces.is c.list_interfaces.ensures.lists

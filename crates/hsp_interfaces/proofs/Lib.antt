@@ -1,0 +1,3 @@
+mod Spelled
+mod Turns
+mod Writing
