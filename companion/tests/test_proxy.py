@@ -491,8 +491,7 @@ def exported(hsp: Hsp, folder: Path, into: Path, *words: str, status: int = 0) -
 def test_a_value_list_has_the_same_urls(hsp: Hsp, two: Path, tmp_path: Path) -> None:
     (two / "hsp.toml").unlink()
     words = ["--regions", str(two / "networks.csv")]
-    said = exported(hsp, two, tmp_path / "records", *words)
-    assert "reston:2 and reston:3 have one URL" in said
+    assert not exported(hsp, two, tmp_path / "records", *words)
     exported(hsp, two, tmp_path / "values", *words, "--settings", str(two / "by_index.toml"))
     one, other = ((tmp_path / name / "haproxy.cfg").read_text().splitlines()[2:] for name in ("records", "values"))
     assert one == other
@@ -581,13 +580,13 @@ def test_a_proxy_trusts_a_server_by_its_name(
 
 def test_the_doctor_warns_of_servers_of_one_url(hsp: Hsp, example: Example) -> None:
     """Only where the folder is to be exported, and with the place of the table."""
-    folder = example("two-sites")
+    folder, same = example("two-sites"), '[proxy]\n[proxy.urls]\n"reston:3" = "http://198.51.100.22:8000"\n'
     assert "one URL" not in hsp("doctor", str(folder)).stdout
-    put(folder, networks=NETWORKS, hsp='title = "x"\n[proxy]\nregions = "networks.csv"\n')
+    put(folder, networks=NETWORKS, hsp=f'title = "x"\n{same}')
     said = hsp("doctor", str(folder)).stdout
     assert "warning: reston:2 and reston:3 have one URL, http://198.51.100.22:8000\n" in said
     assert "hsp.toml:2:2\n" in said and 'write "reston:3" = "https://mirror.example" below [proxy.urls]' in said
-    put(folder, hsp='accept = ["one URL reston:2"]\n[proxy]\nregions = "networks.csv"\n')
+    put(folder, hsp=f'accept = ["one URL reston:2"]\n{same}')
     assert "warning" not in hsp("doctor", str(folder)).stdout
     put(folder, hsp='[proxy]\nregions = "networks.csv"\n[proxy.urls]\n"reston:3" = "http://198.51.100.23:8000"\n')
     assert "warning" not in hsp("doctor", str(folder)).stdout
