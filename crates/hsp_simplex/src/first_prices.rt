@@ -15,6 +15,9 @@ use std::alloc::{AllocError, Global};
 /// How often all prices fall in a round.
 const FALLS: usize = 32;
 
+/// By how many times the greatest cost a full node's price rises in the first round, where the node may fill.
+const FIRST_RISE: u64 = 4;
+
 /// Prices in the making, for each node that is not a source.
 #[derive(Drop)]
 pub struct FirstPrices {
@@ -72,7 +75,10 @@ impl FirstPrices {
 
     /// By what a full node's price rises in the first round.
     pub(crate) fn first_rise(&self, graph: &Graph) -> u64 {
-        graph.greatest_cost.wrapping_mul(self.scale) / 2
+        graph
+            .limited_cost
+            .wrapping_mul(self.scale)
+            .wrapping_mul(FIRST_RISE)
     }
 
     /// Makes `count` rounds over the arcs, the first with this rise, and returns the rise of the next one.

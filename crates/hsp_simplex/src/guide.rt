@@ -5,6 +5,7 @@ use crate::candidates::candidates;
 use crate::first_prices::FirstPrices;
 use crate::graph::Graph;
 use crate::star::ForwardStar;
+use crate::tree::INFINITE_COST;
 use std::alloc::{AllocError, Global};
 
 /// How many rounds are made over all arcs, and then over candidates.
@@ -15,11 +16,24 @@ const LAST_ROUNDS: u32 = 6;
 /// A candidate may cost more than the cheapest arc by this many rises of the next round.
 const WINDOW: u64 = 4;
 
+/// Where sources have no more arcs each than so many, all are candidates. So few arcs are soon looked at, and what finds
+/// no room by some of them would have to find it by arcs that are priced last.
+const FEW_ARCS: usize = 8;
+
 /// First prices, and the arcs that matter by them.
 #[derive(Drop)]
 pub struct Guide {
     pub prices: FirstPrices,
     pub candidates: ForwardStar,
+}
+
+// By how much a candidate may cost more than the cheapest arc of its source, where prices rise by so much next.
+fn window_of(graph: &Graph, rise: u64) -> u64 {
+    if graph.star.arcs.len() / FEW_ARCS <= graph.source_count {
+        INFINITE_COST
+    } else {
+        rise.wrapping_mul(WINDOW)
+    }
 }
 
 impl Guide {
@@ -28,7 +42,7 @@ impl Guide {
         let mut prices = FirstPrices::zero(alloc, graph)?;
         let first_rise = prices.first_rise(graph);
         let rise = prices.rounds(graph, &graph.star, ROUNDS, first_rise);
-        let candidates = candidates(alloc, graph, &prices, rise.wrapping_mul(WINDOW))?;
+        let candidates = candidates(alloc, graph, &prices, window_of(graph, rise))?;
         prices.rounds(graph, &candidates, LAST_ROUNDS, rise);
         Ok(Guide { prices, candidates })
     }
