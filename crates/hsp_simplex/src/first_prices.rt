@@ -15,8 +15,8 @@ use std::alloc::{AllocError, Global};
 /// How often all prices fall in a round.
 const FALLS: usize = 32;
 
-/// By how many times the greatest cost a full node's price rises in the first round, where the node may fill.
-const FIRST_RISE: u64 = 4;
+/// How many times higher prices rise in the first round where arcs are few: sources then have less choice.
+const SPARSE_RISE: u64 = 8;
 
 /// Prices in the making, for each node that is not a source.
 #[derive(Drop)]
@@ -75,10 +75,12 @@ impl FirstPrices {
 
     /// By what a full node's price rises in the first round.
     pub(crate) fn first_rise(&self, graph: &Graph) -> u64 {
-        graph
-            .limited_cost
-            .wrapping_mul(self.scale)
-            .wrapping_mul(FIRST_RISE)
+        let rise = graph.limited_cost.wrapping_mul(self.scale) / 2;
+        if graph.is_sparse() {
+            rise.wrapping_mul(SPARSE_RISE)
+        } else {
+            rise
+        }
     }
 
     /// Makes `count` rounds over the arcs, the first with this rise, and returns the rise of the next one.

@@ -16,6 +16,9 @@ use std::ops::Range;
 /// The node to which all flow goes.
 pub const ROOT: usize = 0;
 
+/// Arcs are few where sources have no more of them each, on average.
+const FEW_ARCS: usize = 8;
+
 /// The graph.
 #[derive(Drop)]
 pub struct Graph {
@@ -70,6 +73,11 @@ impl Graph {
     #[inline(always)]
     pub(crate) fn is_source(&self, node: usize) -> bool {
         node > self.transshipment_count
+    }
+
+    /// Whether arcs are few.
+    pub(crate) fn is_sparse(&self) -> bool {
+        self.star.arcs.len() / FEW_ARCS <= self.source_count
     }
 
     /// The node of a source.

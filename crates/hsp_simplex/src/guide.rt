@@ -16,10 +16,6 @@ const LAST_ROUNDS: u32 = 6;
 /// A candidate may cost more than the cheapest arc by this many rises of the next round.
 const WINDOW: u64 = 4;
 
-/// Where sources have no more arcs each than so many, all are candidates. So few arcs are soon looked at, and what finds
-/// no room by some of them would have to find it by arcs that are priced last.
-const FEW_ARCS: usize = 8;
-
 /// First prices, and the arcs that matter by them.
 #[derive(Drop)]
 pub struct Guide {
@@ -27,9 +23,10 @@ pub struct Guide {
     pub candidates: ForwardStar,
 }
 
-// By how much a candidate may cost more than the cheapest arc of its source, where prices rise by so much next.
+// By how much a candidate may cost more than the cheapest arc of its source, where prices rise by so much next. Where
+// arcs are few all are candidates: what finds no room by some would have to find it by arcs that are priced last.
 fn window_of(graph: &Graph, rise: u64) -> u64 {
-    if graph.star.arcs.len() / FEW_ARCS <= graph.source_count {
+    if graph.is_sparse() {
         INFINITE_COST
     } else {
         rise.wrapping_mul(WINDOW)
