@@ -6,7 +6,8 @@ ghost use Rattle.hsp_price_plan.specs.Planning.{AreOfSome, Outlasts};
 
 use crate::groups::Groups;
 use crate::levels::{FIRST_ROWS, Guess, MOST_ROUNDS, guess_of};
-use crate::network::{Terms, solve};
+use crate::network::solve;
+use crate::terms::Terms;
 use hsp_kept_rows::KeptRows;
 use hsp_price_check::ServiceNumbers;
 use hsp_price_plan::Progress;

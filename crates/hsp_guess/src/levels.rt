@@ -2,9 +2,10 @@
 
 use crate::groups::Groups;
 use crate::lists::saturating_sum;
-use crate::network::{Terms, solve};
+use crate::network::solve;
 use crate::sample::Sample;
 use crate::sampling::{asked_in, sample_of};
+use crate::terms::Terms;
 use hsp_kept_rows::KeptRows;
 use hsp_price_check::ServiceNumbers;
 use hsp_price_plan::Progress;

@@ -12,7 +12,9 @@ mod guess;
 mod levels;
 mod lists;
 mod network;
+mod room;
 mod sample;
 mod sampling;
+mod terms;
 
 pub use guess::keep_guessed;

@@ -28,6 +28,14 @@ pub(crate) fn increase(list: &mut [u64], place: usize, amount: u64) {
     }
 }
 
+/// Takes an amount from a number, down to 0.
+#[inline(always)]
+pub(crate) fn lower(list: &mut [u64], place: usize, amount: u64) {
+    if place < list.len() {
+        list[place] = list[place].saturating_sub(amount);
+    }
+}
+
 /// The items from `start` up to `end`, or none where these are not places of the list.
 #[inline(always)]
 pub(crate) fn between<T>(list: &[T], start: usize, end: usize) -> &[T] {

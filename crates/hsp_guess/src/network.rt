@@ -2,6 +2,8 @@
 
 use crate::groups::Groups;
 use crate::lists::{get_or, number_of, saturating_sum};
+use crate::room::Room;
+use crate::terms::Terms;
 use hsp_network::{Network, NetworkLists, Outcome, PricedFlow};
 use hsp_price_check::ServiceNumbers;
 use hsp_simplex::propose;
@@ -9,41 +11,6 @@ use std::alloc::{AllocError, Global};
 
 // The greatest sum of the prices of a server and its host.
 const MOST_EXTRA: u64 = 2_000_000_000_000;
-
-/// Which part of all queries a network's sources ask for, and what a query pays that is left over.
-#[derive(Clone, Copy, Drop)]
-pub(crate) struct Terms {
-    pub(crate) part: u64,
-    pub(crate) whole: u64,
-    pub(crate) penalty: u64,
-}
-
-impl Terms {
-    /// The terms of sources that ask for all queries.
-    pub(crate) fn of_all(penalty: u64) -> Terms {
-        Terms {
-            part: 1,
-            whole: 1,
-            penalty,
-        }
-    }
-
-    // The same part of an amount.
-    fn of(self, amount: u64) -> u64 {
-        let product = u128::from(amount).saturating_mul(u128::from(self.part));
-        let share = product / u128::from(self.whole.max(1));
-        u64::try_from(share).unwrap_or(u64::MAX)
-    }
-
-    // The same part of each amount.
-    fn of_each(self, alloc: Global, amounts: &[u64]) -> Result<Vec<u64>, AllocError> {
-        let mut shares = Vec::with_capacity(alloc, amounts.len())?;
-        for amount in amounts {
-            shares.push(self.of(*amount))?;
-        }
-        Ok(shares)
-    }
-}
 
 /// What a solution shows: what a query pays at each server beside an arc's cost, and whether queries are left over.
 #[derive(Drop)]
@@ -108,7 +75,7 @@ impl Columns {
         Ok(())
     }
 
-    // Adds what servers are loaded with beside the groups.
+    // Adds loads that servers have no room for.
     fn push_loads(&mut self, loads: &[u64]) -> Result<(), AllocError> {
         for server in 0..loads.len() {
             let load = get_or(loads, server, 0);
@@ -149,22 +116,21 @@ fn extras_by(
     Ok(extras)
 }
 
-// What the columns' network comes to over servers that each have a share of what they take.
+// What the columns' network comes to over servers and hosts with this room.
 fn outcome_of(
     alloc: Global,
     numbers: &ServiceNumbers,
     columns: &Columns,
-    terms: Terms,
+    room: &Room,
 ) -> Result<Option<Outcome>, AllocError> {
-    let mut capacities = terms.of_each(alloc, &numbers.capacities)?;
+    let mut capacities = room.capacities.to_vec(alloc)?;
     capacities.push(saturating_sum(&columns.demands))?;
     let mut hosts = numbers.server_hosts.to_vec(alloc)?;
     hosts.push(None)?;
-    let limits = terms.of_each(alloc, &numbers.limits)?;
     let lists = NetworkLists {
         demands: &columns.demands,
         capacities: &capacities,
-        limits: &limits,
+        limits: &room.limits,
         hosts: &hosts,
         sources: &columns.sources,
         servers: &columns.servers,
@@ -186,8 +152,9 @@ pub(crate) fn solve(
 ) -> Result<Option<Solved>, AllocError> {
     let mut columns = Columns::new(alloc, numbers.capacities.len(), terms.penalty);
     columns.push_groups(groups)?;
-    columns.push_loads(groups.loads())?;
-    match outcome_of(alloc, numbers, &columns, terms)? {
+    let room = Room::new(alloc, numbers, groups.loads(), terms)?;
+    columns.push_loads(&room.loads)?;
+    match outcome_of(alloc, numbers, &columns, &room)? {
         Some(Outcome::Met(flow)) => Ok(Some(Solved {
             extras: extras_by(alloc, numbers, &flow)?,
             is_over: columns.are_over(&flow.flows),

@@ -16,6 +16,9 @@ use std::ops::Range;
 /// The node to which all flow goes.
 pub const ROOT: usize = 0;
 
+/// Arcs are few where sources have no more of them each, on average.
+const FEW_ARCS: usize = 8;
+
 /// The graph.
 #[derive(Drop)]
 pub struct Graph {
@@ -24,6 +27,9 @@ pub struct Graph {
     /// How many hosts and servers there are, and so the number of the last one.
     pub transshipment_count: usize,
     pub greatest_cost: u64,
+    /// The greatest cost of an arc to a server that can't take all demands, where there is one. Others never fill, and
+    /// so have no price.
+    pub limited_cost: u64,
     pub artificial_cost: u64,
     pub demands: Vec<u64>,
     /// All arcs of the sources.
@@ -67,6 +73,11 @@ impl Graph {
     #[inline(always)]
     pub(crate) fn is_source(&self, node: usize) -> bool {
         node > self.transshipment_count
+    }
+
+    /// Whether arcs are few.
+    pub(crate) fn is_sparse(&self) -> bool {
+        self.star.arcs.len() / FEW_ARCS <= self.source_count
     }
 
     /// The node of a source.
@@ -132,6 +143,7 @@ impl Graph {
             host_count,
             transshipment_count: host_count.saturating_add(server_count),
             greatest_cost,
+            limited_cost: limited_cost(network, total_demand).unwrap_or(greatest_cost),
             artificial_cost: greatest_cost
                 .saturating_mul(server_count as u64)
                 .saturating_add(1),
@@ -141,6 +153,19 @@ impl Graph {
             outlet_capacities: outlet_capacities(alloc, network, total_demand)?,
         })
     }
+}
+
+// The greatest cost of an arc to a server that can't take all demands.
+fn limited_cost(network: &Network<'_>, total_demand: u64) -> Option<u64> {
+    let mut most = None;
+    for arc in 0..network.servers.len() {
+        let server = get_or(network.servers, arc, 0) as usize;
+        let cost = get_or(network.costs, arc, 0);
+        if get_or(network.capacities, server, 0) < total_demand && most < Some(cost) {
+            most = Some(cost);
+        }
+    }
+    most
 }
 
 // All arcs of the network, in forward star order.
