@@ -12,13 +12,14 @@ use Rattle.hsp_headline.specs.Readings.{AreSites}
 use Rattle.hsp_interfaces.specs.Interfaces.{HasRecord, HaveRecords}
 
 module _ (values : Option (List HandleValue)) (n before : ℕ) (name : List ℕ) (source : SiteSource) (site : Site) where
+  -- octets that were read as the record of a site that is there spell it
   by_reading : (bytes : List ℕ) → site_octets values n source ≡ Ok bytes
       → (reading : Result records.Site RecordFault) → IsReading bytes reading
       → Ok site ≡ site_of_reading n before name reading → HasRecord values n source
   by_reading bytes spelled (Err fault) is e = absurd cc
   by_reading bytes spelled (Ok r) is e = (r, (bytes, spelled, is.means))
 
-  -- so do those of one site
+  -- so do those of a source
   site_has : (found : Result (List ℕ) BuildFault) → site_octets values n source ≡ found
       → IsSiteOf n before name found (Ok site) → HasRecord values n source
   site_has (Err fault) spelled is = absurd cc
@@ -30,10 +31,9 @@ sites_have : (values : Option (List HandleValue)) (earlier : List Site) (entries
 sites_have values earlier [] sites are = tt
 sites_have values earlier (entry ∷ more) sites (Err fault, is, follows) = absurd cc
 sites_have values earlier (entry ∷ more) sites (Ok site, is, follows) =
-    let longer : length (earlier ++ site ∷ []) ≡ length earlier + 1 = length-append earlier (site ∷ []) in
-    (
+    let longer : length (earlier ++ site ∷ []) ≡ length earlier + 1 = length-append earlier (site ∷ []) in (
       site_has values (length earlier) (servers_of earlier) entry.name entry.source site
-      (site_octets values (length earlier) entry.source) refl is,
+          (site_octets values (length earlier) entry.source) refl is,
       rw longer at (sites_have values (earlier ++ site ∷ []) more sites follows),
     )
 

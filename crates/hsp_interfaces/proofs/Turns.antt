@@ -47,10 +47,11 @@ module _ (values : Option (List HandleValue)) (entries : List SiteEntry) (i : �
   left : drop i entries ≡ record { name = name; source = source } ∷ drop (i + 1) entries
   left = drop_at entries i (record { name = name; source = source }) (entry_at entries i name source named sourced)
 
-  -- so its octets spell a record, and those of the entries behind it do
+  -- so its octets spell a record
   pub record_there : HaveRecords values i (drop i entries) → HasRecord values i source
   record_there have = (rw left at have).0
 
+  -- and those of the entries behind it do
   pub records_behind : HaveRecords values i (drop i entries) → HaveRecords values (i + 1) (drop (i + 1) entries)
   records_behind have = (rw left at have).1
 

@@ -59,8 +59,11 @@ fn push_interface_fields(
     protocol: u8,
     port: u32,
 ) -> Result<(), AllocError>
-    ensures { OnOk result (out.new.items ≡ out.old.items
-        ++ interface_fields (record { service_type = service_type; protocol = protocol; port = port })) }
+    ensures { OnOk result (out.new.items ≡ out.old.items ++ interface_fields (record {
+      service_type = service_type;
+      protocol = protocol;
+      port = port;
+    })) }
 {
     push_whole(out, u64::from(service_type))?;
     out.push(b',')?;

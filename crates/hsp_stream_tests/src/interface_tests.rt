@@ -12,8 +12,8 @@ use std::process::Abort;
 
 /// A site of two servers: the first has two interfaces, the second none.
 const TWO: &[u8] = b"[[site]]\nname = \"X\"\n\
-    record = \"0001020b0001000000000000000000000000000200000009000000000000000000000000c00002010000000000000002030000000a51\
-    020200001f4000000004000000000000000000000000c00002020000000000000000\"\n";
+    record = \"0001020b0001000000000000000000000000000200000009000000000000000000000000c0000201000000000000000203\
+    0000000a51020200001f4000000004000000000000000000000000c00002020000000000000000\"\n";
 
 const HEADER: &[u8] = b"site,place,server_id,address,type,protocol,port\n";
 
@@ -30,8 +30,18 @@ fn has_table(rt: &impl Abort, alloc: Global, settings: &[u8], wanted: &[u8]) {
     is_same(rt, table.as_slice(), wanted);
 }
 
-fn has_fault(rt: &impl Abort, alloc: Global, settings: &[u8], values: Option<&[u8]>, wanted: Fault) {
-    is_same(rt, interfaces_of(alloc, settings, values).err(), Some(wanted));
+fn has_fault(
+    rt: &impl Abort,
+    alloc: Global,
+    settings: &[u8],
+    values: Option<&[u8]>,
+    wanted: Fault,
+) {
+    is_same(
+        rt,
+        interfaces_of(alloc, settings, values).err(),
+        Some(wanted),
+    );
 }
 
 #[test]
@@ -50,7 +60,13 @@ fn interfaces_are_listed(rt: HostRuntime) {
 
 #[test]
 fn interfaces_have_the_faults_of_sites(rt: HostRuntime) {
-    has_fault(&rt, rt.alloc(), b"=", None, Fault::Settings(TableFault::NotToml));
+    has_fault(
+        &rt,
+        rt.alloc(),
+        b"=",
+        None,
+        Fault::Settings(TableFault::NotToml),
+    );
     has_fault(
         &rt,
         rt.alloc(),
