@@ -1,5 +1,5 @@
 -- The octets of sites that are there spell records.
-use Rattle.std.proofs.Common.{◌≡◌, ◌++◌, ◌∷◌, [], ◌+◌, ℕ, List, Option, length, length-append, refl, arith}
+use Rattle.std.proofs.Common.{◌≡◌, ◌++◌, ◌∷◌, [], ◌+◌, ℕ, List, Option, length, length-append, refl}
 use Rattle.std.proofs.Common.{Result, Ok, Err}
 use Rattle.hsp_record.specs.Site as records
 use Rattle.hsp_record.specs.Values.{HandleValue}

@@ -25,7 +25,8 @@ pub fn interfaces_run(
         (AreInterfacesIn settings.now (option_map (λ v. v.now) values.entry)) result }
 {
     let settings = settings_in(alloc, settings)?;
-    let values = values_in(alloc, values)?;
-    let _sites = sites_of(alloc, &settings, values.as_ref())?;
-    Ok(table_of(alloc, &settings, values.as_ref())?)
+    let listed = values_in(alloc, values)?;
+    let values = listed.as_ref();
+    let _sites = sites_of(alloc, &settings, values)?;
+    Ok(table_of(alloc, &settings, values)?)
 }
