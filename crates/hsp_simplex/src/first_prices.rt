@@ -15,8 +15,9 @@ use std::alloc::{AllocError, Global};
 /// How often all prices fall in a round.
 const FALLS: usize = 32;
 
-/// How many times higher prices rise in the first round where arcs are few: sources then have less choice.
-const SPARSE_RISE: u64 = 8;
+/// By how many times the greatest cost prices rise in the first round where many sources have few arcs, and so less
+/// choice.
+const SPARSE_RISE: u64 = 4;
 
 /// Prices in the making, for each node that is not a source.
 #[derive(Drop)]
@@ -75,11 +76,11 @@ impl FirstPrices {
 
     /// By what a full node's price rises in the first round.
     pub(crate) fn first_rise(&self, graph: &Graph) -> u64 {
-        let rise = graph.limited_cost.wrapping_mul(self.scale) / 2;
         if graph.is_sparse() {
-            rise.wrapping_mul(SPARSE_RISE)
+            let cost = graph.limited_cost.wrapping_mul(self.scale);
+            cost.wrapping_mul(SPARSE_RISE)
         } else {
-            rise
+            graph.greatest_cost.wrapping_mul(self.scale) / 2
         }
     }
 

@@ -19,6 +19,9 @@ pub const ROOT: usize = 0;
 /// Arcs are few where sources have no more of them each, on average.
 const FEW_ARCS: usize = 8;
 
+/// Sources are many where there are more. Fewer are soon solved, whatever the first tree.
+const MANY_SOURCES: usize = 8_192;
+
 /// The graph.
 #[derive(Drop)]
 pub struct Graph {
@@ -75,9 +78,9 @@ impl Graph {
         node > self.transshipment_count
     }
 
-    /// Whether arcs are few.
+    /// Whether sources are many, and arcs few.
     pub(crate) fn is_sparse(&self) -> bool {
-        self.star.arcs.len() / FEW_ARCS <= self.source_count
+        self.source_count > MANY_SOURCES && self.star.arcs.len() / FEW_ARCS <= self.source_count
     }
 
     /// The node of a source.
