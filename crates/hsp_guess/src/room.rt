@@ -1,7 +1,7 @@
 // What servers and hosts have room for beside the rows that keep one arc only.
 //
-// Such rows have no choice, and are most of all. Those of a server, as one source of the network, would fill much of it at
-// once, and first prices would swing. So they take their room before.
+// Such rows have no choice, and are most of all. Those of a server, as one source of the network, would fill much of it
+// at once, and first prices would swing. So they take their room before.
 
 use crate::lists::{get_or, lower};
 use crate::terms::Terms;
