@@ -36,8 +36,11 @@ class Place:
 
     def block(self) -> str:
         octets = [ipaddress.ip_address(it).packed.rjust(16, b"\0") for it in self.addresses]
-        interfaces = (Interface(BOTH, 0, 2641),)
-        servers = tuple(ServerRecord(at, it, b"", interfaces) for at, it in enumerate(octets, 1))
+        # Each server has a port of its own, whatever other sites are at its address.
+        first = 64 * int.from_bytes(self.name.encode()[-3:], "big")
+        servers = tuple(
+            ServerRecord(at, it, b"", (Interface(BOTH, 0, first + at),)) for at, it in enumerate(octets, 1)
+        )
         record = SiteRecord(1, (2, 11), 1, 0, self.option, b"", (), servers).octets().hex()
         return f'[[site]]\nname = "{self.name}"\nrecord = "{record}"\n'
 
