@@ -4,7 +4,8 @@
 #                  with PROVED=1 the program is proved and built first
 # make uninstall   removes what make install put there
 # make prove       proves the program's crates from nothing, and builds the program
-# make release     writes the folder release from what was proved and built
+# make release     writes the folder release from what was proved and built: an archive and a package of Debian
+# make deb         writes the package of Debian of the release anew
 # make quick       runs the checks that need no built program: documents, examples, completions, types
 # make test        runs the whole gate: the checks of documents and examples, every proof from nothing,
 #                  every test and every must-fail edit
@@ -15,7 +16,10 @@ MAKEFLAGS += --no-print-directory
 PREFIX ?= /usr/local
 DESTDIR ?=
 
-.PHONY: demo try install uninstall prove release quick test mutants fuzz
+# HSPLAN and HSPLAN_STREAM name the programs that a check tries. Here these are the ones that are built.
+unexport HSPLAN HSPLAN_STREAM
+
+.PHONY: demo try install uninstall prove release deb quick test mutants fuzz
 
 demo:
 	@tools/demo.py
@@ -34,6 +38,9 @@ prove:
 
 release:
 	@tools/make_release.py
+
+deb:
+	@tools/make_release.py --deb
 
 quick:
 	tools/gate/packages.py
@@ -56,6 +63,7 @@ test: quick
 	tools/gate/check_examples.py
 	tools/gate/check_install.py
 	tools/gate/check_release.py
+	tools/gate/check_deb.py
 	tools/gate/check_growth.py
 	tools/gate/check_program.py
 	tools/gate/check_stream.py

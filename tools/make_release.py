@@ -5,25 +5,29 @@ Where the sources are still those of the release that is there, the programs of 
 guide needs no proof.
 
     release/hsplan-VERSION-x86_64-linux.tar.xz    programs, hsp, manual pages, completions and guide, as below PREFIX
-    release/SHA256SUMS                            the sum of the archive, for `sha256sum -c`
-    release/MADE                                  version, the kit's line of `rt version`, the sum over the sources
+    release/hsplan_VERSION_amd64.deb              the same and the examples as a package of Debian (tools/lib/deb.py)
+    release/SHA256SUMS                            the sums of both, for `sha256sum -c`
+    release/MADE                                  version, the kit's line of `rt version`, the sum over the sources,
+                                                  and the program that wrote the package
 
-The same programs and files give the same archive, octet for octet. tools/gate/check_release.py compares it with what is
-proved and built.
+    tools/make_release.py --deb    writes only the package and its sum
+
+The same programs and files give the same archive and package, octet for octet. tools/gate/check_release.py compares
+them with what is proved and built.
 """
 from __future__ import annotations
 
+import argparse
 import glob
 import io
 import lzma
 import os
 import shutil
-import subprocess
 import sys
 import tarfile
 import tempfile
 
-from lib import companion, programs
+from lib import companion, deb, programs
 
 
 def contents(made: dict[str, str]) -> dict[str, tuple[str, int]]:
@@ -54,11 +58,6 @@ def packed(held: dict[str, tuple[str, int]]) -> bytes:
     return lzma.compress(room.getvalue(), preset=9 | lzma.PRESET_EXTREME)
 
 
-def kit() -> str:
-    """The line by which the kit names itself."""
-    return subprocess.run(["rt", "version"], stdout=subprocess.PIPE, text=True, check=True).stdout.strip()
-
-
 def write(name: str, octets: bytes) -> None:
     with open(os.path.join(programs.RELEASE, name), "wb") as file:
         file.write(octets)
@@ -68,8 +67,8 @@ def proved(folder: str) -> tuple[dict[str, str], str]:
     """The proved programs by their names, and the line of the kit that proved them."""
     made = {it: programs.built(it) for it in programs.PROGRAMS}
     found = {name: path for name, path in made.items() if path}
-    if len(found) == len(made) and shutil.which("rt"):
-        return found, kit()
+    if len(found) == len(made) and (kit := programs.kit()):
+        return found, kit
     said = programs.made()
     if said.get("sources") != programs.digest():
         raise programs.Missing(
@@ -79,24 +78,58 @@ def proved(folder: str) -> tuple[dict[str, str], str]:
     return {it: os.path.join(room, "bin", it) for it in programs.PROGRAMS}, said["kit"]
 
 
-def write_all(found: dict[str, str], by: str) -> None:
+def clear(ending: str) -> None:
+    """Removes the files of the release that end so, those of older versions among them."""
+    for path in glob.glob(os.path.join(programs.RELEASE, f"*{ending}")):
+        os.remove(path)
+
+
+def write_archive(found: dict[str, str]) -> None:
     with tempfile.TemporaryDirectory() as folder:
         octets = packed(with_companion(folder, contents(found)))
+    clear(".tar.xz")
+    write(os.path.basename(programs.archive(programs.version())), octets)
+
+
+def write_package(found: dict[str, str]) -> None:
+    with tempfile.TemporaryDirectory() as folder:
+        path = os.path.join(folder, "package")
+        deb.write(found, path)
+        clear(".deb")
+        shutil.copyfile(path, programs.package(programs.version()))
+
+
+def write_sums() -> None:
+    """Lists the archive and the package that are there with their sums."""
+    paths = sorted(glob.glob(f"{programs.RELEASE}/*.tar.xz") + glob.glob(f"{programs.RELEASE}/*.deb"))
+    write("SHA256SUMS", "".join(f"{programs.sum_of(it)}  {os.path.basename(it)}\n" for it in paths).encode())
+    for it in paths:
+        print(f"release/{os.path.basename(it)}: {os.path.getsize(it):,} octets")
+
+
+def write_made(stated: dict[str, str]) -> None:
+    write("MADE", "".join(f"{word} {rest}\n" for word, rest in stated.items()).encode())
+
+
+def write_all(found: dict[str, str], by: str) -> None:
     os.makedirs(programs.RELEASE, exist_ok=True)
-    for path in glob.glob(os.path.join(programs.RELEASE, "*.tar.xz")):
-        os.remove(path)
-    path = programs.archive(programs.version())
-    name = os.path.basename(path)
-    write(name, octets)
-    write("SHA256SUMS", f"{programs.sum_of(path)}  {name}\n".encode())
-    write("MADE", f"version {programs.version()}\nkit {by}\nsources {programs.digest()}\n".encode())
-    print(f"release/{name}: {len(octets):,} octets")
+    write_package(found)
+    write_archive(found)
+    write_sums()
+    write_made({"version": programs.version(), "kit": by, "sources": programs.digest(), "packer": deb.packer()})
 
 
 def main() -> int:
+    arguments = argparse.ArgumentParser(description="Writes the folder release.")
+    arguments.add_argument("--deb", action="store_true", help="write only the package of Debian and its sum")
     with tempfile.TemporaryDirectory() as folder:
         try:
-            write_all(*proved(folder))
+            if arguments.parse_args().deb:
+                write_package(proved(folder)[0])
+                write_sums()
+                write_made({**programs.made(), "packer": deb.packer()})
+            else:
+                write_all(*proved(folder))
         except programs.Missing as missing:
             print(missing, file=sys.stderr)
             return 1

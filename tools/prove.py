@@ -22,9 +22,6 @@ from typing import Optional
 from lib import lanes, programs
 
 
-NEED_KIT = 'no rt in PATH: a proof takes the Rattle kit; README.md has more under "The kit"'
-
-
 class Kit:
     """Where the kit's prover, libraries and linker stand."""
 
@@ -200,8 +197,8 @@ def take(kit: Kit, room: str) -> bool:
 
 
 def main() -> int:
-    if not shutil.which("rt"):
-        print(NEED_KIT, file=sys.stderr)
+    if not programs.kit():
+        print(programs.NEED_KIT, file=sys.stderr)
         return 1
     kit, before = Kit(), programs.digest()
     with tempfile.TemporaryDirectory() as room:

@@ -28,7 +28,6 @@ import glob
 import os
 import re
 import shutil
-import subprocess
 import sys
 from collections.abc import Iterator
 from pathlib import Path
@@ -246,10 +245,10 @@ def merge_marks() -> Found:
 def wrong_kit() -> Found:
     """The fault where the README does not name the kit of this machine. The README states the sum of the kit's logic,
     and any kit 13 with this logic will do."""
-    if not shutil.which("rt"):
+    said = programs.kit()
+    if not said:
         print("note: no rt in PATH, so the kit that README.md names was not compared")
         return [], 1
-    said = subprocess.run(["rt", "version"], capture_output=True, text=True, check=True).stdout.strip()
     name, _, logic = said.partition(" logic ")
     fine = (
         logic

@@ -6,17 +6,23 @@ its sum with release/SHA256SUMS. Otherwise it fails where
 
 - the sources or a sum differ from what release/MADE and release/SHA256SUMS state;
 - the archive lacks a file of this tree, or holds another one;
-- a program in it is not octet for octet the one in crates/NAME/out.
+- a program in it is not octet for octet the one in crates/NAME/out;
+- the package of Debian is not octet for octet the one that is made of this tree and the released programs.
 
 With another kit than that of MADE, two builds may differ. Then the programs are reported as NOT COMPARED, with the
-lines of both kits, and the cases of checks/hsplan are run with the released program.
+lines of both kits, and the cases of checks/hsplan are run with the released program. With another dpkg-deb than that
+of MADE, only what the packages hold is compared.
 
 Then a copy of the tree in an empty folder, without anything built, is tried with a PATH that has no `rt`, and as a
 user other than root. Tried are `make demo`, `make try`, `make install` and the installed program, and what is printed
 on another machine, without a release, and with a forged one.
+
+    tools/gate/check_release.py              does all
+    tools/gate/check_release.py --unbuilt    compares no program with one that is built here, and needs no kit
 """
 from __future__ import annotations
 
+import argparse
 import filecmp
 import os
 import shutil
@@ -29,7 +35,7 @@ from pathlib import Path
 
 sys.path.insert(0, str(Path(__file__).resolve().parents[1]))
 
-from lib import cases, companion, programs
+from lib import cases, companion, deb, programs
 
 
 LIMIT = 10
@@ -77,10 +83,10 @@ def wrong_companion(path: str) -> list[str]:
     return [] if fine else ["the release has another bin/hsp: run make release"]
 
 
-def wrong_programs(room: str, kit: str) -> list[str]:
+def wrong_programs(room: str) -> list[str]:
     """The released programs that differ from the built ones, where the kit is the same. Where it is another one, the
     faults of the program's cases."""
-    made = programs.made().get("kit", "")
+    made, kit = programs.made().get("kit", ""), programs.kit()
     faults = []
     for name in programs.PROGRAMS:
         path = os.path.join(room, "bin", name)
@@ -95,6 +101,33 @@ def wrong_programs(room: str, kit: str) -> list[str]:
         else:
             print(f"{name}: octet for octet the one that was proved and built here")
     return faults
+
+
+def held_by(path: str, part: str) -> bytes:
+    """A part of a package without its compression: its files, or what controls their installation."""
+    return subprocess.run(["dpkg-deb", f"--{part}-tarfile", path], stdout=subprocess.PIPE, check=True).stdout
+
+
+def wrong_package(room: str) -> list[str]:
+    """The fault where the released package is not the one of this tree and the released programs."""
+    path, name = programs.package(), os.path.basename(programs.package())
+    if not os.path.isfile(path):
+        return [f"the release has no {name}: run make release"]
+    if why := programs.wrong_sum(path):
+        return [why]
+    if not deb.packer():
+        print(f"{name}: NOT COMPARED: this machine has no dpkg-deb")
+        return []
+    with tempfile.TemporaryDirectory() as folder:
+        own = os.path.join(folder, name)
+        deb.write({it: os.path.join(room, "bin", it) for it in programs.PROGRAMS}, own)
+        packer = programs.made().get("packer", "")
+        if packer == deb.packer():
+            fine = filecmp.cmp(path, own, shallow=False)
+        else:
+            print(f"{name}: ITS COMPRESSION NOT COMPARED: by {packer}, and this machine has {deb.packer()}")
+            fine = all(held_by(path, it) == held_by(own, it) for it in ("ctrl", "fsys"))
+    return [] if fine else [f"the release has another {name}: run make release"]
 
 
 class Visitor:
@@ -197,24 +230,36 @@ def tried(check: Callable[[Visitor], list[str]]) -> list[str]:
         return check(Visitor(room))
 
 
-def main() -> int:
-    kit = subprocess.run(["rt", "version"], stdout=subprocess.PIPE, text=True, check=True).stdout.strip()
-    is_ahead = programs.released() != programs.version()
-    faults = [] if is_ahead else wrong_names()
-    with tempfile.TemporaryDirectory() as folder:
-        try:
-            room = programs.unpacked(folder)
-            faults += [] if is_ahead else wrong_files(room) + wrong_programs(room, kit)
-        except programs.Missing as missing:
-            faults.append(str(missing))
-    if is_ahead:
+def compared(folder: str, is_unbuilt: bool) -> list[str]:
+    """The faults of the release as files, unpacked into a folder."""
+    try:
+        room = programs.unpacked(folder)
+    except programs.Missing as missing:
+        return [str(missing)]
+    if programs.released() != programs.version():
         print(f"release/ is of version {programs.released()}, and this tree is {programs.version()}: NOT COMPARED")
+        return []
+    if is_unbuilt:
+        print("the released programs: NOT COMPARED with any that are built here")
+    return wrong_names() + wrong_files(room) + ([] if is_unbuilt else wrong_programs(room)) + wrong_package(room)
+
+
+def main() -> int:
+    arguments = argparse.ArgumentParser(description="Compares the release with this tree, and tries it.")
+    arguments.add_argument("--unbuilt", action="store_true", help="compare no program with one that is built here")
+    is_unbuilt = arguments.parse_args().unbuilt
+    if not is_unbuilt and not programs.kit():
+        print(programs.NEED_KIT)
+        return 1
+    with tempfile.TemporaryDirectory() as folder:
+        faults = compared(folder, is_unbuilt)
     if shutil.which("rt", path=PATH):
         faults.append(f"{PATH} has an rt: the release was not tried without the kit")
     elif not faults:
         faults += tried(visit) + tried(strangers)
     count = len(programs.FILES) + len(programs.PROGRAMS) + 1
-    print("\n".join(faults + [f"release: version {programs.released()}, {count} files, {len(faults)} faults"]))
+    line = f"release: version {programs.released()}, {count} files and a package, {len(faults)} faults"
+    print("\n".join([*faults, line]))
     return 1 if faults else 0
 
 

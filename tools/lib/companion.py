@@ -27,9 +27,9 @@ main(prog_name="hsp")
 """
 
 
-def files() -> dict[str, bytes]:
-    """The files of the archive by their names."""
-    found = {"__main__.py": MAIN.encode()}
+def modules() -> dict[str, bytes]:
+    """The files of the package by their names, which begin with `hsp/`. `python3 -m hsp` isn't a way to call it."""
+    found = {}
     for at, folders, names in os.walk(PACKAGE):
         folders[:] = [it for it in folders if not it.startswith((".", "__"))]
         for name in names:
@@ -38,6 +38,11 @@ def files() -> dict[str, bytes]:
                 with open(path, "rb") as file:
                     found[os.path.relpath(path, os.path.dirname(PACKAGE))] = file.read()
     return found
+
+
+def files() -> dict[str, bytes]:
+    """The files of the archive by their names."""
+    return {"__main__.py": MAIN.encode(), **modules()}
 
 
 def archive() -> bytes:

@@ -9,6 +9,8 @@ from __future__ import annotations
 import hashlib
 import os
 import platform
+import shutil
+import subprocess
 import sys
 import tarfile
 from typing import Callable, Dict, Iterator, List, NamedTuple, NoReturn, Optional, Tuple
@@ -40,6 +42,7 @@ FILES = {
     "docs/pictures/record.svg": "share/doc/hsplan/pictures/record.svg",
 }
 LEAST_GLIBC = (2, 34)
+NEED_KIT = 'no rt in PATH: a proof takes the Rattle kit; README.md has more under "The kit"'
 
 
 class Missing(Exception):
@@ -115,6 +118,22 @@ def built_path(name: str) -> str:
     return os.path.join(TOP, "crates", crate, "out", crate)
 
 
+def variable(name: str) -> str:
+    """The variable of the environment that names a program's file."""
+    return name.upper().replace("-", "_")
+
+
+def tested(name: str) -> str:
+    """The program that a check tries: that of HSPLAN or HSPLAN_STREAM, as `make check` sets them to the released
+    programs, or otherwise the one built here."""
+    return os.environ.get(variable(name)) or built_path(name)
+
+
+def variables() -> Dict[str, str]:
+    """The variables by which hsp finds the programs that a check tries."""
+    return {variable(it): tested(it) for it in PROGRAMS}
+
+
 def built(name: str) -> Optional[str]:
     """The built program, or None where it cannot be run or a source of it is newer."""
     path = built_path(name)
@@ -140,8 +159,13 @@ def archive(of: str = "") -> str:
     return os.path.join(RELEASE, stem(of) + ".tar.xz")
 
 
+def package(of: str = "") -> str:
+    """The Debian package of the version `of` (if empty, of the release that is there)."""
+    return os.path.join(RELEASE, f"hsplan_{of or released()}_amd64.deb")
+
+
 def made() -> Dict[str, str]:
-    """What release/MADE says: version, kit and sources, or nothing where there is no release."""
+    """What release/MADE says: version, kit, sources and packer, or nothing where there is no release."""
     try:
         lines = text_of("release", "MADE").splitlines()
     except FileNotFoundError:
@@ -152,6 +176,13 @@ def made() -> Dict[str, str]:
 def sum_of(path: str) -> str:
     with open(path, "rb") as file:
         return hashlib.sha256(file.read()).hexdigest()
+
+
+def kit() -> str:
+    """The line by which the kit of this machine names itself; empty where there is none."""
+    if not shutil.which("rt"):
+        return ""
+    return subprocess.run(["rt", "version"], stdout=subprocess.PIPE, text=True, check=True).stdout.strip()
 
 
 def unfit() -> Optional[str]:
@@ -168,7 +199,7 @@ def unfit() -> Optional[str]:
 
 
 def wrong_sum(path: str) -> Optional[str]:
-    """Why an archive is not the one that SHA256SUMS names, or None where it is."""
+    """Why an archive or a package is not the one that SHA256SUMS names, or None where it is."""
     name = os.path.basename(path)
     if f"{sum_of(path)}  {name}" not in text_of("release", "SHA256SUMS").splitlines():
         return f"release/{name} does not have the sum that release/SHA256SUMS names"
