@@ -5,7 +5,7 @@ absent.
     tools/lib/packages.py
 
 The companion and its tests need some of them: where one of these stays absent, the script fails. By the others more is
-tried: completions in further shells, manual pages by a further formatter.
+tried: completions in further shells, manual pages by a further formatter, the package in a fresh Debian.
 """
 from __future__ import annotations
 
@@ -19,7 +19,7 @@ NEEDED = (
     "python3-click python3-distributed python3-hypothesis python3-jinja2 python3-maxminddb python3-pil "
     "python3-pytest python3-pytest-xdist python3-selenium xz-utils"
 ).split()
-WANTED = "dash fish mandoc zsh".split()
+WANTED = "dash debootstrap fish lintian mandoc zsh".split()
 
 
 def absent(names: list[str]) -> list[str]:
