@@ -9,6 +9,9 @@ import json
 import os
 import sys
 from collections.abc import Callable, Iterator
+from contextlib import closing
+from dataclasses import replace
+from types import SimpleNamespace
 from typing import Any
 
 import click
@@ -33,7 +36,7 @@ from hsp.fleet.command import fleet
 from hsp.intake import bring
 from hsp.plans.answering import answer_lines, in_units
 from hsp.plans.charts import drawn
-from hsp.plans.page import View, changes_between, render
+from hsp.plans.page import Fact, View, changes_between, render
 from hsp.plans.plans import (
     Planned,
     Reference,
@@ -56,8 +59,15 @@ from hsp.plans.where import lines as where_lines
 from hsp.plans.where import where as where_goes
 from hsp.proxy.command import export
 from hsp.proxy.steer import steer
+from hsp.scenarios.ahead import Ahead, ahead_of, moved_fact, moved_since
+from hsp.scenarios.command import grow, survive
+from hsp.scenarios.judged import Judged
+from hsp.scenarios.near_plan import Near, near_plan
+from hsp.scenarios.reserve import RESERVE, reserved
 
 OUTPUT = click.Path(dir_okay=False, readable=False)
+# The options of `hsp plan` beside those for other files.
+PLAN_WORDS = ("unit", "reserve", "near", "more", "every", "output", "no_save", "as_csv", "as_json")
 OUT_OF_MEMORY = 4
 
 
@@ -261,63 +271,81 @@ def show_shortage(service: Service, programs: Programs, as_json: bool) -> None:
     sys.exit(3)
 
 
-def keep(service: Service, programs: Programs, path: str) -> list[str]:
+def keep(service: Service, programs: Programs, path: str, near: Near | None) -> list[str]:
     """Writes a plan, and beside it what else is needed to answer by it. Returns what is to be said of that."""
     contents: dict[str, bytes] = {}
     lines: list[str] = []
     if not os.path.exists(path) or os.path.isfile(path):
         inputs, contents = in_units(service, programs, path)
         lines = answer_lines(service, inputs, path)
-    refuse_clashes(service.inputs.files(), contents)
+        if near:
+            contents.update(near.contents(path))
+            lines = [*filter(None, [near.shown_by(path)]), *lines]
+    refuse_clashes(service.own_inputs.files(), contents)
+    for name in contents:
+        os.makedirs(os.path.dirname(name) or ".", exist_ok=True)
     replace_all({path: service.certificate.text.encode(), **contents})
     return lines
+
+
+def moved_facts(service: Service, before: str) -> list[Fact]:
+    """What a plan moves since the one before, where that is known."""
+    with closing(Judged()) as programs:
+        moved = moved_since(before, service, programs)
+    return [] if moved is None else [moved_fact(service, moved)]
+
+
+def ahead(service: Service, before: str) -> Ahead:
+    """What lies ahead of a plan, and what it moves since the plan in a file."""
+    with closing(Judged()) as programs:
+        return replace(ahead_of(service, programs), moved=moved_since(before, service, programs))
 
 
 @main.command()
 @with_files
 @click.option("--unit", help="of costs, such as ms")
+@RESERVE
+@click.option("--near", metavar="OLD", help="of the cheapest plans one that moves the fewest queries from this one")
+@click.option("--more", is_flag=True, help="how far the demand can grow, the worst loss, and what was moved")
 @click.option("--all", "every", is_flag=True, help="all full servers and all regions")
 @click.option("-o", "--output", metavar="FILE", type=OUTPUT, help="the certificate, in place of DIR/plan.txt")
 @click.option("--no-save", is_flag=True, help="keep no certificate")
 @click.option("--csv", "as_csv", is_flag=True, help="only how many queries of each region go to each site")
 @click.option("--json", "as_json", is_flag=True, help="the same sums for other programs")
-def plan(
-    folder: str,
-    unit: str | None,
-    every: bool,
-    output: str | None,
-    no_save: bool,
-    as_csv: bool,
-    as_json: bool,
-    **given: str | None,
-) -> None:
+def plan(folder: str, **given: Any) -> None:
     """Plans, checks and shows the plan in some ten lines.
 
-    Status 3 is a shortage: then the lines say who lacks what, and the least that has to be bought.
+    OLD is a certificate, or a folder with plan.txt; what doesn't lie beside it is DIR's. Status 3 is a shortage: then
+    the lines say who lacks what, and the least that has to be bought.
     """
-    path = output or path_in(folder, "plan.txt")
-    refuse_clashes(read_in(folder, given), [] if no_save else [path])
-    programs = Programs()
-    service = sound(folder, programs, given, cost=unit)
+    said = SimpleNamespace(**{key: given.pop(key) for key in PLAN_WORDS})
+    path = said.output or path_in(folder, "plan.txt")
+    refuse_clashes(read_in(folder, given), [] if said.no_save else [path])
+    programs = Judged() if said.near else Programs()
+    service = reserved(sound(folder, programs, given, cost=said.unit), said.reserve, programs)
     if not service.certificate.is_plan:
-        show_shortage(service, programs, as_json)
+        show_shortage(service, programs, said.as_json)
+    near = near_plan(said.near, service, programs) if said.near and isinstance(programs, Judged) else None
+    service = near.service if near else service
     found = planned(service, programs)
     reference = cheapest(service, programs)
-    if not as_csv:
+    if not said.as_csv:
         priced = [server for server in service.servers if found.prices[server.number] > 0 and found.is_full(server)]
         found = with_gains(found, programs, progress(len(priced)))
+    later = ahead(service, path) if said.more and not said.as_csv else None
     verdict = programs.verdict(service.inputs, service.plan_file)
     if verdict != "yes":
         name = service.inputs.program
         ended(1, f"{name} check says {verdict} to {name}'s own plan: please report this with your files")
-    lines = [] if no_save else keep(service, programs, path)
-    if as_csv or as_json:
-        give(csv_of(found) if as_csv else json_of(found, reference))
+    lines = [] if said.no_save else keep(service, programs, path, near)
+    if said.as_csv or said.as_json:
+        give(csv_of(found) if said.as_csv else json_of(found, reference))
         return
     say(head(service))
-    for line in plan_lines(found, reference, every):
+    more = [*([near.line()] if near else []), *(later.lines() if later else [])]
+    for line in [*plan_lines(found, reference, said.every), *more]:
         say(line)
-    kept = "" if no_save else f"; kept in {path}"
+    kept = "" if said.no_save else f"; kept in {path}"
     for line in [f"check {colored(verdict, 'green')}: no plan within these capacities costs less{kept}", *lines]:
         say(line)
     if (not service.sites or service.is_empty) and not any(given.values()):
@@ -354,7 +382,7 @@ def earlier(folder: str, programs: Programs, now: Service) -> tuple[Service, Ref
 
 def view_of(service: Service, programs: Programs, before: str | None) -> View:
     """All that the page shows: the plan, or the shortage and the plan after the least purchase."""
-    shown = View(service, None, cheapest(service, programs), sources=sources_of(service.folder, service.inputs))
+    shown = View(service, None, cheapest(service, programs), sources=sources_of(service.folder, service.own_inputs))
     after: Service | None = service
     if not service.certificate.is_plan:
         shown.short = shortage(service, programs)
@@ -382,21 +410,28 @@ def view_of(service: Service, programs: Programs, before: str | None) -> View:
     type=click.Path(exists=True, file_okay=False),
     help="the plan of another folder beside it",
 )
+@RESERVE
+@click.option("--more", is_flag=True, help="how far the demand can grow, and what each loss leaves")
 @click.option("--unit", help="of costs, such as ms")
 @click.option("--title", help="of the page")
 @click.option("-o", "--output", metavar="FILE", type=OUTPUT, help="the page, in place of DIR/plan.html")
-def view(
-    folder: str, before: str | None, unit: str | None, title: str | None, output: str | None, **given: str | None
-) -> None:
+def view(folder: str, before: str | None, **given: Any) -> None:
     """Writes one page: loads, prices, and who is served where.
 
     The page is one file. It asks no network, and needs no script but to sort and search its rows.
     """
-    path = output or path_in(folder, "plan.html")
+    said = SimpleNamespace(**{key: given.pop(key) for key in ("reserve", "more", "unit", "title", "output")})
+    path = said.output or path_in(folder, "plan.html")
     refuse_clashes(read_in(folder, given) + (read_in(before, {}) if before else []), [path])
     programs = Programs()
-    service = sound(folder, programs, given, title, unit)
-    text = render(view_of(service, programs, before))
+    service = reserved(sound(folder, programs, given, said.title, said.unit), said.reserve, programs)
+    shown = view_of(service, programs, before)
+    if said.more:
+        later = ahead(service, before or "")
+        shown.facts, shown.tables = later.facts(), later.tables()
+    elif before:
+        shown.facts = moved_facts(service, before)
+    text = render(shown)
     write(path, text)
     rows = some(len(service.rows), "kind" if service.mark.is_joined else "row")
     say(f"{path}  {len(text.encode()) / 1024:,.0f} KiB, {service.rows_words if service.log else rows}")
@@ -533,7 +568,7 @@ def doctor(context: click.Context, folder: str, strict: bool, as_json: bool, **g
     sys.exit(found.status or int(strict and bool(found.warnings)))
 
 
-for other in (bring.new, bring.sites, bring.demand, export, steer, fleet):
+for other in (bring.new, bring.sites, bring.demand, grow, survive, export, steer, fleet):
     main.add_command(other)
 
 

@@ -11,6 +11,7 @@ import re
 import subprocess
 from collections import Counter
 from collections.abc import Callable
+from fractions import Fraction
 from pathlib import Path
 
 import pytest
@@ -134,7 +135,7 @@ def test_a_log_is_read_as_python_reads_it(tmp_path: Path, monkeypatch: pytest.Mo
     for region, _, count in rows:
         sums[region] += int(count)
     assert counted_in(str(path)).rows == len(rows) and counted_in(str(path)).regions == sums
-    more = list(csv.reader(io.StringIO(b"".join(grown(str(path), 10)).decode(), newline="")))[1:]
+    more = list(csv.reader(io.StringIO(b"".join(grown(str(path), Fraction(11, 10))).decode(), newline="")))[1:]
     assert [it[:2] for it in more] == [it[:2] for it in rows]
     before = after = 0
     for it, own in zip(more, rows):

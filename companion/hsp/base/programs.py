@@ -146,27 +146,30 @@ class Certificate:
             unit * int(said.get(word, 0)) for word in ("cost", "demand", "capacity")
         )
 
-    @functools.cached_property
-    def _lines(self) -> dict[str, list[tuple[int, ...]]]:
-        found: dict[str, list[tuple[int, ...]]] = {"use": [], "row": [], "server": [], "host": []}
-        for line in self.text.splitlines():
-            word, _, rest = line.partition(" ")
-            if word in found:
-                found[word].append(tuple(map(int, rest.split())))
-        return found
+    def _columns(self, word: str, width: int) -> list[list[int]]:
+        """The numbers in the lines of a word, column by column. These lines stand together."""
+        first, last = self.text.find(f"\n{word} "), self.text.rfind(f"\n{word} ")
+        parts = self.text[first : self.text.index("\n", last + 1)].split() if first >= 0 else []
+        return [list(map(int, parts[at :: width + 1])) for at in range(1, width + 1)]
 
     @property
+    def use_columns(self) -> tuple[list[int], list[int], list[int]]:
+        """The rows, the sites and the queries of all uses, in their order. It takes a third of the time of `uses`."""
+        rows, sites, numbers = self._columns("use", 3)
+        return rows, sites, [self._unit * number for number in numbers]
+
+    @functools.cached_property
     def uses(self) -> list[Use]:
-        return [Use(row, site, self._unit * number) for row, site, number in self._lines["use"]]
+        return list(map(Use, *self.use_columns))
 
     def prices(self, of: str) -> list[int]:
         """The prices of the rows, the servers or the hosts of a plan: `row`, `server` or `host`."""
-        return [line[1] for line in self._lines[of]]
+        return self._columns(of, 2)[1]
 
     @property
     def rows(self) -> list[int]:
         """The numbers of the rows of a shortage."""
-        return [line[0] for line in self._lines["row"]]
+        return self._columns("row", 1)[0]
 
 
 class Class(NamedTuple):
@@ -197,7 +200,7 @@ class Prices(Certificate):
     @property
     def servers(self) -> list[int]:
         """The numbers of the servers of a shortage."""
-        return [line[0] for line in self._lines["server"]]
+        return self._columns("server", 1)[0]
 
 
 class Interface(NamedTuple):
@@ -315,6 +318,19 @@ class Programs:
         """What the checker says of a certificate: `yes`, or `no` and why."""
         words = [*self.in_units(inputs).words(), inputs.plan_option, plan]
         return run(inputs.program, "check", *words).out.strip()
+
+    def insist(self, inputs: Inputs, plan: str) -> None:
+        """Refuses to go on by a certificate to which the checker doesn't say yes."""
+        verdict = self.verdict(inputs, plan)
+        if verdict != "yes":
+            name = inputs.program
+            raise Missing(f"{name} check says {verdict} to {name}'s own plan: please report this with your files")
+
+    def judged(self, inputs: Inputs) -> tuple[Certificate, str]:
+        """A plan or a shortage to which the checker says yes, and its file."""
+        certificate, path = self.plan(inputs)
+        self.insist(inputs, path)
+        return certificate, path
 
     def _report(self, inputs: Inputs, plan: str, report: str) -> list[str]:
         words = [*self.in_units(inputs).words(), inputs.plan_option, plan]

@@ -12,6 +12,8 @@ from hsp.plans.service import Service
 
 # The inputs in the units of a demand, as they are kept beside its plan.
 CAPACITY, SETTINGS = "capacity-in-units.csv", "settings-in-units.toml"
+# The inputs of which a part is kept back.
+LESS_CAPACITY, LESS_SETTINGS = "capacity-less-reserve.csv", "settings-less-reserve.toml"
 
 
 def answer_command(inputs: Inputs, plan: str, unit: int, log: str = "/dev/stdin") -> str:
@@ -31,11 +33,14 @@ def kept_beside(plan: str, inputs: Inputs) -> Inputs:
 def in_units(service: Service, programs: Programs, plan: str) -> tuple[Inputs, dict[str, bytes]]:
     """The inputs by which a kept plan is answered, and what has to be written for them beside the plan."""
     divided, beside = programs.in_units(service.inputs), kept_beside(plan, service.inputs)
+    if service.reserve and service.unit == 1:
+        folder = os.path.dirname(plan)
+        beside = beside.but(capacity=path_in(folder, LESS_CAPACITY), settings=path_in(folder, LESS_SETTINGS))
     contents: dict[str, bytes] = {}
-    chosen = replace(service.inputs, unit=1)
+    chosen = replace(service.own_inputs, unit=1)
     for role in ("settings", "capacity"):
         path = getattr(divided, role)
-        if path != getattr(service.inputs, role):
+        if path != getattr(service.own_inputs, role):
             with open(path, "rb") as file:
                 contents[getattr(beside, role)] = file.read()
             chosen = replace(chosen, **{role: getattr(beside, role)})
@@ -43,12 +48,16 @@ def in_units(service: Service, programs: Programs, plan: str) -> tuple[Inputs, d
 
 
 def answer_lines(service: Service, inputs: Inputs, plan: str) -> list[str]:
-    """What is kept in units, and the command that answers by the plan; nothing where dispatch answers by it."""
-    if service.mark.is_plain and not service.log:
+    """What is kept in units or less a reserve, and the command that answers by the plan; nothing where dispatch answers
+    by it."""
+    if service.mark.is_plain and not service.log and not service.reserve:
         return []
-    lines = []
-    if inputs.capacity != service.inputs.capacity:
-        files = [inputs.capacity] + ([inputs.settings] if inputs.settings != service.inputs.settings else [])
+    lines, own = [], service.own_inputs
+    if inputs.capacity != own.capacity:
+        files = [inputs.capacity] + ([inputs.settings] if inputs.settings != own.settings else [])
         what = "capacities" + (" and limits" if len(files) > 1 else "")
-        lines.append(f"units {' and '.join(files)}: the {what} in units of {service.unit:,} queries, rounded down")
+        how = [f"in units of {service.unit:,} queries"] if service.unit > 1 else []
+        how += [f"less {float(100 * service.reserve):g}%"] if service.reserve else []
+        head = "units" if service.unit > 1 else "less"
+        lines.append(f"{head} {' and '.join(files)}: the {what} {' and '.join(how)}, rounded down")
     return [*lines, f"answer {answer_command(inputs, plan, service.unit)}"]

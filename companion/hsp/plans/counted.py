@@ -9,6 +9,7 @@ import os
 from collections import Counter
 from collections.abc import Iterable, Iterator
 from dataclasses import dataclass, field
+from fractions import Fraction
 from typing import NamedTuple
 
 from hsp.base.grammar import GREATEST_COUNT, GREATEST_ROW_COUNT, HEADERS, MOST_DEMAND_ROWS
@@ -113,22 +114,26 @@ def row_text(row: Asked) -> bytes:
     return b"%b,%b,%d\n" % row
 
 
-def grown(path: str, percent: float) -> Iterator[bytes]:
-    """The log with more queries, in pieces: each row has its part of the sum, so that only the whole is rounded up."""
+def grown(path: str, factor: Fraction, region: str | None = None) -> Iterator[bytes]:
+    """The log with the queries of all regions, or of one, times a factor, in pieces: each row has its part of the sum, so
+    that only the whole is rounded up."""
     yield f"{HEADERS['demand']}\n".encode()
+    own = region.encode() if region is not None else None
     before = after = 0
     for rows in rows_of(path):
         lines = []
         for row in rows:
-            before += row.queries
-            lines.append(row_text(row._replace(queries=more(before, percent) - after)))
-            after = more(before, percent)
+            if own in (None, row.region):
+                before += row.queries
+                row = row._replace(queries=times(before, factor) - after)
+                after += row.queries
+            lines.append(row_text(row))
         yield b"".join(lines)
 
 
-def more(queries: int, percent: float, unit: int = 1) -> int:
-    """So many percent more, rounded up to units."""
-    return -int(-queries * (100 + percent) // (100 * unit))
+def times(number: int, factor: Fraction) -> int:
+    """The product, rounded up."""
+    return -(-number * factor.numerator // factor.denominator)
 
 
 def examples(rows: Iterable[Asked]) -> list[bytes]:
@@ -136,4 +141,4 @@ def examples(rows: Iterable[Asked]) -> list[bytes]:
     return list(dict.fromkeys(row.handle for row in rows))
 
 
-__all__ = ["Asked", "Counted", "counted_in", "examples", "grown", "is_log", "more", "rows_of"]
+__all__ = ["Asked", "Counted", "counted_in", "examples", "grown", "is_log", "rows_of", "times"]

@@ -83,6 +83,26 @@ class RowView:
     uses: list[tuple[int, str, int]]
 
 
+@dataclass(frozen=True)
+class Fact:
+    """A tile: its title, what it says, and a note below it."""
+
+    title: str
+    value: str
+    note: str
+
+
+@dataclass(frozen=True)
+class FactTable:
+    """A table of texts below a title and a note. Its name tells it from others."""
+
+    name: str
+    title: str
+    note: str
+    head: list[str]
+    rows: list[list[str]]
+
+
 @dataclass
 class View:
     """All that the page shows."""
@@ -96,6 +116,8 @@ class View:
     bought: dict[Server, int] = field(default_factory=dict)
     sources: list[Source] = field(default_factory=list)
     time: str = field(default_factory=now)
+    facts: list[Fact] = field(default_factory=list)
+    tables: list[FactTable] = field(default_factory=list)
 
 
 def step_of(most: float) -> int:

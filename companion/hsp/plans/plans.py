@@ -242,15 +242,21 @@ def with_gains(plan: Planned, programs: Programs, done: Callable[[], None] = lam
     return replace(plan, gains=found)
 
 
+def reached_by(short: Service, programs: Programs) -> list[Server]:
+    """The servers that the rows of a shortage may use."""
+    if short.log:
+        return servers_of(short)
+    reached = programs.reached(short.inputs, short.plan_file)
+    return [server for server in short.servers if (server.site, server.id) in reached]
+
+
 def shortage(service: Service, programs: Programs) -> Shortage:
     """Who lacks what, and the servers that these rows may use."""
-    certificate, rows = service.certificate, list[Row]()
+    certificate, rows, servers = service.certificate, list[Row](), reached_by(service, programs)
     asked: Counter[str] = Counter()
     if service.log:
-        servers, asked = servers_of(service), flows_of(service, programs).caught
+        asked = flows_of(service, programs).caught
     else:
-        reached = programs.reached(service.inputs, service.plan_file)
-        servers = [server for server in service.servers if (server.site, server.id) in reached]
         rows = [service.rows[number] for number in certificate.rows]
         for row in rows:
             asked[row.region] += row.count

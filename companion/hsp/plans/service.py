@@ -4,6 +4,7 @@ from __future__ import annotations
 
 import csv
 import difflib
+import functools
 import io
 import ipaddress
 import os
@@ -11,12 +12,13 @@ import re
 import tomllib
 from collections.abc import Iterable
 from dataclasses import dataclass, field
+from fractions import Fraction
 from typing import Any
 
 from hsp.base.bounds import whole
 from hsp.base.numbers import part, some
 from hsp.base.paths import path_in
-from hsp.base.programs import BOUNDLESS, Certificate, Inputs, Missing, Programs, Refused
+from hsp.base.programs import BOUNDLESS, Certificate, Inputs, Missing, Programs, Refused, table_text
 from hsp.base.text import escaped
 from hsp.base.unfit import Unfit
 from hsp.plans.counted import Counted, counted_in, is_log
@@ -92,6 +94,19 @@ class Service:
     places: dict[tuple[str, str], int] = field(repr=False)
     mark: Mark = Mark()
     log: Counted | None = None
+    # Which part of each capacity and limit is kept back, and the inputs without that.
+    reserve: Fraction = Fraction(0)
+    given: Inputs | None = None
+
+    @property
+    def own_inputs(self) -> Inputs:
+        """The inputs as they were given, without a part that is kept back."""
+        return self.given or self.inputs
+
+    @property
+    def kept_back(self) -> str:
+        """What is kept back, in words."""
+        return f"{float(100 * self.reserve):g}% of each capacity kept back" if self.reserve else ""
 
     @property
     def unit(self) -> int:
@@ -148,6 +163,12 @@ class Service:
     @property
     def servers(self) -> list[Server]:
         return [server for site in self.sites for server in site.servers]
+
+    @functools.cached_property
+    def row_heads(self) -> list[str]:
+        """The rows as a table has them, up to their counts. Most tables that are planned differ only in these."""
+        text = table_text("", ((row.region, row.handle, "") for row in self.rows))
+        return text.split("\n")[1:-1]
 
     @property
     def regions(self) -> list[str]:

@@ -21,7 +21,7 @@ def head(service: Service) -> str:
         some(len(service.regions), "region"),
         service.rows_words,
         queries_of(service.asked) + service.counted,
-    ]
+    ] + ([service.kept_back] if service.reserve else [])
     time = f" in {service.titles.time}" if service.titles.time else ""
     return bold(service.titles.title) + dim(f"  {', '.join(sizes)}{time}")
 

@@ -6,13 +6,14 @@ import csv
 import io
 from collections.abc import Callable, Iterable, Iterator
 from dataclasses import dataclass
+from fractions import Fraction
 
 from hsp.base.grammar import HEADERS
 from hsp.base.numbers import average, listed, queries_of, signed
 from hsp.base.programs import Missing, Programs
 from hsp.base.spelling import near
 from hsp.base.text import bold, colored
-from hsp.plans.counted import grown, more
+from hsp.plans.counted import grown, times
 from hsp.plans.joined import joined
 from hsp.plans.plans import capacity_file
 from hsp.plans.service import Server, Service
@@ -62,14 +63,23 @@ class Changes:
 
     def with_demand(self, percent: float) -> Case:
         """Each row asks for more queries, rounded up to units; those of a log all together."""
-        service, what = self.service, f"{percent:g}% more demand"
-        if service.log:
-            path = self.programs.put(b"", ".csv")
-            self.programs.add(path, grown(joined(service, self.programs).demand, percent))
-        else:
-            rows = ((row.region, row.handle, more(row.count, percent, service.unit)) for row in service.rows)
-            path = self.programs.put_table(HEADERS["demand"], rows)
-        return self.planned(DEMAND, what, demand=path)
+        path = demand_times(self.service, self.programs, 1 + Fraction(percent) / 100)
+        return self.planned(DEMAND, f"{percent:g}% more demand", demand=path)
+
+
+def demand_times(service: Service, programs: Programs, factor: Fraction, region: str | None = None) -> str:
+    """The demand where each row, or each of a region, asks for so many times as much. A row is rounded up to units, and
+    the rows of a log all together."""
+    if service.log:
+        path = programs.put(b"", ".csv")
+        programs.add(path, grown(joined(service, programs).demand, factor, region))
+        return path
+    own, unit = factor / service.unit, service.unit
+    counts = (
+        times(row.count, own) if region in (None, row.region) else row.count // unit for row in service.rows
+    )
+    lines = (f"{head}{count}\n" for head, count in zip(service.row_heads, counts))
+    return programs.put(f"{HEADERS['demand']}\n{''.join(lines)}", ".csv")
 
 
 def full_servers(service: Service) -> list[Server]:

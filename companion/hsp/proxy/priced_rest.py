@@ -19,7 +19,7 @@ from hsp.intake.addresses import name_of
 from hsp.plans.plans import capacity_file
 from hsp.plans.service import Service
 from hsp.proxy.pricing import class_lines, price_lines
-from hsp.proxy.rest import Rest, checked, has_place, with_nowhere
+from hsp.proxy.rest import Rest, has_place, with_nowhere
 
 # With less of a period left than this share of it, as much is taken to be left.
 LEAST_LEFT = 1e-6
@@ -49,14 +49,14 @@ def priced_rest(service: Service, left: float, room: Mapping[str, int], own: Pro
     """The plan of the rest of a period, of which this share is left, where servers and hosts have this room."""
     left = max(left, LEAST_LEFT)
     inputs, least = _inputs(service, left, room, own), 0
-    certificate, path = checked(inputs, own)
+    certificate, path = own.judged(inputs)
     if not certificate.is_plan:
         if not has_place(service):
             sizes = f"{some(len(service.sites), 'site')} and {some(len(service.servers), 'server')}"
             raise Missing(f"a shortage, and with {sizes} hsplan has no place for what is left out; the map stays")
-        least = checked(with_nowhere(service, inputs, own, 0), own)[0].cost
+        least = own.judged(with_nowhere(service, inputs, own, 0))[0].cost
         inputs = with_nowhere(service, inputs, own, least)
-        certificate, path = checked(inputs, own)
+        certificate, path = own.judged(inputs)
     if not certificate.is_plan:
         raise Missing("a shortage that is larger than hsplan's limits; the map stays")
     loads = [load.load for load in own.loads(inputs, path)[0]]

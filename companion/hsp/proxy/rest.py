@@ -135,23 +135,13 @@ def has_place(service: Service) -> bool:
     return len(service.sites) < MOST_SITES and len(service.servers) < MOST_SERVERS
 
 
-def checked(inputs: Inputs, own: Programs) -> tuple[Certificate, str]:
-    """A plan or a shortage, to which hsplan check says yes, and its file."""
-    certificate, path = own.plan(inputs)
-    verdict = own.verdict(inputs, path)
-    if verdict != "yes":
-        name = inputs.program
-        raise Missing(f"{name} check says {verdict} to {name}'s own plan: please report this with your files")
-    return certificate, path
-
-
 def _least_left_out(service: Service, inputs: Inputs, rows: list[Row], own: Programs) -> tuple[Certificate, _Lacking]:
     """A plan of those that leave out the fewest, and how many queries of which row it leaves out."""
     if not has_place(service):
-        lowering = Lowering(service, rows, lambda lowered: checked(inputs.but(demand=_demand(lowered, own)), own)[0])
+        lowering = Lowering(service, rows, lambda lowered: own.judged(inputs.but(demand=_demand(lowered, own)))[0])
         return lowering.best(), lowering.left_out
-    least = checked(with_nowhere(service, inputs, own, 0), own)[0].cost
-    certificate, _ = checked(with_nowhere(service, inputs, own, least), own)
+    least = own.judged(with_nowhere(service, inputs, own, 0))[0].cost
+    certificate, _ = own.judged(with_nowhere(service, inputs, own, least))
     return certificate, {use.row: use.queries for use in certificate.uses if use.site == len(service.sites)}
 
 
@@ -189,7 +179,7 @@ def rest_of(service: Service, kinds: list[Row], left: float, room: Mapping[str, 
     """The plan of the rest of a period, of which this share is left, where servers and hosts have this room."""
     parts, rows = _in_parts(kinds, left)
     inputs = _inputs(service, rows, room, parts, own)
-    certificate, _ = checked(inputs, own)
+    certificate, _ = own.judged(inputs)
     left_out: _Lacking = {}
     if not certificate.is_plan:
         certificate, left_out = _least_left_out(service, inputs, rows, own)

@@ -1,0 +1,160 @@
+"""The commands `hsp grow` and `hsp survive`."""
+
+from __future__ import annotations
+
+import sys
+import time
+from typing import Any
+
+import click
+
+from hsp.base.numbers import queries_of, some
+from hsp.base.paths import path_in, shell_word
+from hsp.base.programs import Missing
+from hsp.base.text import give, say
+from hsp.base.unfit import Unfit
+from hsp.doctor.service_folder import sound, with_files
+from hsp.plans.service import Service
+from hsp.plans.terminal import head
+from hsp.scenarios import grow_lines, survive_lines
+from hsp.scenarios.fallbacks import FOLDER, Fallbacks, csv_of
+from hsp.scenarios.growth import Growing, grown
+from hsp.scenarios.in_force import PLAN, in_force
+from hsp.scenarios.judged import Judged, Progress, say_how_long, side_by_side, yes_line
+from hsp.scenarios.losses import after, losses_of, survived
+from hsp.scenarios.nearest import Portions, TooMany, homes_of
+from hsp.scenarios.purchase import Purchases, solver
+from hsp.scenarios.reserve import RESERVE, reserved
+
+SHORTAGE = 3
+# The growths of which the least purchase is shown.
+PERCENTS = (10, 20, 50)
+# Above so many losses, it is said beforehand how long they take.
+MANY = 200
+
+
+def _asking(folder: str, programs: Judged, given: dict[str, str | None]) -> Service:
+    """A service with sites, to which somebody asks something."""
+    service = sound(folder, programs, given)
+    if not service.sites:
+        raise Unfit(f"{service.inputs.settings}: no site, so nobody can answer")
+    if not service.asked:
+        raise Unfit(f"{service.inputs.demand}: nothing is asked for")
+    return service
+
+
+@click.command()
+@with_files
+@click.option(
+    "--percent",
+    "percents",
+    multiple=True,
+    type=click.IntRange(1, 100_000),
+    default=PERCENTS,
+    show_default=True,
+    metavar="P",
+    help="show the least purchase for P % more",
+)
+@click.option("--json", "as_json", is_flag=True, help="the same for other programs")
+def grow(folder: str, percents: tuple[int, ...], as_json: bool, **given: str | None) -> None:
+    """Shows how far the demand can grow before something is short.
+
+    All demand together, and each region by itself. Up to the first number a plan serves every demand of no greater
+    counts. From the second on the named rows ask for more than their servers take. Between them rounding decides.
+    """
+    programs = Judged()
+    service = _asking(folder, programs, given)
+    regions = len(service.regions)
+    done = Progress(1 + regions + len(percents))
+    growths = grown(service, programs, done)
+    own = Growing(service, programs)
+    tasks = [lambda percent=percent: own.purchase(percent) for percent in sorted(set(percents))]
+    purchases = side_by_side(tasks, done)
+    if as_json:
+        give(grow_lines.json_of(service, growths, purchases))
+        return
+    say(head(service))
+    for line in grow_lines.lines(service, growths, purchases):
+        say(line)
+    say(yes_line(programs))
+
+
+def _near(words: str | None, service: Service, programs: Judged) -> tuple[Portions | None, str]:
+    """The portions by which fallbacks are near a plan in force, and what they are near to; or why they aren't."""
+    if service.log:
+        return None, "a log's rows have no portions, so fallbacks are plain plans"
+    path = words or path_in(service.folder, PLAN)
+    try:
+        held = in_force(path, service, programs)
+        homes, by_kind, name = held.homes, held.by_kind, held.path
+    except (Missing, Unfit):
+        if words:
+            raise
+        by_kind = service.mark.is_joined
+        homes, name = homes_of(service, service.certificate, by_kind), "the plan that hsp plan makes"
+    try:
+        return Portions(service, homes, programs, by_kind), f"near {name}"
+    except TooMany as fault:
+        return None, f"{fault}, more than tables hold, so fallbacks are plain plans"
+
+
+def _short(service: Service) -> None:
+    """Ends where not even all servers together serve the demand."""
+    lack = service.certificate.demand - service.certificate.capacity
+    say(head(service))
+    say(f"short by {queries_of(lack)} with nothing lost: hsp plan {shell_word(service.folder)}")
+    sys.exit(SHORTAGE)
+
+
+def _first(service: Service, programs: Judged, portions: Portions | None) -> None:
+    """Says how long many losses take, by the time of one."""
+    losses = losses_of(service)
+    if len(losses) > MANY:
+        begun = time.monotonic()
+        after(service, losses[-1], programs, portions)
+        say_how_long(len(losses), time.monotonic() - begun, "losses")
+
+
+@click.command()
+@with_files
+@RESERVE
+@click.option("--near", metavar="OLD", help="a certificate or its folder, in place of DIR/plan.txt")
+@click.option("--buy", is_flag=True, help="one purchase of room that serves every loss; needs python3-scipy")
+@click.option("--into", metavar="FOLDER", type=click.Path(file_okay=False), help="in place of DIR/fallback")
+@click.option("--no-save", is_flag=True, help="keep no fallback plan")
+@click.option("--all", "every", is_flag=True, help="all losses")
+@click.option("--csv", "as_csv", is_flag=True, help="all losses, for other programs")
+def survive(folder: str, **given: Any) -> None:
+    """Plans for each site, server and machine that may be lost.
+
+    Each loss that leaves a plan has a fallback in DIR/fallback: a cheapest plan that moves the fewest queries. Status
+    3 means that some loss leaves a shortage.
+    """
+    own = {key: given.pop(key) for key in ("reserve", "near", "buy", "into", "no_save", "every", "as_csv")}
+    programs = Judged()
+    if own["buy"]:
+        solver()
+    service = reserved(_asking(folder, programs, given), own["reserve"], programs)
+    if not service.certificate.is_plan:
+        _short(service)
+    portions, near = _near(own["near"], service, programs)
+    kept = Fallbacks(own["into"] or path_in(folder, FOLDER), service, programs)
+    if not own["no_save"]:
+        kept.refuse([loss.folder for loss in losses_of(service)])
+    _first(service, programs, portions)
+    found = survived(service, programs, portions, Progress(len(losses_of(service))))
+    bought = list(survive_lines.purchase_lines(Purchases(service, programs).search())) if own["buy"] else []
+    number = 0 if own["no_save"] else kept.keep(found)
+    if own["as_csv"]:
+        give(csv_of(service, found, None if own["no_save"] else kept))
+    else:
+        say(head(service))
+        for line in [*survive_lines.lines(service, found, own["every"]), *bought]:
+            say(line)
+        if not own["no_save"]:
+            say(f"kept  {some(number, 'fallback plan')} in {kept.folder}, {near}")
+        say(yes_line(programs))
+    sys.exit(SHORTAGE if any(it.cost is None for it in found) else 0)
+
+
+__all__ = ["grow", "survive"]

@@ -1,0 +1,178 @@
+"""How far a demand can grow. A plan shows that a demand still fits; a short set of rows, that it doesn't from some factor
+on. Each short set says which factor to try next, so few plans are made."""
+
+from __future__ import annotations
+
+from collections.abc import Callable, Sequence
+from dataclasses import dataclass, replace
+from fractions import Fraction
+
+from hsp.base.grammar import GREATEST_COUNT, GREATEST_ROW_COUNT
+from hsp.base.programs import Certificate
+from hsp.plans.flows import flows_of
+from hsp.plans.plans import least_purchase, reached_by, with_purchase
+from hsp.plans.service import Row, Server, Service
+from hsp.plans.whatif import demand_times
+from hsp.scenarios.judged import Judged, side_by_side
+
+# Factors are tried in steps of a thousandth: a tenth of a percent.
+STEP = 10000
+
+
+@dataclass(frozen=True)
+class Short:
+    """Rows that ask for more than the servers that they may use take, at each factor above `above`. Rows of a log have no
+    numbers."""
+
+    above: Fraction
+    rows: list[int]
+    demand: int
+    capacity: int
+    servers: list[Server]
+    # Their queries at the factor at which they were found, without what doesn't grow; rounded up to units.
+    grown: int
+
+
+@dataclass(frozen=True)
+class Growth:
+    """How far the queries of a region, or of all, can grow. A factor is a number of thousandths.
+
+    Up to `fits` a plan serves them, None where none does however few they are. From `short_from` on the rows of `short`
+    are short, None where no table holds so much.
+    """
+
+    region: str | None
+    fits: int | None
+    short_from: int | None
+    short: Short | None
+
+
+@dataclass(frozen=True)
+class Purchase:
+    """What so many percent more need: a least purchase, None where only the lack of a short set is known."""
+
+    percent: int
+    lack: int
+    bought: dict[Server, int] | None
+    cost: int | None
+
+
+def percent_of(factor: int) -> str:
+    """The growth of a factor."""
+    change = (factor - STEP) / 100
+    return f"{change:+,.2f}%".replace("-", "\u2212")
+
+
+class Growing:
+    """Asks for the growth of a service."""
+
+    def __init__(self, service: Service, programs: Judged) -> None:
+        self._service, self._programs = service, programs
+
+    def _demand(self, factor: int, region: str | None) -> str:
+        return demand_times(self._service, self._programs, Fraction(factor, STEP), region)
+
+    def planned(self, factor: int, region: str | None = None) -> Service:
+        """The service with another demand, and its certificate. Its rows are those of the present demand."""
+        inputs = self._service.inputs.but(demand=self._demand(factor, region))
+        certificate, path = self._programs.plan(inputs)
+        return replace(self._service, inputs=inputs, certificate=certificate, plan_file=path)
+
+    def _counts(self, short: Service) -> tuple[list[int], dict[str, int]]:
+        """The rows of a short set, none where a log has them, and what they ask for now, by region."""
+        if self._service.log:
+            return [], dict(flows_of(replace(short, inputs=self._service.inputs), self._programs).caught)
+        counts: dict[str, int] = {}
+        for at in short.certificate.rows:
+            row = self._service.rows[at]
+            counts[row.region] = counts.get(row.region, 0) + row.count
+        return short.certificate.rows, counts
+
+    def _short(self, tried: Service, region: str | None) -> Short | None:
+        """What a shortage says of other factors. None where its rows lack room without those that grow."""
+        rows, counts = self._counts(tried)
+        demand, capacity = tried.certificate.demand, tried.certificate.capacity
+        now = sum(count for own, count in counts.items() if region in (None, own))
+        rest = sum(counts.values()) - now
+        if not now or capacity < rest:
+            return None
+        above = Fraction(capacity - rest, now)
+        return Short(above, rows, demand, capacity, reached_by(tried, self._programs), demand - rest)
+
+    def _first(self, region: str | None) -> int:
+        """A factor above which nothing has to be tried: all rows together are short, or no table holds the counts."""
+        service = self._service
+        if service.log:
+            most, counts = GREATEST_ROW_COUNT // max(1, *service.log.regions.values()), service.log.regions
+        else:
+            own = [row.count // service.unit for row in service.rows if region in (None, row.region)]
+            most, counts = GREATEST_COUNT // max(1, *own, 1), _by_region(service.rows)
+        now = sum(count for name, count in counts.items() if region in (None, name))
+        room = sum(map(service.capacity, service.servers)) - sum(counts.values()) + now
+        return min(STEP * most, STEP * max(0, room) // max(1, now) + 1)
+
+    def growth(self, region: str | None = None) -> Growth:
+        """How far the queries of a region, or of all, can grow."""
+        factor, short = self._first(region), None
+        while True:
+            tried = self.planned(factor, region)
+            if tried.certificate.is_plan:
+                break
+            found = self._short(tried, region)
+            self._put_away(tried)
+            if not found:
+                return Growth(region, None, None, None)
+            short = found if short is None or found.above < short.above else short
+            room = found.grown - (found.demand - found.capacity)
+            factor = min(factor - 1, int(STEP * short.above), factor * room // max(1, found.grown))
+        self._put_away(tried)
+        return self._short_from(Growth(region, factor, None, short))
+
+    def _short_from(self, found: Growth) -> Growth:
+        """The same with the first step at which a set is short whatever is rounded, shown by a certificate of its own."""
+        short = found.short
+        while short is not None:
+            factor = int(STEP * short.above) + 1
+            tried = self.planned(factor, found.region)
+            shown = self._short(tried, found.region)
+            self._put_away(tried)
+            assert shown is not None
+            if STEP * shown.above >= factor - 1:
+                return replace(found, short_from=factor, short=shown)
+            short = shown
+        return found
+
+    def _put_away(self, tried: Service) -> None:
+        self._programs.put_away(tried.inputs.demand, tried.plan_file)
+
+    def purchase(self, percent: int) -> Purchase:
+        """The least purchase for so many percent more."""
+        grown = self.planned(STEP * (100 + percent) // 100)
+        certificate: Certificate = grown.certificate
+        if certificate.is_plan:
+            return Purchase(percent, 0, {}, certificate.cost)
+        lack = certificate.demand - certificate.capacity
+        bought = least_purchase(grown, self._programs)
+        after = with_purchase(grown, self._programs, bought) if bought else None
+        return Purchase(percent, lack, bought if after else None, after.certificate.cost if after else None)
+
+
+def _by_region(rows: Sequence[Row]) -> dict[str, int]:
+    counts: dict[str, int] = {}
+    for row in rows:
+        counts[row.region] = counts.get(row.region, 0) + row.count
+    return counts
+
+
+def grown(service: Service, programs: Judged, done: Callable[[], None] = lambda: None) -> list[Growth]:
+    """The growth of all demand together, and then of each region that asks for something, by their names."""
+    own = Growing(service, programs)
+    asked = service.log.regions if service.log else _by_region(service.rows)
+    regions = sorted(region for region, count in asked.items() if count)
+    tasks: list[Callable[[], Growth]] = [own.growth]
+    if len(regions) > 1:
+        tasks += [lambda region=region: own.growth(region) for region in regions]  # type: ignore[misc]
+    return side_by_side(tasks, done)
+
+
+__all__ = ["STEP", "Growing", "Growth", "Purchase", "Short", "grown", "percent_of"]

@@ -1,0 +1,93 @@
+"""A plan in force: a certificate with the files for which it was made, which may be others than today's."""
+
+from __future__ import annotations
+
+import os
+from dataclasses import dataclass, replace
+
+from hsp.base.numbers import some
+from hsp.base.paths import path_in
+from hsp.base.programs import Certificate, Missing, Programs
+from hsp.base.unfit import Unfit
+from hsp.plans.marks import TITLES, mark_in
+from hsp.plans.service import NAMES, VALUES, Service, service_of
+from hsp.scenarios.nearest import Homes, homes_of
+
+PLAN = "plan.txt"
+HEAD, PRICED = "HSPLAN 1\nPLAN\n", "HSPLAN PRICES 1\n"
+
+
+@dataclass(frozen=True)
+class InForce:
+    """Where a plan in force sends the queries of each row, and whether rows are told apart by their kinds."""
+
+    path: str
+    homes: Homes
+    by_kind: bool
+
+
+def plan_named(words: str) -> str:
+    """The certificate that a folder or a file means."""
+    path = path_in(words, PLAN) if os.path.isdir(words) else words
+    if not os.path.isfile(path):
+        raise Missing(f"{path}: no such file; give a certificate, or a folder with {PLAN}")
+    return path
+
+
+def text_of(path: str) -> str:
+    """The text of a certificate by rows."""
+    with open(path, "rb") as file:
+        text = file.read().decode("utf-8", "replace")
+    if text.startswith(PRICED):
+        raise Unfit(f"{path}: a certificate by prices names no row, so no plan is near it")
+    if not text.startswith(HEAD) or not text.endswith("END\n"):
+        raise Unfit(f"{path}: no plan of hsplan")
+    return text
+
+
+def _of_rows(service: Service, text: str, path: str) -> Certificate:
+    """The certificate, where its uses are those of the service's rows."""
+    remedy = "keep a plan in one folder with the demand for which it was made"
+    certificate = Certificate(text, service.unit)
+    try:
+        numbers, uses = len(certificate.prices("row")), certificate.uses
+    except (ValueError, IndexError, TypeError):
+        raise Unfit(f"{path}: no plan of hsplan") from None
+    if numbers != len(service.rows):
+        own = some(len(service.rows), "row")
+        raise Unfit(f"{path}: a plan of {some(numbers, 'row')}, and {service.inputs.demand} has {own}; {remedy}")
+    sums = [0] * len(service.rows)
+    for row, site, queries in uses:
+        if row >= len(sums) or site >= len(service.sites):
+            raise Unfit(f"{path}: a plan of other files than those beside it; {remedy}")
+        sums[row] += queries
+    if sums != [row.count for row in service.rows]:
+        raise Unfit(f"{path}: a plan of another demand than {service.inputs.demand}; {remedy}")
+    return certificate
+
+
+def _beside(path: str, now: Service, programs: Programs) -> Service:
+    """The service whose files lie beside a certificate. A file that isn't there is today's."""
+    folder = os.path.dirname(path) or "."
+    there = {role: path_in(folder, name) for role, name in {**NAMES, "values": VALUES}.items()}
+    there = {role: own for role, own in there.items() if os.path.isfile(own)}
+    if all(os.path.realpath(own) == os.path.realpath(getattr(now.inputs, role) or "") for role, own in there.items()):
+        return now
+    mark = now.mark
+    if "demand" in there and os.path.isfile(path_in(folder, TITLES)):
+        mark = mark_in(folder)
+    inputs = replace(now.inputs, **there, unit=mark.unit, is_log=False)
+    return service_of(folder, programs, inputs, now.titles, mark)
+
+
+def in_force(words: str, now: Service, programs: Programs) -> InForce:
+    """The plan in force that a folder or a certificate means, over the files beside it."""
+    path = plan_named(words)
+    text = text_of(path)
+    old = _beside(path, now, programs)
+    certificate = _of_rows(old, text, path)
+    by_kind = old.mark.is_joined or now.mark.is_joined
+    return InForce(path, homes_of(old, certificate, by_kind), by_kind)
+
+
+__all__ = ["InForce", "PLAN", "in_force", "plan_named"]

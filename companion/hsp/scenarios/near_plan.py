@@ -1,0 +1,82 @@
+"""A plan near the one in force, as `hsp plan --near` makes it: its lines, and the tables that show it."""
+
+from __future__ import annotations
+
+import os
+from dataclasses import dataclass, replace
+
+from hsp.base.numbers import part
+from hsp.base.paths import path_in
+from hsp.base.programs import Inputs
+from hsp.plans.service import NAMES, Service
+from hsp.scenarios.in_force import PLAN, InForce, in_force
+from hsp.scenarios.judged import Judged
+from hsp.scenarios.nearest import Portions, TooMany, moved_between
+
+# The folder beside a plan with the tables of its portions and their plan.
+FOLDER = "near"
+
+
+@dataclass(frozen=True)
+class Near:
+    """A service with a plan near the one in force, or with the plain plan where `why` says why it isn't near."""
+
+    service: Service
+    held: InForce
+    moved: int
+    plain: int
+    why: str = ""
+    portions: Inputs | None = None
+    portions_plan: str = ""
+
+    def line(self) -> str:
+        """How many queries are moved, and by how many the plain plan would move."""
+        moved, plain = self._share(self.moved), self._share(self.plain)
+        if self.why:
+            return f"near  no: {self.why}; this is the plain plan, which moves {plain} from {self.held.path}"
+        of = f"{self.service.asked:,} queries"
+        return f"near  moves {moved} of {of} from {self.held.path}, the fewest of all cheapest plans; plain {plain}"
+
+    def _share(self, moved: int) -> str:
+        return f"{moved:,} ({part(moved / self.service.asked) if self.service.asked else '0%'})"
+
+    def contents(self, plan: str) -> dict[str, bytes]:
+        """The tables of the portions and their plan, which are kept beside a plan."""
+        if not self.portions:
+            return {}
+        folder = path_in(os.path.dirname(plan), FOLDER)
+        sources = {
+            NAMES["demand"]: self.portions.demand,
+            NAMES["costs"]: self.portions.costs,
+            PLAN: self.portions_plan,
+        }
+        found = {}
+        for name, source in sources.items():
+            with open(source, "rb") as file:
+                found[path_in(folder, name)] = file.read()
+        return found
+
+    def shown_by(self, plan: str) -> str:
+        """What shows that no cheapest plan moves fewer."""
+        if not self.portions:
+            return ""
+        folder = path_in(os.path.dirname(plan), FOLDER)
+        return f"check yes: {path_in(folder, PLAN)} shows that no cheapest plan moves fewer"
+
+
+def near_plan(words: str, service: Service, programs: Judged) -> Near:
+    """Of the cheapest plans of a service one that moves the fewest queries from the plan in force."""
+    held = in_force(words, service, programs)
+    plain = moved_between(service, held.homes, service.certificate, held.by_kind)
+    try:
+        portions = Portions(service, held.homes, programs, held.by_kind)
+    except TooMany as fault:
+        return Near(service, held, plain, plain, f"{fault}, more than tables hold")
+    near = portions.nearest(service, service.certificate)
+    if not near:
+        return Near(service, held, plain, plain, "the portions' plan isn't a cheapest one")
+    own = replace(service, certificate=near.certificate, plan_file=near.plan_file)
+    return Near(own, held, near.moved, plain, "", near.portions, near.portions_plan)
+
+
+__all__ = ["Near", "near_plan"]

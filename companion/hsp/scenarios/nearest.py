@@ -1,0 +1,246 @@
+"""Of the cheapest plans one that moves the fewest queries.
+
+A row becomes portions: one for each site to which the plan in force sends some of it, its home, and one for what is new.
+Away from home a portion's query costs one more than many times the site's cost. So a cheapest plan of the portions is a
+cheapest plan of the rows and moves the fewest queries, and a certificate of each shows both.
+"""
+
+from __future__ import annotations
+
+from collections import Counter
+from collections.abc import Callable, Iterable, Mapping
+from dataclasses import dataclass
+
+from hsp.base.grammar import GREATEST_COST, HEADERS, LONGEST_NAME, MOST_COST_ROWS, MOST_DEMAND_ROWS, MOST_REGIONS
+from hsp.base.numbers import some
+from hsp.base.programs import Certificate, Inputs
+from hsp.plans.service import Row, Server, Service
+from hsp.scenarios.judged import Judged
+
+# What tells a row from others in two tables: its region, and its handle or the servers of its kind.
+Key = tuple[str, object]
+# A server by its site and its identifier.
+Named = tuple[str, int]
+# How many queries of each key go to each server by a plan in force.
+Homes = Mapping[Key, Mapping[Named, int]]
+# How many queries of a row, by its number, go to a site.
+Uses = dict[tuple[int, int], int]
+# What has a price in a certificate, in its order.
+PRICED = ("row", "server", "host")
+
+
+class TooMany(Exception):
+    """More portions, or more regions with their homes, than tables hold. The text says which."""
+
+
+@dataclass(frozen=True)
+class Portion:
+    """So many units of a row, whose home is a site by its number, or None where they are new."""
+
+    row: int
+    home: int | None
+    units: int
+
+
+@dataclass(frozen=True)
+class Nearest:
+    """A cheapest plan, and how many queries it moves: the fewest, as a plan of the portions shows."""
+
+    certificate: Certificate
+    plan_file: str
+    moved: int
+    portions: Inputs
+    portions_plan: str
+
+
+def keys_of(service: Service, by_kind: bool) -> Callable[[Row], Key]:
+    """What tells the rows of a service apart: handles, or kinds where either of two tables counts these."""
+    if by_kind:
+        return lambda row: (row.region, service.kind(row))
+    return lambda row: (row.region, row.handle)
+
+
+def homes_of(service: Service, certificate: Certificate, by_kind: bool) -> Homes:
+    """Where a plan of the service's rows sends their queries."""
+    found: dict[Key, Counter[Named]] = {}
+    key_of = keys_of(service, by_kind)
+    for row, site, queries in certificate.uses:
+        own = service.rows[row]
+        server = service.server(site, own.handle)
+        found.setdefault(key_of(own), Counter())[server.site, server.id] += queries
+    return found
+
+
+def shared(whole: int, parts: Mapping[int, int]) -> dict[int, int]:
+    """A number in whole parts of the same shares: each is rounded down, and the rest goes to the largest remainders."""
+    total = sum(parts.values())
+    if not total:
+        return {}
+    own = {key: part * whole // total for key, part in parts.items()}
+    rest = whole - sum(own.values())
+    for key in sorted(parts, key=lambda it: -(parts[it] * whole % total))[:rest]:
+        own[key] += 1
+    return {key: part for key, part in own.items() if part}
+
+
+def homes_at(service: Service, row: Row, homes: Mapping[Named, int]) -> tuple[dict[int, int], int]:
+    """The sites at which a row still has the server of the plan in force, with that plan's queries there, and how many
+    other queries the plan has."""
+    found: dict[int, int] = {}
+    for at, site in enumerate(service.sites):
+        if any(name == site.name for name, _ in homes):
+            server = service.server(at, row.handle)
+            here = homes.get((server.site, server.id), 0)
+            if here:
+                found[at] = here
+    return found, sum(homes.values()) - sum(found.values())
+
+
+def portions_of(service: Service, homes: Homes, by_kind: bool) -> list[Portion]:
+    """The portions of all rows. What had a server that is no longer there is moved by every plan, so it's new."""
+    key_of, found = keys_of(service, by_kind), []
+    lost = len(service.sites)
+    for at, row in enumerate(service.rows):
+        units = row.count // service.unit
+        here, gone = homes_at(service, row, homes.get(key_of(row), {}))
+        parts = shared(units, {**here, **({lost: gone} if gone else {})})
+        rest = units - sum(parts.values()) + parts.pop(lost, 0)
+        found += [Portion(at, home, part) for home, part in parts.items()]
+        if rest or not parts:
+            found.append(Portion(at, None, rest))
+    return found
+
+
+class Portions:
+    """The portions of a service's rows, of which nearest plans are made after any change of costs and capacities."""
+
+    def __init__(self, service: Service, homes: Homes, programs: Judged, by_kind: bool = False) -> None:
+        self._service, self._programs = service, programs
+        self.all = portions_of(service, homes, by_kind)
+        self._rows = [it.row for it in self.all]
+        # A round of moves that saves cost passes each server once, so no such round moves as many queries as this.
+        self.weight = 2 * len(service.servers) + 4
+        self._regions = dict.fromkeys((service.rows[it.row].region, it.home) for it in self.all)
+        self._refuse_too_many()
+        self._names = self._named()
+        self._at_home: Counter[int] = Counter()
+        for it in self.all:
+            if it.home is not None:
+                server = service.server(it.home, service.rows[it.row].handle)
+                self._at_home[server.number] += service.unit * it.units
+        rows = ((self._names[self._region(it)], service.rows[it.row].handle, it.units) for it in self.all)
+        self.demand = programs.put_table(HEADERS["demand"], rows)
+
+    def _region(self, portion: Portion) -> tuple[str, int | None]:
+        return self._service.rows[portion.row].region, portion.home
+
+    def _refuse_too_many(self) -> None:
+        dearest = self.weight * max(self._service.costs.values(), default=0) + 1
+        costs = sum(len(self._service.sites_for(region)) for region, _ in self._regions)
+        found = {
+            some(len(self.all), "portion"): len(self.all) > MOST_DEMAND_ROWS,
+            some(len(self._regions), "region with its homes", "regions with their homes"): len(self._regions)
+            > MOST_REGIONS,
+            f"costs up to {dearest:,}": dearest > GREATEST_COST,
+            some(costs, "cost"): costs > MOST_COST_ROWS,
+        }
+        if any(found.values()):
+            raise TooMany(" and ".join(words for words, is_above in found.items() if is_above))
+
+    def _named(self) -> dict[tuple[str, int | None], str]:
+        """A name for each region with a home. It is one that people can read, where that is a name and no region's."""
+        sites = [site.name for site in self._service.sites]
+        names = {(own, home): own if home is None else f"{own}.{sites[home]}" for own, home in self._regions}
+        if len(set(names.values())) == len(names) and all(len(name) <= LONGEST_NAME for name in names.values()):
+            return names
+        return {key: f"r{at}" for at, key in enumerate(names)}
+
+    def homes_at(self, servers: Iterable[Server]) -> int:
+        """How many queries are at home at some servers."""
+        return sum(self._at_home[server.number] for server in servers)
+
+    def inputs(self, service: Service) -> Inputs:
+        """The tables of the portions for a service of the same rows, which may have other costs and capacities."""
+        rows = []
+        for (region, home), name in self._names.items():
+            for at in service.sites_for(region):
+                cost = self.weight * service.costs[region, service.sites[at].name]
+                rows.append((name, service.sites[at].name, cost + (home is not None and home != at)))
+        costs = self._programs.put_table(HEADERS["costs"], rows)
+        return service.inputs.but(demand=self.demand, costs=costs)
+
+    def nearest(self, service: Service, plain: Certificate | None = None) -> Nearest | None:
+        """A nearest plan, where there is a plan. The plain plan gives the prices where it is known; otherwise those of
+        the portions do, divided by their weight. None where the checker doesn't say yes to the rows' plan."""
+        inputs = self.inputs(service)
+        found, path = self._programs.plan(inputs)
+        if not found.is_plan:
+            return None
+        uses = self._joined(found)
+        cost = self._cost(service, uses)
+        if plain and cost != plain.cost:
+            return None
+        prices = {of: plain.prices(of) if plain else self._divided(found, of) for of in PRICED}
+        text = text_of(service.unit, cost, uses, prices)
+        own = self._programs.put(text)
+        if not self._programs.says_yes(service.inputs, own):
+            return None
+        moved = found.cost - self.weight * cost
+        return Nearest(Certificate(text, service.unit), own, moved, inputs, path)
+
+    def _joined(self, found: Certificate) -> Uses:
+        """What all portions of a row send to a site."""
+        sums: dict[tuple[int, int], int] = {}
+        for portion, site, queries in zip(*found.use_columns):
+            key = self._rows[portion], site
+            sums[key] = sums.get(key, 0) + queries
+        return {key: sums[key] for key in sorted(sums)}
+
+    def _cost(self, service: Service, uses: Uses) -> int:
+        names, costs = [site.name for site in service.sites], service.costs
+        regions = [row.region for row in service.rows]
+        return sum(queries * costs[regions[row], names[site]] for (row, site), queries in uses.items())
+
+    def _divided(self, found: Certificate, of: str) -> list[int]:
+        """Prices of the portions as those of the rows: divided by the weight, to the nearest whole number."""
+        twice = 2 * self.weight
+        prices = [(2 * price + self.weight) // twice for price in found.prices(of)]
+        if of != "row":
+            return prices
+        return list(dict(zip(self._rows, prices)).values())
+
+
+def text_of(unit: int, cost: int, uses: Uses, prices: Mapping[str, list[int]]) -> str:
+    """A certificate of rows. Costs and uses are in queries."""
+    lines = ["HSPLAN 1", "PLAN", f"cost {cost // unit}"]
+    lines += [f"use {row} {site} {queries // unit}" for (row, site), queries in uses.items()]
+    for of in PRICED:
+        lines += [f"{of} {at} {price}" for at, price in enumerate(prices[of])]
+    return "\n".join([*lines, "END", ""])
+
+
+def moved_between(service: Service, homes: Homes, certificate: Certificate, by_kind: bool = False) -> int:
+    """How many queries of the plan in force, in the present counts, a plan doesn't send to the same server."""
+    at_home: Counter[tuple[int, int]] = Counter()
+    new: Counter[int] = Counter()
+    for portion in portions_of(service, homes, by_kind):
+        if portion.home is None:
+            new[portion.row] += service.unit * portion.units
+        else:
+            at_home[portion.row, portion.home] += service.unit * portion.units
+    for row, site, queries in certificate.uses:
+        at_home[row, site] -= min(queries, at_home[row, site]) if (row, site) in at_home else 0
+    return at_home.total()
+
+
+__all__ = [
+    "Homes",
+    "Nearest",
+    "Portions",
+    "TooMany",
+    "homes_of",
+    "keys_of",
+    "moved_between",
+    "portions_of",
+    "shared",
+]

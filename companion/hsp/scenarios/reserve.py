@@ -1,0 +1,62 @@
+"""A part of each capacity and limit that is kept back."""
+
+from __future__ import annotations
+
+from dataclasses import replace
+from fractions import Fraction
+from typing import Any
+
+import click
+
+from hsp.base.programs import Programs
+from hsp.base.units import hosts_text, settings_text
+from hsp.plans.plans import capacity_file
+from hsp.plans.service import Service
+
+
+class Percent(click.ParamType):
+    """A part in percent, as an exact number: at least 0, and less than 100."""
+
+    name = "percent"
+
+    def convert(self, value: Any, param: click.Parameter | None, context: click.Context | None) -> Fraction:
+        if isinstance(value, Fraction):
+            return value
+        try:
+            part = Fraction(str(value)) / 100
+        except (ValueError, ZeroDivisionError):
+            part = Fraction(1)
+        if "/" in str(value) or not 0 <= part < 1:
+            self.fail(f"'{value}' is no part from 0 to less than 100, such as 5 or 2.5", param, context)
+        return part
+
+
+RESERVE = click.option(
+    "--reserve", metavar="P", type=Percent(), default="0", help="keep P % of each capacity and limit back"
+)
+
+
+def reserved(service: Service, part: Fraction, programs: Programs) -> Service:
+    """The service where servers and machines take less by a part, rounded down, and its certificate."""
+    if not part:
+        return service
+    capacities = {key: int(room * (1 - part)) for key, room in service.capacities.items()}
+    inputs, settings = service.inputs.but(capacity=capacity_file(programs, capacities)), service.settings
+    if "host" in settings:
+        hosts = [{**host, "limit": int(host["limit"] * (1 - part))} for host in settings["host"]]
+        settings = {**settings, "host": hosts}
+        inputs = inputs.but(settings=programs.put(settings_text(settings) + hosts_text(settings), ".toml"))
+    certificate, path = programs.plan(inputs)
+    return replace(
+        service,
+        given=service.inputs,
+        inputs=inputs,
+        settings=settings,
+        capacities=capacities,
+        certificate=certificate,
+        plan_file=path,
+        reserve=part,
+    )
+
+
+__all__ = ["RESERVE", "Percent", "reserved"]
