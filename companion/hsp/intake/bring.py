@@ -7,7 +7,7 @@ import re
 import sys
 from collections.abc import Callable, Sequence
 from dataclasses import replace
-from typing import Any, TypeVar
+from typing import Any, NamedTuple, TypeVar
 
 import click
 
@@ -21,13 +21,16 @@ from hsp.base.text import give, is_utf8, say, show_progress
 from hsp.base.unfit import Unfit
 from hsp.intake import skeleton
 from hsp.intake.busiest import busiest_hour, refuse_pipes
-from hsp.intake.forms import Form, within
 from hsp.intake.forms import NAMES as FORMS
+from hsp.intake.forms import Form, timed, within
+from hsp.intake.hour_folders import folders_of, in_folders, tables_in, write_hours
+from hsp.intake.hour_tally import HourTally
+from hsp.intake.hours import CYCLES, Chosen, Cycle, chosen
 from hsp.intake.joining import block, capacity_rows, joined, lines_of, read_back
 from hsp.intake.outlook import may_be_long, outlook, refuse_unit
 from hsp.intake.progress import Gauge, Progress
 from hsp.intake.queries import Judge, Reading, field_of, queries
-from hsp.intake.regions import named_in, regions_in
+from hsp.intake.regions import named_in, regions_in, tagged
 from hsp.intake.sitefiles import Files, Found
 from hsp.intake.tally import Demand, Tally
 from hsp.intake.times import FIRST, LAST, Span, iso_seconds
@@ -245,13 +248,27 @@ def by_time(logs: tuple[str, ...], reading: Reading, given: dict[str, Any]) -> l
     """Has only the lines of the wanted time counted. Returns which hour that is, where it was found here."""
     span, lines = span_of(given), []
     if given["busiest_hour"]:
-        refuse_pipes(logs)
+        refuse_pipes(logs, "--busiest-hour")
         span, first, line = busiest_hour(logs, reading, span)
         some_in(logs, first, bool(line))
         reading.lines = first.lines
         lines.append(line)
     reading.wrap = None if span.is_all else within(span)
     return lines
+
+
+def by_hours(logs: tuple[str, ...], reading: Reading, given: dict[str, Any], cycle: Cycle) -> Chosen:
+    """Has each hour of a cycle counted on the day with most queries in it, and returns which hours these are."""
+    if given["busiest_hour"]:
+        raise click.UsageError(f"--busiest-hour counts one hour, and --by {cycle.word} counts all; give one of them")
+    span = span_of(given)
+    refuse_pipes(logs, f"--by {cycle.word}")
+    found, first = chosen(logs, reading, span, cycle)
+    some_in(logs, first, found is not None)
+    assert found
+    reading.lines = first.lines
+    reading.wrap, reading.seek = timed(found.tag(span)), tagged(reading.seek)
+    return found
 
 
 def some_in(logs: tuple[str, ...], reading: Reading, is_some: bool) -> None:
@@ -281,6 +298,14 @@ def rows_lines(output: str | None, own: Demand, lacking: tuple[str, list[str]] |
     return lines + ([f"{lacking[0]} has no cost yet of {listed(lacking[1])}"] if lacking and lacking[1] else [])
 
 
+def hours_lines(
+    found: Chosen, folders: list[str], output: str | None, own: Demand, lacking: tuple[str, list[str]] | None
+) -> list[str]:
+    """The same of the demands of all hours, and which of them the folder itself has."""
+    first, *lines = rows_lines(f"each {NAMES['demand']} of {folders[0]} to {folders[-1]}", own, lacking)
+    return [first, f"{output} has the rows of {found.cycle.names[found.busiest]} that aren't 0", *lines]
+
+
 def mark_of(tally: Tally, logs: tuple[str, ...], unit: int | None) -> Mark:
     """What the rows of a joined table stand for."""
     return Mark(KINDS, unit or 1, logs, tally.asked, tally.handles)
@@ -307,6 +332,31 @@ def write_demand(own: Demand, output: str, into: str | None, mark: Mark, files: 
         files.open(path).write(octets)
 
 
+class By(NamedTuple):
+    """The field of a MaxMind database, and the hours that have a table each, where these are wanted."""
+
+    field: str
+    cycle: Cycle | None
+
+
+def by_of(_: click.Context, __: click.Parameter, words: tuple[str, ...]) -> By:
+    """The last field and the last cycle of hours among some words."""
+    fields = [word for word in words if word not in CYCLES]
+    cycles = [CYCLES[word] for word in words if word in CYCLES]
+    return By(fields[-1] if fields else BY_FIELD, cycles[-1] if cycles else None)
+
+
+BY_FIELD = "continent.code"
+OF_DATABASE = click.option("--by", metavar="FIELD", default=BY_FIELD, show_default=True, help="of a MaxMind database")
+BY_HOURS = click.option(
+    "--by",
+    metavar="FIELD",
+    multiple=True,
+    default=[BY_FIELD],
+    show_default=True,
+    callback=by_of,
+    help="of a MaxMind database; or hour or weekday-hour: a table of each",
+)
 FORM_OPTIONS = [
     click.option(
         "--format", type=click.Choice(["auto", *FORMS]), default="auto", show_default=True, help="of the logs"
@@ -327,7 +377,8 @@ FORM_OPTIONS = [
     click.option("--time", metavar="NAME", default="time", show_default=True, help="the field with the time"),
     click.option("--prefix", metavar="PREFIX", multiple=True, help="count only handles of this prefix"),
     click.option("--elsewhere", metavar="REGION", help="of clients that have no region"),
-    click.option("--by", metavar="FIELD", default="continent.code", show_default=True, help="of a MaxMind database"),
+]
+KINDS_OPTIONS = [
     click.option(
         "--unit", type=click.IntRange(1, GREATEST_UNIT), metavar="N", help="count in units of N queries, rounded up"
     ),
@@ -337,11 +388,16 @@ FORM_OPTIONS = [
 ]
 
 
-def with_forms(command: Command) -> Command:
-    """Adds the options that say how logs are read."""
-    for option in reversed(FORM_OPTIONS):
+def with_forms(command: Command, by: Callable[[Any], Any] = OF_DATABASE) -> Command:
+    """Adds the options that say how logs are read, and how their rows are joined."""
+    for option in reversed([*FORM_OPTIONS, by, *KINDS_OPTIONS]):
         command = option(command)
     return command
+
+
+def with_hours(command: Command) -> Command:
+    """Adds the same options, of which one may name hours."""
+    return with_forms(command, BY_HOURS)
 
 
 def refuse_own(logs: Sequence[str], regions: str, into: str | None, outputs: Sequence[str], given: Any) -> None:
@@ -370,36 +426,44 @@ def output_of(given: dict[str, Any], into: str | None) -> str | None:
 @click.option("--into", metavar="DIR", type=FOLDER, help="the folder whose demand.csv is written")
 @click.option("-o", "--output", metavar="FILE", help="the table, in place of DIR/demand.csv")
 @click.option("--log", "kept", metavar="FILE", help="also the queries, as a log for hsplan dispatch")
-@with_forms
+@with_hours
 def demand(logs: tuple[str, ...], regions: str, into: str | None, kept: str | None, **given: Any) -> None:
     """Counts the queries of access logs by region and handle.
 
     A LOG may be packed by gzip, bzip2 or xz; - is standard input. Its form is that of a handle server (server), of an
     HTTP proxy (proxy), JSON lines (json) or a table (csv). Without --into and -o the table is printed.
+
+    With --by hour or --by weekday-hour each hour has a table, as DIR/h09/demand.csv or DIR/mon-h09/demand.csv. It has the
+    counts of the day with most queries in this hour. All have the same rows, with 0 where nothing came. Hours are
+    those of one clock: that of the first time in the logs. DIR/demand.csv has the busiest hour.
     """
-    programs = Programs()
-    output = output_of(given, into)
-    refuse_own(logs, regions, into, [own for own in (output, kept) if own], given)
+    programs, by = Programs(), given["by"]
+    output, folders = output_of(given, into), folders_of(into, by.cycle)
+    refuse_own(logs, regions, into, [own for own in (output, kept, *tables_in(folders)) if own], given)
     refuse_clashes([path_in(into, NAMES["demand"])] if into else [], [kept] if kept else [])
-    reading = Reading(form_of(given), regions_in(regions, given["by"], given["elsewhere"], programs), Judge(programs))
+    reading = Reading(form_of(given), regions_in(regions, by.field, given["elsewhere"], programs), Judge(programs))
     if sys.stderr.isatty():
-        gauge = Gauge(logs, 2 if given["busiest_hour"] else 1)
+        gauge = Gauge(logs, 2 if given["busiest_hour"] or by.cycle else 1)
         reading.watch, reading.progress = gauge.watch, Progress(gauge).show
-    tally, is_long = Tally(programs), any(map(may_be_long, logs))
     expect(twice(logs))
-    inputs = foreseen(regions, into, given, is_long, programs)
+    inputs = foreseen(regions, into, given, any(map(may_be_long, logs)), programs)
+    found = by_hours(logs, reading, given, by.cycle) if by.cycle else None
+    lines = found.lines() if found else by_time(logs, reading, given)
+    tally = HourTally(programs, found) if found else Tally(programs)
     tally.joins_by(inputs)
-    busiest = by_time(logs, reading, given)
-    with together() as files:
+    with in_folders(folders), together() as files:
         counted(logs, reading, tally, files.open(kept) if kept else None)
         own = tally.demand(inputs, given["unit"])
-        closing = rows_lines(output, own, (inputs.costs, tally.without_costs(inputs)) if inputs else None)
+        lacking = (inputs.costs, tally.without_costs(inputs)) if inputs else None
+        mark = mark_of(tally, logs, given["unit"]) if own.is_joined else Mark()
+        if isinstance(tally, HourTally):
+            mark = write_hours(tally, folders, mark, files)
         if output:
-            mark = mark_of(tally, logs, given["unit"]) if own.is_joined else Mark()
             write_demand(own, output, into, mark, files)
         else:
             give_demand(own)
-    for line in [*busiest, *summary(logs, reading, tally, not given["prefix"]), *closing]:
+    closing = hours_lines(found, folders, output, own, lacking) if found else rows_lines(output, own, lacking)
+    for line in [*lines, *summary(logs, reading, tally, not given["prefix"]), *closing]:
         say(line, err=output is None)
 
 

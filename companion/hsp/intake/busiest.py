@@ -10,44 +10,34 @@ from dataclasses import replace
 
 from hsp.base.numbers import some
 from hsp.base.unfit import Unfit
-from hsp.intake.forms import Clock, Take, Taken, within
+from hsp.intake.forms import OTHER_TIME, Tag, timed
 from hsp.intake.logs import Skipped
-from hsp.intake.queries import Reading, Wrap, queries
-from hsp.intake.regions import Seek
-from hsp.intake.times import HOUR, Span, shown_time
+from hsp.intake.queries import Reading, queries
+from hsp.intake.regions import tag_of, tagged
+from hsp.intake.times import HOUR, Span, Time, shown_time, shown_zone
 
 
-def _by_hour(span: Span) -> Wrap:
-    """Takes the lines of a span, with their hour before the address."""
-
-    def wrapped(take: Take, clock: Clock) -> Take:
-        own = within(span)(take, clock)
-
-        def taken(line: bytes) -> Taken:
-            address, handle = own(line)
-            return b"%d %b" % ((clock(line) or 0) // HOUR, address), handle
-
-        return taken
-
-    return wrapped
-
-
-def _hours(seek: Seek) -> Seek:
-    """The hour in place of the region, where an address has one."""
-
-    def hour_of(octets: bytes) -> bytes | str:
-        hour, _, address = octets.partition(b" ")
-        region = seek(address)
-        return hour if isinstance(region, bytes) else region
-
-    return hour_of
-
-
-def refuse_pipes(logs: Sequence[str]) -> None:
+def refuse_pipes(logs: Sequence[str], option: str) -> None:
     """Refuses logs that can be read only once."""
     for path in logs:
         if path == "-" or os.path.exists(path) and not stat.S_ISREG(os.stat(path).st_mode):
-            raise Unfit(f"{path}: --busiest-hour reads a log twice, and this one can be read only once; give a file")
+            raise Unfit(f"{path}: {option} reads a log twice, and this one can be read only once; give a file")
+
+
+def counted_by(logs: Sequence[str], reading: Reading, tag: Tag) -> tuple[Counter[bytes], Reading]:
+    """How many queries have each tag of their time, and what was passed over."""
+    first = replace(reading, seek=tagged(reading.seek), wrap=timed(tag), skipped=Skipped(), lines=0)
+    counts: Counter[bytes] = Counter()
+    for path in logs:
+        counts.update(tag_of(region)[0] for region, _ in queries(path, first))
+    return counts, first
+
+
+def busiest_line(begin: int, offset: int, queries: int, of: int) -> str:
+    """Says which hour has most queries, by a clock that is so many seconds before UTC."""
+    first, last = shown_time(begin, offset), shown_time(begin + HOUR, offset)
+    share = f"{queries:,} of {some(of, 'query', 'queries')}"
+    return f"busiest hour {first} to {last} {shown_zone(offset)}: {share}"
 
 
 def busiest_hour(logs: Sequence[str], reading: Reading, span: Span) -> tuple[Span, Reading, str]:
@@ -55,13 +45,14 @@ def busiest_hour(logs: Sequence[str], reading: Reading, span: Span) -> tuple[Spa
 
     Of hours with the same number it is the first. Without any query it is the whole span.
     """
-    first = replace(reading, seek=_hours(reading.seek), wrap=_by_hour(span), skipped=Skipped(), lines=0)
-    counts: Counter[int] = Counter()
-    for path in logs:
-        counts.update(int(hour) for hour, _ in queries(path, first))
-    if not counts:
+
+    def hour_of(time: Time) -> bytes | str:
+        return b"%d" % (time.seconds // HOUR) if span.has(time.seconds) else OTHER_TIME
+
+    tags, first = counted_by(logs, reading, hour_of)
+    if not tags:
         return span, first, ""
+    counts = {int(hour): count for hour, count in tags.items()}
     hour = min(counts, key=lambda start: (-counts[start], start))
-    found = Span(hour * HOUR, (hour + 1) * HOUR)
-    share = f"{counts[hour]:,} of {some(counts.total(), 'query', 'queries')}"
-    return found, first, f"busiest hour {shown_time(found.first)} to {shown_time(found.last)} UTC: {share}"
+    line = busiest_line(hour * HOUR, 0, counts[hour], tags.total())
+    return Span(hour * HOUR, (hour + 1) * HOUR), first, line

@@ -10,13 +10,15 @@ from dataclasses import dataclass
 from typing import Any
 from urllib.parse import unquote_to_bytes
 
-from hsp.intake.times import Span, seconds_of
+from hsp.intake.times import Span, Time, time_of
 
 # The client's address, and its handle, or the reason why there is none.
 Taken = tuple[bytes, "bytes | str"]
 Take = Callable[[bytes], Taken]
-# From a line to its time in seconds, or none.
-Clock = Callable[[bytes], "int | None"]
+# From a line to its time, or none.
+Clock = Callable[[bytes], "Time | None"]
+# From a time to the tag of its lines, a word, or the reason why they don't count.
+Tag = Callable[[Time], "bytes | str"]
 
 ODD = "not a line of this form"
 OTHER_OPERATION = "another operation than a resolution"
@@ -111,7 +113,7 @@ class Form:
         if self.name == "json":
             return self._clock_of_json()
         begin, end = (b"[", b"]") if self.name == "proxy" else (b'"', b'"')
-        return lambda line: seconds_of(line.partition(begin)[2].partition(end)[0])
+        return lambda line: time_of(line.partition(begin)[2].partition(end)[0])
 
     def _clock_of_table(self, first: bytes) -> Clock:
         header = _row(first)
@@ -119,18 +121,18 @@ class Form:
             raise Odd
         at = header.index(self.time)
 
-        def clock(line: bytes) -> int | None:
+        def clock(line: bytes) -> Time | None:
             row = [field.encode() for field in _row(line)] if b'"' in line else line.split(b",")
-            return seconds_of(row[at]) if at < len(row) else None
+            return time_of(row[at]) if at < len(row) else None
 
         return clock
 
     def _clock_of_json(self) -> Clock:
         name, load = self.time, json.JSONDecoder().decode
 
-        def clock(line: bytes) -> int | None:
+        def clock(line: bytes) -> Time | None:
             try:
-                return seconds_of(str(load(line.decode())[name]).encode())
+                return time_of(str(load(line.decode())[name]).encode())
             except (ValueError, KeyError, TypeError, RecursionError):
                 return None
 
@@ -141,9 +143,9 @@ class Form:
         if "time" not in pattern.groupindex:
             raise Odd
 
-        def clock(line: bytes) -> int | None:
+        def clock(line: bytes) -> Time | None:
             match = search(line)
-            return seconds_of(match["time"]) if match and match["time"] is not None else None
+            return time_of(match["time"]) if match and match["time"] is not None else None
 
         return clock
 
@@ -233,20 +235,29 @@ class Form:
         return take
 
 
-def within(span: Span) -> Callable[[Take, Clock], Take]:
-    """Takes only the lines of a span of time."""
+def timed(tag: Tag) -> Callable[[Take, Clock], Take]:
+    """Takes only the lines whose time has a tag. One that isn't empty stands before the address."""
 
     def wrapped(take: Take, clock: Clock) -> Take:
         def taken(line: bytes) -> Taken:
-            seconds = clock(line)
-            if seconds is not None:
-                return take(line) if span.has(seconds) else (b"", OTHER_TIME)
+            time = clock(line)
+            if time is None:
+                address, handle = take(line)
+                return address, handle if handle.__class__ is str else NO_TIME
+            found = tag(time)
+            if isinstance(found, str):
+                return b"", found
             address, handle = take(line)
-            return address, handle if handle.__class__ is str else NO_TIME
+            return b"%b %b" % (found, address) if found else address, handle
 
         return taken
 
     return wrapped
+
+
+def within(span: Span) -> Callable[[Take, Clock], Take]:
+    """Takes only the lines of a span of time."""
+    return timed(lambda time: b"" if span.has(time.seconds) else OTHER_TIME)
 
 
 def _unescaped(match: re.Match[bytes]) -> bytes:

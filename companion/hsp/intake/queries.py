@@ -17,6 +17,7 @@ from hsp.base.unfit import Unfit
 from hsp.intake.forms import NAMES, ODD, Clock, Form, Odd, Remembered, Take, likeliest
 from hsp.intake.logs import Skipped, Watch, numbered
 from hsp.intake.regions import Seek
+from hsp.intake.times import Time
 
 NAME_IT = "name one by --format, its fields by --client and --handle or --path, or give --regex"
 BATCH, BATCH_OCTETS = 1 << 14, 1 << 22
@@ -95,13 +96,24 @@ def _taker(path: str, form: Form, first: list[tuple[int, bytes]]) -> tuple[Form,
         raise Unfit(f"{path}: line {first[0][0]}: no header with {wanted}") from None
 
 
-def _wrapped(path: str, form: Form, take: Take, line: bytes, wrap: Wrap) -> Take:
-    """How lines are taken by their time, where the log has times."""
+def _clock(path: str, form: Form, line: bytes) -> Clock:
+    """How the time of a line is read, where the log has times. `line` is the first one."""
     try:
-        return wrap(take, form.clock(line))
+        return form.clock(line)
     except Odd:
         remedy = "give the pattern a group (?P<time>..)" if form.pattern else "name the field of the time by --time"
         raise Unfit(f"{path}: line 1: no field {form.time}; {remedy}") from None
+
+
+def first_time(path: str, reading: Reading) -> Time | None:
+    """The first time in a log."""
+    lines = numbered(path, Skipped())
+    first = list(itertools.islice(lines, SEEN_FIRST))
+    if not first:
+        return None
+    form, _ = _taker(path, reading.form, first)
+    clock = _clock(path, form, first[0][1])
+    return next((time for _, line in itertools.chain(first, lines) if (time := clock(line))), None)
 
 
 def queries(path: str, reading: Reading) -> Iterator[Query]:
@@ -112,7 +124,7 @@ def queries(path: str, reading: Reading) -> Iterator[Query]:
         return
     form, take = _taker(path, reading.form, first)
     if reading.wrap:
-        take = _wrapped(path, form, take, first[0][1], reading.wrap)
+        take = reading.wrap(take, _clock(path, form, first[0][1]))
     regions, skip = Remembered(reading.seek), reading.skipped.add
     rows: list[Query] = []
     places: list[tuple[int, bytes]] = []

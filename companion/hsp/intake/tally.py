@@ -30,6 +30,7 @@ REMEDIES = {
 MOST_PAIRS = 1 << 20
 # So many octets of a log are written at once.
 BLOCK = 1 << 20
+LARGE_ROW = f"a row has more than {GREATEST_COUNT:,} queries"
 
 
 def rows_of(counts: Iterable[tuple[Query, int]]) -> Iterator[bytes]:
@@ -38,7 +39,7 @@ def rows_of(counts: Iterable[tuple[Query, int]]) -> Iterator[bytes]:
         yield b"%b,%b,%d\n" % (field_of(region), field_of(handle), count)
 
 
-def _most_first(counts: Counter[Query]) -> list[tuple[Query, int]]:
+def most_first(counts: Counter[Query]) -> list[tuple[Query, int]]:
     """Those with the most queries first, so that the same counts have the same table."""
     return sorted(counts.items(), key=lambda pair: (-pair[1], pair[0]))
 
@@ -90,9 +91,13 @@ class Tally:
             if len(self._counts) > MOST_DEMAND_ROWS:
                 self.regions.update({region for region, _ in chunk})
                 self._joinable()
-            if len(self._counts) > self._most or self._octets > MOST_HELD:
+            if self._is_full:
                 self._spill()
             yield chunk
+
+    @property
+    def _is_full(self) -> bool:
+        return len(self._counts) > self._most or self._octets > MOST_HELD
 
     def take(self, counts: dict[Query, int], is_joined: bool) -> None:
         """Takes the counts of pairs, or the sums of kinds that were joined before."""
@@ -106,33 +111,52 @@ class Tally:
         """Puts the counts into a file in their order, since a table is a log."""
         self.regions.update(region for region, _ in self._counts)
         self.prefixes.add(self._counts)
-        self._spilled = self._spilled or self._programs.put(HEADER, ".csv")
-        self._programs.add(self._spilled, rows_of(self._counts.items()))
+        self._spilled = self._put(self._spilled, self._kept())
         self._rows += len(self._counts)
         self._counts.clear()
         self._octets = 0
+
+    def _kept(self) -> Iterable[tuple[Query, int]]:
+        """The counts that are put into the file."""
+        return self._counts.items()
+
+    def _put(self, path: str | None, counts: Iterable[tuple[Query, int]]) -> str:
+        """Writes counts on in a file, and returns its path."""
+        file = path or self._programs.put(HEADER, ".csv")
+        self._programs.add(file, rows_of(counts))
+        return file
 
     def demand(self, inputs: Inputs | None, unit: int | None) -> Demand:
         """The demand: a table, a table whose rows are joined by kinds, or a log. `inputs` are those of the service."""
         self.regions.update(region for region, _ in self._counts)
         self.handles = None if self._spilled else len({handle for _, handle in self._counts})
-        rows = len(self._counts)
-        large = max(self._counts.values(), default=0) > GREATEST_COUNT
-        if not self._spilled and rows <= MOST_DEMAND_ROWS and not large and unit is None:
+        large = self._most_of_a_row() > GREATEST_COUNT
+        if not self._spilled and len(self._counts) <= MOST_DEMAND_ROWS and not large and unit is None:
             self.prefixes.add(self._counts)
-            text = HEADER + b"".join(rows_of(_most_first(self._counts)))
-            self._accepted(text)
-            return _of_table(text)
+            return self._table()
         if large and unit is None and not self._spilled:
-            return self._log(f"a row has more than {GREATEST_COUNT:,} queries")
+            return self._log(LARGE_ROW)
         service = self._can_join(inputs)
         self._spill()
         try:
-            joined = self._programs.kinds(service, self._spilled or "", unit).encode()
+            return self._joined(service, self._spilled or "", unit)
         except Refused as fault:
             if why := _why_log(fault, unit):
                 return self._log(why)
             raise Unfit(advice(fault)) from None
+
+    def _most_of_a_row(self) -> int:
+        return max(self._counts.values(), default=0)
+
+    def _table(self) -> Demand:
+        """The demand as a table of the pairs that are in memory."""
+        text = HEADER + b"".join(rows_of(most_first(self._counts)))
+        self._accepted(text)
+        return _of_table(text)
+
+    def _joined(self, service: Inputs, path: str, unit: int | None) -> Demand:
+        """The demand as a table of the kinds of the pairs in a file."""
+        joined = self._programs.kinds(service, path, unit).encode()
         self._accepted(joined)
         return _of_table(joined, True)
 

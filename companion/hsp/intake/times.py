@@ -7,6 +7,7 @@ import functools
 import math
 import re
 from dataclasses import dataclass
+from typing import NamedTuple
 
 HOUR = 3600
 # A time from the year 3058 on is none of a log, nor is one before 1970.
@@ -20,28 +21,41 @@ SECONDS = re.compile(r"\d{9,10}(?:\.\d+)?", re.ASCII)
 THOUSANDTHS = re.compile(r"\d{12,13}", re.ASCII)
 
 
+class Time(NamedTuple):
+    """A moment in seconds since 1970, and by how many seconds the clock that says it is before UTC."""
+
+    seconds: int
+    offset: int = 0
+
+
+def _iso(text: str) -> Time:
+    """The time of a text as `2026-11-26 10:00:00.123+0100`."""
+    found = datetime.datetime.fromisoformat(text)
+    own = found if found.tzinfo else found.replace(tzinfo=datetime.UTC)
+    return Time(math.floor(own.timestamp()), math.floor((own.utcoffset() or datetime.timedelta()).total_seconds()))
+
+
 def iso_seconds(text: str) -> int:
     """The seconds of a time as `2026-11-26 10:00:00.123+0100`."""
-    found = datetime.datetime.fromisoformat(text)
-    return math.floor((found if found.tzinfo else found.replace(tzinfo=datetime.UTC)).timestamp())
+    return _iso(text).seconds
 
 
-def _of_iso(text: str) -> int | None:
+def _of_iso(text: str) -> Time | None:
     try:
-        seconds = iso_seconds(text)
+        time = _iso(text)
     except (ValueError, OverflowError):
         return None
-    return seconds if 0 <= seconds < TOO_LATE else None
+    return time if 0 <= time.seconds < TOO_LATE else None
 
 
 @functools.lru_cache(maxsize=1 << 12)
-def seconds_of(octets: bytes) -> int | None:
-    """The seconds of a time in ISO 8601, as HTTP servers write it, or in seconds or thousandths. None of another."""
+def time_of(octets: bytes) -> Time | None:
+    """The time of a text in ISO 8601, as HTTP servers write it, or in seconds or thousandths. None of another."""
     text = octets.decode("ascii", "replace").strip()
     if SECONDS.fullmatch(text):
-        return int(float(text))
+        return Time(int(float(text)))
     if THOUSANDTHS.fullmatch(text):
-        return int(text) // 1000
+        return Time(int(text) // 1000)
     match = OF_SERVERS.fullmatch(text)
     if not match:
         return _of_iso(text)
@@ -50,8 +64,21 @@ def seconds_of(octets: bytes) -> int | None:
     return _of_iso(f"{year}-{number:02}-{day}T{clock}{offset or ''}")
 
 
-def shown_time(seconds: int) -> str:
-    return f"{datetime.datetime.fromtimestamp(seconds, datetime.UTC):%Y-%m-%d %H:%M}"
+def seconds_of(octets: bytes) -> int | None:
+    """The seconds of a time, as `time_of` has them."""
+    time = time_of(octets)
+    return time.seconds if time else None
+
+
+def shown_time(seconds: int, offset: int = 0) -> str:
+    """A moment as a clock shows it that is so many seconds before UTC."""
+    zone = datetime.timezone(datetime.timedelta(seconds=offset))
+    return f"{datetime.datetime.fromtimestamp(seconds, zone):%Y-%m-%d %H:%M}"
+
+
+def shown_zone(offset: int) -> str:
+    """The zone of such a clock: `UTC`, `+01:00`."""
+    return f"{datetime.timezone(datetime.timedelta(seconds=offset))}".removeprefix("UTC") or "UTC"
 
 
 @dataclass(frozen=True)

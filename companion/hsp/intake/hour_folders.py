@@ -1,0 +1,73 @@
+"""The folders of hours: each has the demand of its hour, and what its rows stand for."""
+
+from __future__ import annotations
+
+import contextlib
+import os
+from collections.abc import Iterator, Sequence
+from dataclasses import replace
+
+import click
+
+from hsp.base.files import Outputs
+from hsp.base.paths import path_in
+from hsp.base.programs import Missing
+from hsp.base.signals import uncut
+from hsp.intake.hour_tally import HourTally
+from hsp.intake.hours import Cycle
+from hsp.plans.marks import KINDS, Mark, marked
+from hsp.plans.service import NAMES
+
+
+def folders_of(into: str | None, cycle: Cycle | None) -> list[str]:
+    """The folders of the hours of a cycle. Refuses what can't be written there, before logs are read."""
+    if not cycle:
+        return []
+    if not into:
+        raise click.UsageError(f"--by {cycle.word} writes a table of each hour into a folder: give --into DIR")
+    folders = [path_in(into, name) for name in cycle.names]
+    for folder in folders:
+        if os.path.lexists(folder) and not os.path.isdir(folder):
+            raise Missing(f"{folder}: it is no folder, and the table of an hour goes there; take it away")
+        marked(folder, Mark(KINDS))
+    return folders
+
+
+def tables_in(folders: Sequence[str]) -> list[str]:
+    return [path_in(folder, NAMES["demand"]) for folder in folders]
+
+
+@contextlib.contextmanager
+def in_folders(folders: Sequence[str]) -> Iterator[None]:
+    """Makes the folders that aren't there, and takes them away again where what follows fails."""
+    made: list[str] = []
+    try:
+        for folder in folders:
+            with uncut(), contextlib.suppress(FileExistsError):
+                os.mkdir(folder)
+                made.append(folder)
+        yield
+    except BaseException:
+        for folder in made:
+            with contextlib.suppress(OSError):
+                os.rmdir(folder)
+        raise
+
+
+def write_hours(tally: HourTally, folders: Sequence[str], mark: Mark, files: Outputs) -> Mark:
+    """Writes the demand of each hour, and what its rows stand for into the hsp.toml of its folder.
+
+    Returns the mark of the busiest hour. The marks differ in the numbers of queries and handles only.
+    """
+    marks = [_of_hour(mark, tally, hour) for hour in range(len(folders))]
+    for hour, (folder, path) in enumerate(zip(folders, tables_in(folders))):
+        file = files.open(path)
+        for piece in tally.table(hour):
+            file.write(piece)
+        for titles, octets in marked(folder, marks[hour]).items():
+            files.open(titles).write(octets)
+    return marks[tally.busiest]
+
+
+def _of_hour(mark: Mark, tally: HourTally, hour: int) -> Mark:
+    return replace(mark, queries=tally.queries[hour], handles=tally.handles_of[hour]) if mark.is_joined else mark

@@ -1,0 +1,157 @@
+"""Queries are counted by hour, region and handle, and become a table of demand for each hour.
+
+All tables have the same rows in the same order, with the count 0 where nothing came.
+"""
+
+from __future__ import annotations
+
+import io
+import os
+import re
+from collections.abc import Callable, Iterable, Iterator
+
+from hsp.base.bounds import BESIDE, MOST_HELD, Query
+from hsp.base.grammar import MOST_DEMAND_ROWS
+from hsp.base.programs import Inputs, Missing, Programs, Refused
+from hsp.intake.hours import Chosen
+from hsp.intake.regions import tag_of
+from hsp.intake.tally import HEADER, MOST_PAIRS, Demand, Tally, most_first, rows_of
+
+# So many rows of a log are passed on at once.
+AT_ONCE = 1 << 14
+ZERO = b",0\n"
+
+
+class HourTally(Tally):
+    """How often each region asks for each handle in each hour. The tag of a region is the place of the hour."""
+
+    def __init__(self, programs: Programs, chosen: Chosen, most: int = MOST_PAIRS) -> None:
+        super().__init__(programs, most)
+        hours = chosen.cycle.size
+        self._hours: list[dict[Query, int]] = [{} for _ in range(hours)]
+        self._files: list[str | None] = [None] * hours
+        self._entries = 0
+        self.busiest = chosen.busiest
+        # How many queries each hour has, and how many handles, where all were in memory at once.
+        self.queries = [0] * hours
+        self.handles_of: list[int | None] = []
+        # The octets of the demand of an hour, in pieces of whole rows, as soon as there is a demand.
+        self.table: Callable[[int], Iterator[bytes]] = lambda hour: iter(())
+
+    def add(self, queries: Iterable[Query]) -> Iterator[list[Query]]:
+        return super().add(self._untagged(queries))
+
+    def _untagged(self, queries: Iterable[Query]) -> Iterator[Query]:
+        """Counts queries by their hours, and passes them on without these."""
+        for tagged, handle in queries:
+            tag, region = tag_of(tagged)
+            hour, pair = int(tag), (region, handle)
+            counts = self._hours[hour]
+            before = counts.get(pair, 0)
+            counts[pair] = before + 1
+            self._entries += not before
+            self.queries[hour] += 1
+            yield pair
+
+    @property
+    def _is_full(self) -> bool:
+        """Rows that a table holds are never put into a file, whatever the number of hours."""
+        octets = self._octets + BESIDE * self._entries
+        return len(self._counts) > MOST_DEMAND_ROWS and (len(self._counts) > self._most or octets > MOST_HELD)
+
+    def _spill(self) -> None:
+        """Puts the counts of each hour into a file of its own, in the order of all pairs, and these into another."""
+        at = {pair: number for number, pair in enumerate(self._counts)}
+        for hour, counts in enumerate(self._hours):
+            order = sorted(counts, key=at.__getitem__)
+            self._files[hour] = self._put(self._files[hour], ((pair, counts[pair]) for pair in order))
+            counts.clear()
+        self._entries = 0
+        super()._spill()
+
+    def _kept(self) -> Iterable[tuple[Query, int]]:
+        return ((pair, 0) for pair in self._counts)
+
+    def demand(self, inputs: Inputs | None, unit: int | None) -> Demand:
+        """The demand of the busiest hour, without rows of 0. `table` has those of all hours."""
+        is_whole = self._spilled is None
+        self.handles_of = [len({handle for _, handle in own}) if is_whole else None for own in self._hours]
+        own = super().demand(inputs, unit)
+        return Demand(own.rows, lambda: _without_zeros(self.table(self.busiest)), own.is_joined, own.why_log)
+
+    def _most_of_a_row(self) -> int:
+        return max((max(counts.values(), default=0) for counts in self._hours), default=0)
+
+    def _table(self) -> Demand:
+        order = [pair for pair, _ in most_first(self._counts)]
+        own = [HEADER + b"".join(rows_of((pair, of.get(pair, 0)) for pair in order)) for of in self._hours]
+        return self._of_tables(own)
+
+    def _joined(self, service: Inputs, path: str, unit: int | None) -> Demand:
+        """Tables of kinds. Each hour's log begins with a row of each kind, so that these come in one order."""
+        kinds = self._programs.kinds(service, path, None).encode()
+        tables, faults = [], []
+        for file in self._files:
+            log = self._programs.put(kinds, ".csv")
+            self._programs.add(log, _rows_in(file))
+            try:
+                tables.append(self._programs.kinds(service, log, unit).encode())
+            except Refused as fault:
+                faults.append(fault)
+            finally:
+                os.unlink(log)
+        if faults:
+            raise max(faults, key=_unit_of)
+        if any(_names(table) != _names(kinds) for table in tables):
+            raise Missing("hsplan-stream joined the hours to other rows: please report this with your log")
+        return self._of_tables(tables, True)
+
+    def _of_tables(self, tables: list[bytes], is_joined: bool = False) -> Demand:
+        self._accepted(tables[self.busiest])
+        self.table = lambda hour: iter([tables[hour]])
+        return Demand(tables[0].count(b"\n") - 1, lambda: iter(()), is_joined)
+
+    def _log(self, why: str) -> Demand:
+        own = super()._log(why)
+        self.table = lambda hour: _with_zeros(self._spilled or "", _rows_in(self._files[hour]))
+        return own
+
+
+def _unit_of(fault: Refused) -> tuple[bool, int]:
+    """The unit that would be large enough for an hour. Another fault is before all units."""
+    unit = re.search(r"CountTooLarge.* unit ([0-9]+)", fault.line)
+    return unit is None, int(unit[1]) if unit else 0
+
+
+def _names(table: bytes) -> list[bytes]:
+    """The rows of a table without their counts."""
+    return [row.rpartition(b",")[0] for row in table.split(b"\n")[1:]]
+
+
+def _rows_in(path: str | None) -> Iterator[bytes]:
+    """The rows of a file below its header; none where there is no file."""
+    if path:
+        with open(path, "rb") as file:
+            next(file)
+            yield from file
+
+
+def _with_zeros(path: str, rows: Iterator[bytes]) -> Iterator[bytes]:
+    """All rows of a file, whose counts are 0, with the counts of some of them. These come in the same order."""
+    row = next(rows, b"")
+    found: list[bytes] = []
+    with open(path, "rb") as file:
+        for line in file:
+            if row and line.endswith(ZERO) and row.startswith(line[: 1 - len(ZERO)]):
+                line, row = row, next(rows, b"")
+            found.append(line)
+            if len(found) == AT_ONCE:
+                yield b"".join(found)
+                found = []
+    yield b"".join(found)
+
+
+def _without_zeros(pieces: Iterable[bytes]) -> Iterator[bytes]:
+    """The rows whose count isn't 0."""
+    for piece in pieces:
+        yield b"".join(row for row in io.BytesIO(piece) if not row.endswith(ZERO))

@@ -1,0 +1,130 @@
+"""The hours of a day or of a week in some logs, and which of the days counts for each.
+
+Logs are read once to find that, and once more to count. Hours are those of one clock: that of the first time.
+"""
+
+from __future__ import annotations
+
+import datetime
+from collections import Counter
+from collections.abc import Sequence
+from dataclasses import dataclass
+
+from hsp.base.numbers import listed, some
+from hsp.intake.busiest import busiest_line, counted_by
+from hsp.intake.forms import OTHER_TIME, Tag
+from hsp.intake.queries import Reading, first_time
+from hsp.intake.times import HOUR, Span, Time, shown_zone
+
+OTHER_DAY = "a day with fewer queries in this hour"
+DAYS = ("mon", "tue", "wed", "thu", "fri", "sat", "sun")
+OF_DAY = 24
+# The first hour of 1970 was that of a Thursday.
+BEGIN = OF_DAY * DAYS.index("thu")
+
+
+@dataclass(frozen=True)
+class Cycle:
+    """Hours that come again: those of a day or of a week, by their places from 0 on."""
+
+    word: str
+    size: int
+
+    @property
+    def names(self) -> list[str]:
+        """The folder of each hour: `h09`, or `mon-h09`."""
+        days = [f"{day}-" for day in DAYS] if self.size > OF_DAY else [""]
+        return [f"{day}h{hour:02}" for day in days for hour in range(OF_DAY)]
+
+    def place(self, hour: int) -> int:
+        """The place of an hour, by its number since 1970."""
+        return (hour + BEGIN) % self.size
+
+
+CYCLES = {own.word: own for own in (Cycle("hour", OF_DAY), Cycle("weekday-hour", OF_DAY * len(DAYS)))}
+
+
+@dataclass(frozen=True)
+class Chosen:
+    """The hours that count, by the clock of a zone, and what all hours have.
+
+    `zone` is the zone's seconds before UTC, and `days` are those with a query, by their numbers since 1970. `hours` has
+    the number of the hour since 1970 by its place in the cycle. `queries` has the queries of each such hour, and
+    `zones` those of each zone that lines have.
+    """
+
+    cycle: Cycle
+    zone: int
+    days: list[int]
+    hours: dict[int, int]
+    queries: Counter[int]
+    zones: Counter[int]
+
+    def tag(self, span: Span) -> Tag:
+        """From a time to the place of its hour, where that hour counts."""
+
+        def place_of(time: Time) -> bytes | str:
+            if not span.has(time.seconds):
+                return OTHER_TIME
+            hour = (time.seconds + self.zone) // HOUR
+            place = self.cycle.place(hour)
+            return b"%d" % place if self.hours.get(place) == hour else OTHER_DAY
+
+        return place_of
+
+    @property
+    def busiest(self) -> int:
+        """The place of the hour with most queries; of hours with the same number the first one's."""
+        hour = min(self.hours.values(), key=lambda own: (-self.queries[own], own))
+        return self.cycle.place(hour)
+
+    def lines(self) -> list[str]:
+        """Which clock and which days the hours are of, and which is the busiest one."""
+        all_of, others = self.zones.total(), sorted(set(self.zones) - {self.zone})
+        zone = f"hours are those of the clock of {shown_zone(self.zone)}"
+        if others:
+            moved = all_of - self.zones[self.zone]
+            of_these = f"{moved:,} of {some(all_of, 'query', 'queries')} {'has' if moved == 1 else 'have'}"
+            zone += f", the zone of the first time; {of_these} times of {listed(map(shown_zone, others))}, moved to it"
+        hour = self.hours[self.busiest]
+        return [
+            zone,
+            self._days_line(),
+            busiest_line(hour * HOUR - self.zone, self.zone, self.queries[hour], all_of),
+        ]
+
+    def _days_line(self) -> str:
+        first, last = (_date(day) for day in (self.days[0], self.days[-1]))
+        if first == last:
+            return f"each hour has its counts of {first}, the only day"
+        each = "hour of a weekday" if self.cycle.size > OF_DAY else "hour"
+        span = f"{some(len(self.days), 'day')} from {first} to {last}"
+        return f"{span}: each {each} has the counts of the day with most queries in it"
+
+
+def _date(day: int) -> str:
+    return f"{datetime.date(1970, 1, 1) + datetime.timedelta(days=day)}"
+
+
+def chosen(logs: Sequence[str], reading: Reading, span: Span, cycle: Cycle) -> tuple[Chosen | None, Reading]:
+    """For each hour of a cycle the one with most queries within a span, and what was passed over.
+
+    Of hours with the same number it is the first. None where there is no query.
+    """
+    zone = next(filter(None, (first_time(path, reading) for path in logs)), Time(0)).offset
+
+    def hour_of(time: Time) -> bytes | str:
+        return b"%d:%d" % ((time.seconds + zone) // HOUR, time.offset) if span.has(time.seconds) else OTHER_TIME
+
+    tags, first = counted_by(logs, reading, hour_of)
+    queries: Counter[int] = Counter()
+    zones: Counter[int] = Counter()
+    for tag, count in tags.items():
+        number, _, offset = tag.partition(b":")
+        queries[int(number)] += count
+        zones[int(offset)] += count
+    hours: dict[int, int] = {}
+    for hour in sorted(queries, key=lambda own: (queries[own], -own)):
+        hours[cycle.place(hour)] = hour
+    days = sorted({hour // OF_DAY for hour in queries})
+    return (Chosen(cycle, zone, days, hours, queries, zones) if queries else None), first
