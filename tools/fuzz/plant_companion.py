@@ -258,7 +258,7 @@ def tests_of(path: str) -> list[str]:
 
 def are_passed(room: str, words: list[str], seconds: float) -> bool:
     """Whether tests of a copy pass, and in time. What they have started is ended with them."""
-    own = {it.upper().replace("-", "_"): programs.built_path(it) for it in programs.PROGRAMS}
+    own = programs.variables()
     whole = [PYTHON, "-m", "pytest", "-q", "-x", "-p", "no:cacheprovider", f"--basetemp={room}/tests", *words]
     run = subprocess.Popen(
         whole,

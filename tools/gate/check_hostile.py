@@ -213,7 +213,7 @@ def check_memory(program: str, room: str) -> list[str]:
 
 def main() -> int:
     words = argparse.ArgumentParser(description="Gives the built program files that are cut short or forged.")
-    words.add_argument("--program", default=os.path.join(programs.TOP, "crates", "hsplan", "out", "hsplan"))
+    words.add_argument("--program", default=programs.tested("hsplan"))
     program = os.path.abspath(words.parse_args().program)
     if not os.access(program, os.X_OK):
         print(f"no program {program}: run rt ci first")

@@ -376,8 +376,8 @@ def main() -> int:
     words = argparse.ArgumentParser(
         description="Runs the built program where everything stands at its limit at once."
     )
-    words.add_argument("--program", default=os.path.join(programs.TOP, "crates", "hsplan", "out", "hsplan"))
-    words.add_argument("--stream", default=programs.built_path("hsplan-stream"), metavar="FILE")
+    words.add_argument("--program", default=programs.tested("hsplan"))
+    words.add_argument("--stream", default=programs.tested("hsplan-stream"), metavar="FILE")
     words.add_argument("--jobs", type=int, default=os.cpu_count() or 1)
     given = words.parse_args()
     program, stream = os.path.abspath(given.program), os.path.abspath(given.stream)

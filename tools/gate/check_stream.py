@@ -599,8 +599,8 @@ def check_all(it: Programs, million: int, room: str) -> list[str]:
 
 def main() -> int:
     arguments = argparse.ArgumentParser(description="Runs the built program hsplan-stream over logs.")
-    arguments.add_argument("--program", default=programs.built_path("hsplan-stream"))
-    arguments.add_argument("--hsplan", default=programs.built_path("hsplan"))
+    arguments.add_argument("--program", default=programs.tested("hsplan-stream"))
+    arguments.add_argument("--hsplan", default=programs.tested("hsplan"))
     arguments.add_argument("--million", type=int, default=1_000_000, metavar="N", help="handles of the long log")
     given = arguments.parse_args()
     absent = [it for it in (given.program, given.hsplan) if not os.access(it, os.X_OK)]

@@ -16,7 +16,7 @@ from collections.abc import Callable, Iterable
 from lib import companion, programs
 
 TOP = programs.TOP
-PROGRAM = os.path.join(TOP, "crates", "hsplan", "out", "hsplan")
+PROGRAM = programs.tested("hsplan")
 MARK = "\x1e"
 # What a step printed, by its lines; None where it was not reached.
 Printed = list[str] | None
@@ -53,9 +53,9 @@ def text_of(steps: Iterable[Step]) -> str:
 
 
 def stream_beside(program: str) -> str:
-    """The `hsplan-stream` that belongs to a program: the one in its folder, or otherwise the one built here."""
+    """The `hsplan-stream` that belongs to a program: the one in its folder, or otherwise the one that checks try."""
     beside = os.path.join(os.path.dirname(program), "hsplan-stream")
-    return beside if os.path.exists(beside) else programs.built_path("hsplan-stream")
+    return beside if os.path.exists(beside) else programs.tested("hsplan-stream")
 
 
 def room_for(folder: str, program: str) -> dict[str, str]:

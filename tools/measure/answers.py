@@ -174,7 +174,7 @@ def main() -> int:
     words = argparse.ArgumentParser(description="Measures how many rows a second are answered by prices.")
     words.add_argument("--rows", type=int, default=1_000_000)
     words.add_argument("--turns", type=int, default=3)
-    words.add_argument("--program", default=programs.built_path("hsplan-stream"))
+    words.add_argument("--program", default=programs.tested("hsplan-stream"))
     words.add_argument("--folder", default="", help="where the files are made and kept")
     words.add_argument("--cases", default=",".join(CASES), help="names with a comma between them")
     given = words.parse_args()

@@ -53,7 +53,7 @@ exclude_lines =
 def covered(room: str, jobs: int, words: list[str]) -> int:
     """Runs the tests. Returns the status of pytest."""
     path = os.pathsep.join(filter(None, [HOOK, os.environ.get("PYTHONPATH", "")]))
-    own = {it.upper().replace("-", "_"): programs.built_path(it) for it in programs.PROGRAMS}
+    own = programs.variables()
     environment = {
         **own,
         **os.environ,

@@ -323,8 +323,8 @@ def main() -> int:
     words.add_argument("--seed", type=int, default=1)
     words.add_argument("--hours", type=int, default=24)
     words.add_argument("--fronts", type=lambda text: [int(it) for it in text.split(",")], default=[1, 4, 64])
-    words.add_argument("--program", default=programs.built_path("hsplan-stream"))
-    words.add_argument("--hsplan", default=programs.built_path("hsplan"))
+    words.add_argument("--program", default=programs.tested("hsplan-stream"))
+    words.add_argument("--hsplan", default=programs.tested("hsplan"))
     words.add_argument("--model", action="store_true", help="answer by prices by the model, and not by the program")
     given = words.parse_args()
     paths = [os.path.abspath(it) for it in (given.program, given.hsplan)]

@@ -159,10 +159,8 @@ def main() -> int:
     arguments.add_argument("--rows", type=int, default=10_000_000)
     arguments.add_argument("--turns", type=int, default=7)
     arguments.add_argument("--times", type=int, default=1)
-    arguments.add_argument("--program", default=os.path.join(programs.TOP, "crates", "hsplan", "out", "hsplan"))
-    arguments.add_argument(
-        "--stream", default=os.path.join(programs.TOP, "crates", "hsplan_stream", "out", "hsplan_stream")
-    )
+    arguments.add_argument("--program", default=programs.tested("hsplan"))
+    arguments.add_argument("--stream", default=programs.tested("hsplan-stream"))
     chosen = arguments.parse_args()
     if not os.access(chosen.program, os.X_OK):
         print(f"no program {chosen.program}: run rt ci or make prove first")

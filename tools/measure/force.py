@@ -53,7 +53,7 @@ class Service:
 
 
 def printed(name: str, words: list[str]) -> str:
-    return subprocess.run([programs.built_path(name), *words], capture_output=True, text=True, check=True).stdout
+    return subprocess.run([programs.tested(name), *words], capture_output=True, text=True, check=True).stdout
 
 
 def service_in(folder: str) -> Service:

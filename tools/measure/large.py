@@ -94,7 +94,7 @@ def measure(program: str, room: str, preloaded: str, name: str, filler: str) -> 
 
 def main() -> int:
     words = argparse.ArgumentParser(description="Measures what the built program does with the largest files.")
-    words.add_argument("--program", default=os.path.join(programs.TOP, "crates", "hsplan", "out", "hsplan"))
+    words.add_argument("--program", default=programs.tested("hsplan"))
     words.add_argument("--files", default=";".join(FILES), help="names with a semicolon between them")
     words.add_argument("--fillers", default=";".join(FILLERS), help="names with a semicolon between them")
     given = words.parse_args()

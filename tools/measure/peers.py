@@ -150,7 +150,7 @@ def turn(folder: str, program: str, words: list[str], peer: list[str]) -> tuple[
 def main() -> int:
     arguments = argparse.ArgumentParser(description="Measures hsplan beside LEMON.")
     arguments.add_argument("--turns", type=int, default=5)
-    arguments.add_argument("--program", default=programs.built_path("hsplan"))
+    arguments.add_argument("--program", default=programs.tested("hsplan"))
     arguments.add_argument("factors", type=float, nargs="*", default=FACTORS)
     chosen = arguments.parse_args()
     heads = "Capacity over demand|Cost|`plan`|LEMON|`plan` over LEMON|LEMON, solving only|Memory of both|`check`"

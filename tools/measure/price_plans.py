@@ -208,7 +208,7 @@ def lemon_in(folder: str) -> str:
 
 def main() -> int:
     arguments = argparse.ArgumentParser(description="Measures plans of logs of many rows.")
-    arguments.add_argument("--program", default=programs.built_path("hsplan-stream"))
+    arguments.add_argument("--program", default=programs.tested("hsplan-stream"))
     arguments.add_argument("--folder", default="", help="where files are kept")
     arguments.add_argument("--cases", default=",".join(CASES))
     arguments.add_argument("--lemon", default="100k", help="the cases that LEMON solves, too")

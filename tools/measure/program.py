@@ -71,7 +71,7 @@ def main() -> int:
     arguments = argparse.ArgumentParser(description="Measures whole runs over an instance at the limits.")
     arguments.add_argument("--runs", type=int, default=5)
     arguments.add_argument("--hosts", type=int, default=0)
-    arguments.add_argument("--program", default=os.path.join(programs.TOP, "crates", "hsplan", "out", "hsplan"))
+    arguments.add_argument("--program", default=programs.tested("hsplan"))
     arguments.add_argument("factors", type=float, nargs="*", default=FACTORS)
     chosen = arguments.parse_args()
     if not os.access(chosen.program, os.X_OK):

@@ -384,8 +384,7 @@ def main() -> int:
     words.add_argument("--seed", type=int, default=1, help="of the order and of the factors")
     words.add_argument("--seconds", type=int, default=4, help="for which wrk asks, each time")
     given = words.parse_args()
-    for name in programs.PROGRAMS:
-        os.environ.setdefault(name.upper().replace("-", "_"), programs.built_path(name))
+    os.environ.update(programs.variables())
     if given.what == "ways":
         measure_ways(given.seed)
     elif given.what == "answers":

@@ -144,8 +144,8 @@ def main() -> int:
     )
     arguments.add_argument("--rows", type=int, default=3_000_000)
     arguments.add_argument("--turns", type=int, default=3)
-    arguments.add_argument("--program", default=programs.built_path("hsplan-stream"))
-    arguments.add_argument("--hsplan", default=programs.built_path("hsplan"))
+    arguments.add_argument("--program", default=programs.tested("hsplan-stream"))
+    arguments.add_argument("--hsplan", default=programs.tested("hsplan"))
     given = arguments.parse_args()
     program, hsplan = os.path.abspath(given.program), os.path.abspath(given.hsplan)
     absent = [it for it in (program, hsplan) if not os.access(it, os.X_OK)]

@@ -38,8 +38,7 @@ def page_of(name: str, folder: Path) -> str:
         source = folder / name
         source.mkdir()
         examples.write(str(source), examples.twelve_sites())
-    paths = {it.upper().replace("-", "_"): programs.built_path(it) for it in programs.PROGRAMS}
-    environment = {**paths, **os.environ, "PYTHONPATH": str(TOP / "companion"), "SOURCE_DATE_EPOCH": TIME}
+    environment = {**os.environ, **programs.variables(), "PYTHONPATH": str(TOP / "companion"), "SOURCE_DATE_EPOCH": TIME}
     out = folder / f"{name}.html"
     words = [sys.executable, "-m", "hsp", "view", str(source), "-o", str(out), *PAGES[name]]
     subprocess.run(words, check=True, env=environment, stdout=subprocess.DEVNULL)
