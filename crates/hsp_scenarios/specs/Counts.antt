@@ -1,5 +1,4 @@
--- One network at several counts (Network Flows, section 6.7, on what a cut shows): a plan serves smaller demands too, and
--- a short set stays short at greater ones.
+-- One network at several counts. A plan serves smaller demands, too. A short set stays short at greater ones.
 use Rattle.std.specs.Prelude.{◌≡◌, ℕ, ◌≤◌, Bool, List, length}
 use Rattle.hsp_transport.specs.Lists.{AreWithin}
 use Rattle.hsp_transport.specs.Network.{Network, IsNetwork}
@@ -21,13 +20,13 @@ pub record AreNoGreater (counts others : List ℕ) : Type 0 where
 abbrev pub IsWithin : Plan → Plan → Type 0
 IsWithin x y = (i s : ℕ) → x i s ≤ y i s
 
--- Where there is a plan, there is one within it for each table of no greater demands.
+-- Where there is a plan, each table of no greater demands has one within it.
 abbrev pub LessFits : Type 0 → Type 0
 LessFits A =
     (site : A → ℕ) (n : Network A) (demands : List ℕ) → HasOneArcASite site n → AreNoGreater demands n.demands
     → (x : Plan) → Feasible site n x → (y : Plan) × Feasible site (asking n demands) y × IsWithin y x
 
--- A set of sources that is short stays so at each table of no smaller demands, and none of these has a plan.
+-- A short set of sources is short at each table of no smaller demands. None of these has a plan.
 abbrev pub ShortFrom : Type 0 → Type 0
 ShortFrom A =
     (site : A → ℕ) (n : Network A) (demands : List ℕ) (set : ℕ → Bool) → IsNetwork n → AreNoGreater n.demands demands

@@ -1,15 +1,15 @@
--- Room that is bought once and serves several losses, and how much of it sets of sources show to be needed (a cut for
--- each loss, Network Flows, section 6.7, and weak duality).
-use Rattle.std.specs.Prelude.{◌≡◌, ℕ, ◌+◌, ◌-◌, ◌*◌, ◌<◌, ◌≤◌, ◌&&◌, Bool, not, List, length, All, sum_by, slice_index}
-use Rattle.std.specs.Prelude.{if◌then◌else◌}
+-- Room that is bought once and serves several losses. Sets of sources that are short after losses show how much is
+-- needed (a cut for each loss, Network Flows, section 6.7).
+use Rattle.std.specs.Prelude.{◌≡◌, ℕ, ◌+◌, ◌-◌, ◌*◌, ◌<◌, ◌≤◌, ◌&&◌, Bool, not, List, length, All, sum_by}
+use Rattle.std.specs.Prelude.{slice_index, if◌then◌else◌}
 use Rattle.hsp_transport.specs.Network.{Network, IsNetwork}
 use Rattle.hsp_transport.specs.Changes.{with_numbers}
 use Rattle.hsp_transport.specs.Plans.{Feasible, Plan}
 use Rattle.hsp_transport.specs.Cut.{capacity_of, demand_of, reaches}
 use Rattle.hsp_transport.specs.Sums.{sum_below}
 
--- A loss: the network that is left, and which servers are lost. The arcs of a lost site are gone. What is lost takes
--- nothing there, and room that is bought at a lost server does not help.
+-- A loss: the network that is left, and which servers are lost. A lost site has no arcs there. A lost server takes
+-- nothing, and a lost host has the limit 0.
 pub record Loss (A : Type 0) : Type 0 where
   pub left : Network A
   pub is_lost : ℕ → Bool
@@ -18,11 +18,11 @@ pub record Loss (A : Type 0) : Type 0 where
 abbrev pub Purchase : Type 0
 Purchase = ℕ → ℕ
 
--- how much of it a server has after the loss
+-- what is there of it after the loss: nothing at a lost server
 abbrev pub bought_after : {A : Type 0} → Loss A → Purchase → ℕ → ℕ
 bought_after loss bought j = if loss.is_lost j then 0 else bought j
 
--- With the purchase there is a plan after the loss: a server takes at most its capacity and what was bought there.
+-- With the purchase there is a plan after the loss. No server takes more than its capacity and what was bought there.
 pub record Serves {A : Type 0} (site : A → ℕ) (loss : Loss A) (bought : Purchase) : Type 0 where
   pub rooms : List ℕ
   pub many : length rooms ≡ length loss.left.capacities
@@ -37,19 +37,19 @@ pub record Lack (A : Type 0) : Type 0 where
   pub set : ℕ → Bool
   pub weight : ℕ
 
--- what the set lacks after the loss, with what the servers can take today
+-- what the set lacks after the loss, where nothing was bought
 abbrev pub lacking : {A : Type 0} → Lack A → ℕ
 lacking l = demand_of l.loss.left l.set - capacity_of l.loss.left l.set
 
--- all that is lacking, each lack as often as its weight says
+-- what all sets lack, each as often as it weighs
 abbrev pub weighed : {A : Type 0} → List (Lack A) → ℕ
 weighed lacks = sum_by (λ l. l.weight * lacking l) lacks
 
--- whether room that is bought at a server may help the set
+-- whether room at the server may help the set
 abbrev pub may_help : {A : Type 0} → Lack A → ℕ → Bool
 may_help l j = reaches l.loss.left l.set j && not (l.loss.is_lost j)
 
--- the weight of all sets that room at a server may help
+-- the weight of all sets that it may help
 abbrev pub weight_at : {A : Type 0} → List (Lack A) → ℕ → ℕ
 weight_at lacks j = sum_by (λ l. if may_help l j then l.weight else 0) lacks
 
@@ -59,8 +59,8 @@ pub record IsServed {A : Type 0} (site : A → ℕ) (servers : ℕ) (bought : Pu
   pub many : length loss.left.capacities ≡ servers
   pub serves : Serves site loss bought
 
--- Weights count in parts of one: `unit` parts are one. Where the sets that room at a server may help weigh at most one
--- together, at each server, a purchase that serves the losses of all sets is at least what is lacking by these weights.
+-- Weights count in parts of one: `unit` parts are one. At no server may room help sets of more weight than one. Then a
+-- purchase that serves the losses of all sets is at least what the sets lack.
 abbrev pub SetsShowLeast : Type 0 → Type 0
 SetsShowLeast A =
     (site : A → ℕ) (unit servers : ℕ) (lacks : List (Lack A)) (bought : Purchase)
