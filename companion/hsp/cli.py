@@ -61,6 +61,7 @@ from hsp.proxy.command import export
 from hsp.proxy.steer import steer
 from hsp.scenarios.ahead import Ahead, ahead_of, moved_fact, moved_since
 from hsp.scenarios.command import grow, survive
+from hsp.scenarios.day import day
 from hsp.scenarios.judged import Judged
 from hsp.scenarios.near_plan import Near, near_plan
 from hsp.scenarios.reserve import RESERVE, reserved
@@ -568,7 +569,7 @@ def doctor(context: click.Context, folder: str, strict: bool, as_json: bool, **g
     sys.exit(found.status or int(strict and bool(found.warnings)))
 
 
-for other in (bring.new, bring.sites, bring.demand, grow, survive, export, steer, fleet):
+for other in (bring.new, bring.sites, bring.demand, grow, survive, day, export, steer, fleet):
     main.add_command(other)
 
 

@@ -10,6 +10,7 @@ from __future__ import annotations
 from collections import Counter
 from collections.abc import Callable, Iterable, Mapping
 from dataclasses import dataclass
+from typing import NamedTuple
 
 from hsp.base.grammar import GREATEST_COST, HEADERS, LONGEST_NAME, MOST_COST_ROWS, MOST_DEMAND_ROWS, MOST_REGIONS
 from hsp.base.numbers import some
@@ -33,8 +34,7 @@ class TooMany(Exception):
     """More portions, or more regions with their homes, than tables hold. The text says which."""
 
 
-@dataclass(frozen=True)
-class Portion:
+class Portion(NamedTuple):
     """So many units of a row, whose home is a site by its number, or None where they are new."""
 
     row: int
@@ -62,20 +62,24 @@ def keys_of(service: Service, by_kind: bool) -> Callable[[Row], Key]:
 
 def homes_of(service: Service, certificate: Certificate, by_kind: bool) -> Homes:
     """Where a plan of the service's rows sends their queries."""
-    found: dict[Key, Counter[Named]] = {}
+    found: dict[Key, dict[Named, int]] = {}
     key_of = keys_of(service, by_kind)
-    for row, site, queries in certificate.uses:
+    for row, site, queries in zip(*certificate.use_columns):
         own = service.rows[row]
         server = service.server(site, own.handle)
-        found.setdefault(key_of(own), Counter())[server.site, server.id] += queries
+        homes = found.setdefault(key_of(own), {})
+        name = server.site, server.id
+        homes[name] = homes.get(name, 0) + queries
     return found
 
 
-def shared(whole: int, parts: Mapping[int, int]) -> dict[int, int]:
+def shared(whole: int, parts: Mapping[int | None, int]) -> dict[int | None, int]:
     """A number in whole parts of the same shares: each is rounded down, and the rest goes to the largest remainders."""
     total = sum(parts.values())
     if not total:
         return {}
+    if len(parts) == 1:
+        return dict.fromkeys(parts, whole) if whole else {}
     own = {key: part * whole // total for key, part in parts.items()}
     rest = whole - sum(own.values())
     for key in sorted(parts, key=lambda it: -(parts[it] * whole % total))[:rest]:
@@ -83,30 +87,21 @@ def shared(whole: int, parts: Mapping[int, int]) -> dict[int, int]:
     return {key: part for key, part in own.items() if part}
 
 
-def homes_at(service: Service, row: Row, homes: Mapping[Named, int]) -> tuple[dict[int, int], int]:
-    """The sites at which a row still has the server of the plan in force, with that plan's queries there, and how many
-    other queries the plan has."""
-    found: dict[int, int] = {}
-    for at, site in enumerate(service.sites):
-        if any(name == site.name for name, _ in homes):
-            server = service.server(at, row.handle)
-            here = homes.get((server.site, server.id), 0)
-            if here:
-                found[at] = here
-    return found, sum(homes.values()) - sum(found.values())
-
-
 def portions_of(service: Service, homes: Homes, by_kind: bool) -> list[Portion]:
     """The portions of all rows. What had a server that is no longer there is moved by every plan, so it's new."""
     key_of, found = keys_of(service, by_kind), []
-    lost = len(service.sites)
+    numbers = {site.name: at for at, site in enumerate(service.sites)}
     for at, row in enumerate(service.rows):
-        units = row.count // service.unit
-        here, gone = homes_at(service, row, homes.get(key_of(row), {}))
-        parts = shared(units, {**here, **({lost: gone} if gone else {})})
-        rest = units - sum(parts.values()) + parts.pop(lost, 0)
-        found += [Portion(at, home, part) for home, part in parts.items()]
-        if rest or not parts:
+        units, parts = row.count // service.unit, dict[int | None, int]()
+        for (site, server), queries in homes.get(key_of(row), {}).items():
+            number = numbers.get(site)
+            is_there = number is not None and service.server(number, row.handle).id == server
+            home = number if is_there else None
+            parts[home] = parts.get(home, 0) + queries
+        own = shared(units, parts)
+        rest = units - sum(own.values()) + own.pop(None, 0)
+        found += [Portion(at, home, part) for home, part in own.items()]
+        if rest or not own:
             found.append(Portion(at, None, rest))
     return found
 
@@ -221,16 +216,15 @@ def text_of(unit: int, cost: int, uses: Uses, prices: Mapping[str, list[int]]) -
 
 def moved_between(service: Service, homes: Homes, certificate: Certificate, by_kind: bool = False) -> int:
     """How many queries of the plan in force, in the present counts, a plan doesn't send to the same server."""
-    at_home: Counter[tuple[int, int]] = Counter()
-    new: Counter[int] = Counter()
-    for portion in portions_of(service, homes, by_kind):
-        if portion.home is None:
-            new[portion.row] += service.unit * portion.units
-        else:
-            at_home[portion.row, portion.home] += service.unit * portion.units
-    for row, site, queries in certificate.uses:
-        at_home[row, site] -= min(queries, at_home[row, site]) if (row, site) in at_home else 0
-    return at_home.total()
+    at_home = {
+        (it.row, it.home): service.unit * it.units
+        for it in portions_of(service, homes, by_kind)
+        if it.home is not None
+    }
+    kept = sum(
+        min(queries, at_home.get((row, site), 0)) for row, site, queries in zip(*certificate.use_columns)
+    )
+    return sum(at_home.values()) - kept
 
 
 __all__ = [

@@ -1,0 +1,141 @@
+"""The fewest blocks of hours that one plan serves each.
+
+The table of each row's greatest count in some hours has a plan: it serves each of these hours. A part of such a block is
+one too, so the longest blocks, one after the other, are the fewest.
+"""
+
+from __future__ import annotations
+
+import itertools
+from collections.abc import Callable, Sequence
+from dataclasses import dataclass
+from fractions import Fraction
+
+from hsp.base.grammar import HEADERS
+from hsp.base.programs import Certificate, Inputs
+from hsp.plans.service import Service
+from hsp.scenarios.hours import Hour, HourPlan
+from hsp.scenarios.judged import Judged, side_by_side
+
+
+@dataclass(frozen=True)
+class Block:
+    """Hours in a row, and the plan of each row's greatest count in them."""
+
+    hours: Sequence[Hour]
+    counts: list[int]
+    inputs: Inputs
+    certificate: Certificate
+    plan_file: str
+
+    @property
+    def name(self) -> str:
+        """Its first and last hour, as the name of a folder."""
+        first, last = self.hours[0], self.hours[-1]
+        return f"{first.name}-to-{last.name}"
+
+    @property
+    def label(self) -> str:
+        first, last = self.hours[0].label, self.hours[-1].label
+        return first if first == last else f"{first}-{last}"
+
+    def cost(self, service: Service) -> Fraction:
+        """What its hours cost where each row is split by the shares that it has in the plan."""
+        costs = [
+            [service.costs.get((row.region, site.name), 0) for site in service.sites] for row in service.rows
+        ]
+        whole = Fraction(0)
+        spent = [0] * len(self.counts)
+        for row, site, queries in zip(*self.certificate.use_columns):
+            spent[row] += queries * costs[row][site]
+        for row, most in enumerate(self.counts):
+            if most and spent[row]:
+                whole += Fraction(spent[row] * sum(hour.counts[row] for hour in self.hours), most)
+        return whole
+
+
+def block_of(service: Service, hours: Sequence[Hour], programs: Judged) -> Block | None:
+    """The block of some hours. None where no plan serves all of them."""
+    counts = [max(own) for own in zip(*(hour.counts for hour in hours))]
+    lines = (f"{head}{count}\n" for head, count in zip(service.row_heads, counts))
+    inputs = service.inputs.but(demand=programs.put(f"{HEADERS['demand']}\n{''.join(lines)}", ".csv"))
+    certificate, path = programs.plan(inputs)
+    if certificate.is_plan:
+        return Block(hours, counts, inputs, certificate, path)
+    programs.put_away(inputs.demand, path)
+    return None
+
+
+class _Search:
+    """Searches blocks among hours in a row, each of which has a plan."""
+
+    def __init__(self, service: Service, hours: Sequence[Hour], programs: Judged) -> None:
+        self._service, self._hours, self._programs = service, hours, programs
+        self._known: dict[tuple[int, int], Block | None] = {}
+
+    def block(self, first: int, end: int) -> Block | None:
+        """The block of the hours from the first up to the end, which isn't in it."""
+        key = first, end
+        if key not in self._known:
+            self._known[key] = block_of(self._service, self._hours[first:end], self._programs)
+        return self._known[key]
+
+    def _longest(self, bounds: Callable[[int], tuple[int, int]], most: int) -> int:
+        """The greatest size of a block between such bounds. All smaller ones have a plan too."""
+        low, high = 1, most + 1
+        while high - low > 1:
+            size = min(4 * low, (low + high + 1) // 2)
+            low, high = (size, high) if self.block(*bounds(size)) else (low, size)
+        return low
+
+    def _from(self, at: int) -> int:
+        return at + self._longest(lambda size: (at, at + size), len(self._hours) - at)
+
+    def _up_to(self, at: int) -> int:
+        return at - self._longest(lambda size: (at - size, at), at)
+
+    def ends(self) -> list[int]:
+        """The ends of the longest blocks, one after the other from the first hour on."""
+        found: list[int] = [0]
+        while found[-1] < len(self._hours):
+            found.append(self._from(found[-1]))
+        return found[1:]
+
+    def begins(self) -> list[int]:
+        """The begins of the longest blocks, one before the other from the last hour on, the first one first."""
+        found: list[int] = [len(self._hours)]
+        while found[0]:
+            found.insert(0, self._up_to(found[0]))
+        return found[:-1]
+
+    def fewest(self) -> list[Block]:
+        """The fewest blocks. They are as even as can be where that serves too, since long blocks cost more."""
+        ends, begins = side_by_side([self.ends, self.begins])
+        number = len(ends)
+        even = [round(at * len(self._hours) / number) for at in range(1, number)]
+        inner = [max(begin, min(end, own)) for begin, own, end in zip(begins[1:], even, ends)]
+        for bounds in ([0, *inner, len(self._hours)], [0, *ends]):
+            blocks = [self.block(first, end) for first, end in zip(bounds, bounds[1:])]
+            found = [block for block in blocks if block]
+            if len(found) == number:
+                return found
+        raise AssertionError("the longest blocks have plans")
+
+
+def fewest(service: Service, plans: Sequence[HourPlan], programs: Judged) -> list[Block]:
+    """The fewest blocks that serve all hours that have a plan."""
+    blocks: list[Block] = []
+    for is_plan, group in itertools.groupby(plans, lambda plan: plan.is_plan):
+        if is_plan:
+            blocks += _Search(service, [plan.hour for plan in group], programs).fewest()
+    return blocks
+
+
+def price(service: Service, plans: Sequence[HourPlan], blocks: Sequence[Block]) -> Fraction:
+    """By which part blocks cost more than a plan of each hour. Of nothing it is 0."""
+    least = sum(plan.certificate.cost for plan in plans if plan.is_plan)
+    whole = sum((block.cost(service) for block in blocks), Fraction(0))
+    return (whole - least) / least if least else Fraction(0)
+
+
+__all__ = ["Block", "block_of", "fewest", "price"]

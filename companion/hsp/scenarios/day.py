@@ -1,0 +1,198 @@
+"""The command `hsp day`: a plan for each hour, and the fewest blocks of hours that one plan serves each."""
+
+from __future__ import annotations
+
+import os
+import sys
+from collections.abc import Callable, Sequence
+from dataclasses import replace
+from typing import Any
+
+import click
+
+from hsp.base.files import refuse_clashes, replace_all
+from hsp.base.numbers import some
+from hsp.base.paths import path_in
+from hsp.base.text import give, say
+from hsp.base.unfit import Unfit
+from hsp.doctor.service_folder import Folder, sound
+from hsp.plans.answering import in_units
+from hsp.plans.service import NAMES, VALUES, Service, titles_in
+from hsp.plans.terminal import head
+from hsp.scenarios import day_lines
+from hsp.scenarios.blocks import Block, fewest, price
+from hsp.scenarios.day_lines import Day
+from hsp.scenarios.day_page import command_of, render_day
+from hsp.scenarios.day_table import csv_of
+from hsp.scenarios.hours import Hour, HourPlan, all_planned, names_in, of_hour, read_hour
+from hsp.scenarios.in_force import PLAN
+from hsp.scenarios.judged import Judged, Progress, yes_line
+from hsp.scenarios.nearest import Portions, TooMany, homes_of, moved_between
+from hsp.scenarios.reserve import RESERVE, reserved
+
+SHORTAGE = 3
+PAGE, BLOCKS = "day.html", "blocks"
+# The files of DIR that all hours have.
+SHARED = ("settings", "costs", "capacity")
+
+
+def _first_service(folder: str, name: str, programs: Judged, given: dict[str, str | None]) -> Service:
+    """The service at its first hour: that hour's demand, with the other files of the folder."""
+    own = {role: given.get(role) or path_in(folder, NAMES[role]) for role in SHARED}
+    values = given.get("values") or (path_in(folder, VALUES) if os.path.isfile(path_in(folder, VALUES)) else None)
+    service = sound(path_in(folder, name), programs, {**own, "values": values})
+    if not service.sites:
+        raise Unfit(f"{service.inputs.settings}: no site, so nobody can answer")
+    return replace(service, folder=folder, titles=titles_in(folder, None, given.get("unit")))
+
+
+def _chained(
+    service: Service, plans: Sequence[HourPlan], programs: Judged, done: Callable[[], None]
+) -> list[HourPlan]:
+    """The plans of hours, each of which moves the fewest queries from the hour before; the first is as it was. Where
+    that takes more than tables hold, or the hour before is short, a plan stays as it was."""
+    found: list[HourPlan] = []
+    by_kind = service.mark.is_joined
+    before: Service | None = None
+    for plan in plans:
+        own = replace(of_hour(service, plan.hour), certificate=plan.certificate, plan_file=plan.plan_file)
+        if before and plan.is_plan:
+            homes = homes_of(before, before.certificate, by_kind)
+            try:
+                near = Portions(own, homes, programs, by_kind).nearest(own, plan.certificate)
+            except TooMany:
+                near = None
+            moved = near.moved if near else moved_between(own, homes, plan.certificate, by_kind)
+            if near:
+                own = replace(own, certificate=near.certificate, plan_file=near.plan_file)
+                loads = programs.loads(own.inputs, near.plan_file)[0]
+                plan = replace(plan, certificate=near.certificate, plan_file=near.plan_file, loads=loads)
+            plan = replace(plan, moved=moved)
+        found.append(plan)
+        done()
+        before = own if plan.is_plan else None
+    return found
+
+
+def _octets(path: str) -> bytes:
+    with open(path, "rb") as file:
+        return file.read()
+
+
+def _kept(day: Day, folder: str, programs: Judged) -> dict[str, bytes]:
+    """What is kept: the plan of each hour, the demand and the plan of each block, and capacities in other numbers."""
+    _, contents = in_units(day.service, programs, path_in(folder, PLAN))
+    for plan in day.plans:
+        if plan.is_plan:
+            contents[path_in(plan.hour.folder, PLAN)] = _octets(plan.plan_file)
+    for block in day.blocks:
+        own = path_in(folder, os.path.join(BLOCKS, block.name))
+        contents[path_in(own, NAMES["demand"])] = _octets(block.inputs.demand)
+        contents[path_in(own, PLAN)] = _octets(block.plan_file)
+    return contents
+
+
+def _forget(day: Day, folder: str) -> None:
+    """Takes away the plans of hours that are short now, and of blocks that are none any more."""
+    short = [path_in(plan.hour.folder, PLAN) for plan in day.plans if not plan.is_plan]
+    within, names = path_in(folder, BLOCKS), {block.name for block in day.blocks}
+    others = [name for name in (os.listdir(within) if os.path.isdir(within) else []) if name not in names]
+    old = [path_in(within, os.path.join(name, it)) for name in others for it in (PLAN, NAMES["demand"])]
+    for path in [*short, *(it for it in old if "-to-" in it)]:
+        if os.path.isfile(path) and not os.path.islink(os.path.dirname(path)):
+            os.unlink(path)
+
+
+def _refuse_links(folder: str, names: Sequence[str]) -> None:
+    for path in [path_in(folder, name) for name in (*names, BLOCKS)]:
+        if os.path.islink(path) or os.path.lexists(path) and not os.path.isdir(path):
+            raise Unfit(f"{path}: no folder of its own; plans are written there")
+
+
+def _day(service: Service, hours: Sequence[Hour], is_near: bool, programs: Judged) -> Day:
+    done = Progress(len(hours) * (1 + is_near))
+    plans = all_planned(service, hours, programs, done)
+    blocks: list[Block] = [] if service.log else fewest(service, plans, programs)
+    if is_near and not service.log:
+        plans = _chained(service, plans, programs, done)
+    return Day(service, plans, blocks, price(service, plans, blocks))
+
+
+@click.command()
+@click.argument("folder", metavar="[DIR]", default=".", type=Folder())
+@click.option("--settings", metavar="FILE", help="in place of DIR's settings")
+@click.option("--costs", metavar="FILE", help="in place of DIR's costs")
+@click.option("--capacity", metavar="FILE", help="in place of DIR's capacity")
+@click.option("--values", metavar="FILE", help="the value list that the settings refer to")
+@click.option("--week", "is_week", is_flag=True, default=None, help="the hours of a week, where DIR has both")
+@RESERVE
+@click.option("--near", "is_near", is_flag=True, help="each plan moves the fewest queries from the hour before")
+@click.option("--unit", help="of costs, such as ms")
+@click.option("--all", "every", is_flag=True, help="all servers at which room has a price")
+@click.option("-o", "--output", metavar="FILE", type=click.Path(dir_okay=False), help="the page, in place of DIR/day.html")
+@click.option("--no-save", is_flag=True, help="keep no plan and no page")
+@click.option("--csv", "as_csv", is_flag=True, help="the hours, for other programs")
+def day(folder: str, **given: Any) -> None:
+    """Plans each hour of a day or of a week.
+
+    hsp demand --by hour writes the demand of each hour into DIR/h00 to DIR/h23. Each gets its cheapest plan beside it.
+    DIR/blocks has the fewest plans that serve several hours each, and DIR/day.html shows all. Status 3 means that some
+    hour is short.
+    """
+    programs = Judged()
+    names = names_in(folder, given["is_week"])
+    page = given["output"] or path_in(folder, PAGE)
+    if not given["no_save"]:
+        _refuse_links(folder, names)
+    service = _first_service(folder, names[0], programs, given)
+    hours = [read_hour(service, path_in(folder, name), name) for name in names]
+    refuse_clashes([*service.inputs.files(), *(hour.demand for hour in hours)], [page])
+    found = _day(reserved(service, given["reserve"], programs), hours, given["is_near"], programs)
+    if not given["no_save"]:
+        _save(found, folder, page, programs)
+    if given["as_csv"]:
+        give(csv_of(found))
+    else:
+        say(f"{head(found.service).partition('  ')[0]}  {_sizes(found)}")
+        for line in day_lines.lines(found, given["every"]):
+            say(line)
+        if not given["no_save"]:
+            say(_kept_line(found, folder, page))
+        say(yes_line(programs))
+    sys.exit(SHORTAGE if any(not plan.is_plan for plan in found.plans) else 0)
+
+
+def _sizes(found: Day) -> str:
+    service = found.service
+    sizes = [
+        some(len(service.sites), "site"),
+        some(len(service.servers), "server"),
+        some(len(service.regions), "region"),
+        some(len(found.plans), "hour"),
+        f"{sum(plan.hour.asked for plan in found.plans):,} queries{service.counted}",
+    ]
+    return ", ".join([*sizes, *([service.kept_back] if service.reserve else [])])
+
+
+def _kept_line(found: Day, folder: str, page: str) -> str:
+    plans = sum(plan.is_plan for plan in found.plans)
+    first, last = found.plans[0].hour.name, found.plans[-1].hour.name
+    blocks = f", those of blocks in {path_in(folder, BLOCKS)}" if found.blocks else ""
+    return f"kept  {some(plans, 'plan')} beside the demands of {first} to {last}{blocks}; page {page}"
+
+
+def _save(found: Day, folder: str, page: str, programs: Judged) -> None:
+    """Writes all plans and the page together."""
+    contents = _kept(found, folder, programs)
+    inputs, _ = in_units(found.service, programs, path_in(folder, PLAN))
+    answered = replace(found.service, inputs=inputs, given=inputs)
+    commands = {plan.hour.name: command_of(answered, folder, plan) for plan in found.plans}
+    paths = {block.name: path_in(folder, os.path.join(BLOCKS, block.name, PLAN)) for block in found.blocks}
+    text = render_day(found, folder, commands, paths, programs.judged_so_far)
+    for path in contents:
+        os.makedirs(os.path.dirname(path) or ".", exist_ok=True)
+    replace_all({**contents, page: text.encode()})
+    _forget(found, folder)
+
+
+__all__ = ["day"]

@@ -1,0 +1,113 @@
+"""What the terminal shows of a day."""
+
+from __future__ import annotations
+
+from collections import Counter
+from collections.abc import Iterator, Sequence
+from dataclasses import dataclass
+from fractions import Fraction
+
+from hsp.base.numbers import listed, part, queries_of, some
+from hsp.base.text import bold, colored, dim
+from hsp.plans.service import Service
+from hsp.plans.whatif import bar
+from hsp.scenarios.blocks import Block
+from hsp.scenarios.hours import HourPlan
+
+# So many servers are shown by the hours in which room there has a price.
+SHOWN = 6
+# So many blocks are named.
+NAMED = 12
+
+
+@dataclass(frozen=True)
+class Day:
+    """The plans of all hours, and the fewest blocks of hours; none where the demand is a log."""
+
+    service: Service
+    plans: Sequence[HourPlan]
+    blocks: Sequence[Block]
+    price: Fraction
+
+    @property
+    def worst(self) -> HourPlan:
+        """The worst hour: that which lacks most, or in which a query costs most."""
+        return max(self.plans, key=lambda plan: (0 if plan.is_plan else plan.lack, plan.each))
+
+    @property
+    def busiest(self) -> HourPlan:
+        return max(self.plans, key=lambda plan: plan.hour.asked)
+
+    def priced(self) -> list[tuple[int, list[int]]]:
+        """The servers at which room has a price in some hours, those first that have it in most: their numbers, and
+        the price in each hour."""
+        hours: Counter[int] = Counter()
+        for plan in self.plans:
+            hours.update(plan.priced)
+        order = sorted(hours, key=lambda at: (-hours[at], at))
+        return [(at, [plan.loads[at].price if plan.loads else 0 for plan in self.plans]) for at in order]
+
+
+def lines(day: Day, every: bool) -> Iterator[str]:
+    """A line for each hour; the servers that are dear; the blocks."""
+    service = day.service
+    wide = max(len(plan.hour.label) for plan in day.plans)
+    most = max(plan.each for plan in day.plans)
+    is_moving = any(plan.moved is not None for plan in day.plans)
+    yield bold(f"{'hour'.rjust(max(4, wide))}   queries   a query   full" + ("   moves" if is_moving else "") + "  dearest room at")
+    for plan in day.plans:
+        yield _line(service, plan, most, max(4, wide), is_moving)
+    yield from _servers(day, every)
+    yield from verdicts(day)
+
+
+def _line(service: Service, plan: HourPlan, most: float, wide: int, is_moving: bool) -> str:
+    head = f"{plan.hour.label.rjust(wide)} {plan.hour.asked:>9,}"
+    if not plan.is_plan:
+        return f"{head}  {colored('short', 'red')} by {queries_of(plan.lack)}"
+    at = plan.dearest
+    room = f"{service.servers[at].label} ({plan.loads[at].price:,})" if at is not None else "none"
+    moved = "" if not is_moving else f" {_share(plan):>7}"
+    own = f"{head} {plan.each:>9.1f} {len(plan.full(service)):>6}{moved}  {room:<20}"
+    return f"{own} {colored(bar(plan.each, most), 'yellow')}".rstrip()
+
+
+def _share(plan: HourPlan) -> str:
+    return part(plan.moved / plan.hour.asked) if plan.moved is not None and plan.hour.asked else ""
+
+
+def _servers(day: Day, every: bool) -> Iterator[str]:
+    found = day.priced()
+    if not found:
+        return
+    yield bold("servers by the hours in which room there has a price")
+    shown = found if every else found[:SHOWN]
+    wide = max(len(day.service.servers[at].label) for at, _ in shown)
+    for at, prices in shown:
+        marks = "".join("#" if price else "." for price in prices)
+        yield f"  {day.service.servers[at].label.ljust(wide)}  {marks}  {sum(map(bool, prices))}"
+    if len(found) > len(shown):
+        yield dim(f"  and {some(len(found) - len(shown), 'more server')} (--all)")
+
+
+def verdicts(day: Day) -> Iterator[str]:
+    """The worst hour, the busiest one, and the blocks."""
+    worst, busiest = day.worst, day.busiest
+    unit = f" {day.service.titles.cost}" if day.service.titles.cost else ""
+    then = f"{worst.each:.1f}{unit} a query" if worst.is_plan else f"short by {queries_of(worst.lack)}"
+    yield f"worst {worst.hour.label}: {then}; the busiest is {busiest.hour.label} with {queries_of(busiest.hour.asked)}"
+    short = [plan.hour.label for plan in day.plans if not plan.is_plan]
+    if short:
+        yield f"short {some(len(short), 'hour')}: {listed(short, NAMED)}"
+    if day.blocks:
+        served = sum(len(block.hours) for block in day.blocks)
+        names = listed((block.label for block in day.blocks), NAMED)
+        one = len(day.blocks) == 1
+        yield (
+            f"block {some(len(day.blocks), 'plan')} {'serves' if one else 'serve'} {some(served, 'hour')}, "
+            f"{'it' if one else 'each'} as it stands: {names}; {part(float(day.price))} above "
+            f"{some(served, 'plan')}, and fewer can't"
+        )
+
+
+__all__ = ["Day", "lines", "verdicts"]

@@ -1,0 +1,151 @@
+"""The hours of a day or of a week, each with its own demand, and a plan of each."""
+
+from __future__ import annotations
+
+import os
+import re
+from collections.abc import Callable, Sequence
+from dataclasses import dataclass, replace
+
+from hsp.base.paths import path_in
+from hsp.base.programs import Certificate, Load, Missing
+from hsp.base.unfit import Unfit
+from hsp.plans.marks import mark_in
+from hsp.plans.service import NAMES, Row, Service, table
+from hsp.scenarios.judged import Judged, side_by_side
+
+# The folders of hours: `h09` of a day, `mon-h09` of a week.
+OF_DAY = re.compile(r"h([01][0-9]|2[0-3])")
+OF_WEEK = re.compile(r"(mon|tue|wed|thu|fri|sat|sun)-h([01][0-9]|2[0-3])")
+DAYS = ("mon", "tue", "wed", "thu", "fri", "sat", "sun")
+
+
+@dataclass(frozen=True)
+class Hour:
+    """An hour by the name of its folder, with the counts of its rows in units; a log's rows are not read."""
+
+    name: str
+    folder: str
+    asked: int
+    counts: list[int]
+
+    @property
+    def label(self) -> str:
+        """The hour as people write it: `09`, or `mon 09`."""
+        return self.name.replace("-h", " ").removeprefix("h")
+
+    @property
+    def demand(self) -> str:
+        return path_in(self.folder, NAMES["demand"])
+
+
+@dataclass(frozen=True)
+class HourPlan:
+    """An hour's plan or shortage, its file, and what each server takes by it."""
+
+    hour: Hour
+    certificate: Certificate
+    plan_file: str
+    loads: list[Load]
+    moved: int | None = None
+
+    @property
+    def is_plan(self) -> bool:
+        return self.certificate.is_plan
+
+    @property
+    def lack(self) -> int:
+        return self.certificate.demand - self.certificate.capacity
+
+    @property
+    def each(self) -> float:
+        """What a query costs."""
+        return self.certificate.cost / self.hour.asked if self.hour.asked else 0.0
+
+    def full(self, service: Service) -> list[int]:
+        """The numbers of the servers that have no room for a unit more."""
+        return [at for at, own in enumerate(self.loads) if 0 < own.capacity < own.load + service.unit]
+
+    @property
+    def priced(self) -> list[int]:
+        """The numbers of the servers at which room has a price."""
+        return [at for at, own in enumerate(self.loads) if own.price]
+
+    @property
+    def dearest(self) -> int | None:
+        """The server at which room has the greatest price."""
+        return min(self.priced, key=lambda at: (-self.loads[at].price, at)) if self.priced else None
+
+
+def _order(name: str) -> tuple[int, str]:
+    day, _, hour = name.rpartition("h")
+    return (DAYS.index(day.removesuffix("-")) if day else 0), hour
+
+
+def names_in(folder: str, is_week: bool | None = None) -> list[str]:
+    """The folders of hours in a folder, in their order: those of a day, or of a week where there are only these."""
+    try:
+        there = [name for name in os.listdir(folder) if os.path.isfile(os.path.join(folder, name, NAMES["demand"]))]
+    except OSError:
+        there = []
+    day, week = (sorted(filter(form.fullmatch, there), key=_order) for form in (OF_DAY, OF_WEEK))
+    names = week if is_week or (is_week is None and not day) else day
+    if not names:
+        kind = "mon-h00" if is_week else "h00"
+        by = "weekday-hour" if is_week else "hour"
+        raise Missing(f"{path_in(folder, kind)}: no demand of hours is here; hsp demand --by {by} --into writes it")
+    return names
+
+
+def _same_mark(first: Service, folder: str) -> None:
+    own = mark_in(folder)
+    if (own.rows, own.unit) != (first.mark.rows, first.mark.unit):
+        raise Unfit(f"{folder}: its rows or its unit are others than those of {first.folder}")
+
+
+def read_hour(first: Service, folder: str, name: str) -> Hour:
+    """An hour whose rows are those of the first one."""
+    _same_mark(first, folder)
+    path = path_in(folder, NAMES["demand"])
+    if first.log:
+        return Hour(name, folder, 0, [])
+    rows = table(path)
+    if len(rows) != len(first.rows) or any(
+        len(row) != 3 or row[0] != own.region or row[1] != own.handle for row, own in zip(rows, first.rows)
+    ):
+        raise Unfit(
+            f"{path}: its rows are others than those of {first.inputs.demand}; all hours have the same rows, with a "
+            "count of 0 where nothing is asked for: hsp demand --by hour writes them so"
+        )
+    counts = [int(count) if count.isascii() and count.isdigit() else 0 for *_, count in rows]
+    return Hour(name, folder, first.unit * sum(counts), counts)
+
+
+def of_hour(service: Service, hour: Hour) -> Service:
+    """The service at an hour. Its certificate is another one's still."""
+    rows = [Row(row.region, row.handle, service.unit * count) for row, count in zip(service.rows, hour.counts)]
+    return replace(service, rows=rows, inputs=service.inputs.but(demand=hour.demand))
+
+
+def planned(service: Service, hour: Hour, programs: Judged) -> HourPlan:
+    """The plan of an hour."""
+    inputs = service.inputs.but(demand=hour.demand)
+    certificate, path = programs.plan(inputs)
+    loads = programs.loads(inputs, path)[0] if certificate.is_plan else []
+    if service.log:
+        regions = programs.regions(inputs, path) if certificate.is_plan else {}
+        hour = replace(hour, asked=sum(asked for asked, _ in regions.values()) or certificate.demand)
+    return HourPlan(hour, certificate, path, loads)
+
+
+def all_planned(
+    service: Service, hours: Sequence[Hour], programs: Judged, done: Callable[[], None] = lambda: None
+) -> list[HourPlan]:
+    """The plans of all hours, side by side."""
+    tasks: list[Callable[[], HourPlan]] = [
+        lambda hour=hour: planned(service, hour, programs) for hour in hours  # type: ignore[misc]
+    ]
+    return side_by_side(tasks, done)
+
+
+__all__ = ["Hour", "HourPlan", "all_planned", "names_in", "of_hour", "planned", "read_hour"]
