@@ -1,6 +1,10 @@
--- Sums with a factor.
-use Rattle.std.proofs.Common.{◌≡◌, ℕ, ◌+◌, ◌*◌, ◌∙◌, List, [], ◌∷◌, sum_by, ap, sym, mul-add, mul-zero}
-use Rattle.std.proofs.lemmas.List.Sums.{sum_by-cons}
+-- Sums with a factor and over what a list is mapped to, and lists of the first values of a function.
+use Rattle.std.proofs.Common.{◌≡◌, ℕ, ◌+◌, ◌*◌, ◌<◌, ◌∙◌, List, [], ◌∷◌, length, map, sum_by, slice_index, ap, sym}
+use Rattle.std.proofs.Common.{mul-add, mul-zero, zero-add}
+use Rattle.std.specs.List.{range_with_len, sum}
+use Rattle.std.proofs.lemmas.Simd.{map-map}
+use Rattle.std.proofs.lemmas.List.FromFn.{get_or-map-range_with_len, length-map-range_with_len}
+use Rattle.std.proofs.lemmas.List.Sums.{sum-map, sum_by-cons}
 
 -- a factor of all terms of a list is one of their sum
 pub sum_by_times : {A : Type 0} (k : ℕ) (f : A → ℕ) (xs : List A) → sum_by (λ a. k * f a) xs ≡ k * sum_by f xs
@@ -10,3 +14,19 @@ sum_by_times k f (x ∷ xs) =
     ∙ ap (λ s. k * f x + s) (sum_by_times k f xs)
     ∙ sym (mul-add k (f x) (sum_by f xs))
     ∙ sym (ap (λ s. k * s) (sum_by-cons f x xs))
+
+-- what a list is mapped to adds up term by term
+pub sum_by_map : {A B : Type 0} (g : B → ℕ) (f : A → B) (xs : List A) → sum_by g (map f xs) ≡ sum_by (λ x. g (f x)) xs
+sum_by_map g f xs = sym (sum-map g (map f xs)) ∙ ap sum (map-map g f xs) ∙ sum-map (λ x. g (f x)) xs
+
+-- the first values of a function
+abbrev pub listed : ℕ → (ℕ → ℕ) → List ℕ
+listed n f = map f (range_with_len 0 n)
+
+-- are so many
+pub listed_many : (n : ℕ) (f : ℕ → ℕ) → length (listed n f) ≡ n
+listed_many n f = length-map-range_with_len f 0 n
+
+-- each in its place
+pub listed_at : (n : ℕ) (f : ℕ → ℕ) (k : ℕ) → k < n → slice_index (listed n f) k ≡ f k
+listed_at n f k l = get_or-map-range_with_len f 0 n k k 0 l (zero-add k)

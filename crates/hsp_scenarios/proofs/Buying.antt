@@ -17,33 +17,36 @@ use Rattle.hsp_scenarios.proofs.Adding.{sum_by_times}
 
 module _ (host_of : ℕ → Option ℕ) (limits : List ℕ) (count : ℕ)
     (hosts : (j h : ℕ) → j < count → host_of j ≡ Some h → h < length limits) where
-  -- numbers of servers: of those on no host, and of those on each host up to its limit
+  -- the numbers of servers whose host passes a test, added up
+  abbrev where_host : (Option ℕ → Bool) → (ℕ → ℕ) → ℕ
+  where_host test f = sum_below count (λ j. when (test (host_of j)) (f j))
+
+  -- the numbers of all servers, those on each host up to its limit
   abbrev room : (ℕ → ℕ) → ℕ
   room f =
-      sum_below count (λ j. when (is_none (host_of j)) (f j))
-      + sum_below (length limits) (λ h. min (slice_index limits h) (sum_below count (λ j. when (is_on (host_of j) h) (f j))))
+      where_host is_none f
+      + sum_below (length limits) (λ h. min (slice_index limits h) (where_host (λ o. is_on o h) f))
 
-  -- a sum over some servers is no more than that of two greater numbers each
-  some : (test : Option ℕ → Bool) (f e g : ℕ → ℕ) → ((j : ℕ) → j < count → f j ≤ e j + g j) →
-      sum_below count (λ j. when (test (host_of j)) (f j))
-      ≤ sum_below count (λ j. when (test (host_of j)) (e j)) + sum_below count (λ j. when (test (host_of j)) (g j))
-  some test f e g less =
-      let terms : sum_below count (λ j. when (test (host_of j)) (f j))
-      ≤ sum_below count (λ j. when (test (host_of j)) (e j) + when (test (host_of j)) (g j)) =
+  -- where each number is no more than two others, so are the sums
+  no_more : (test : Option ℕ → Bool) (f e g : ℕ → ℕ) → ((j : ℕ) → j < count → f j ≤ e j + g j)
+      → where_host test f ≤ where_host test e + where_host test g
+  no_more test f e g less =
+      let of = λ (v : ℕ → ℕ) (j : ℕ). when (test (host_of j)) (v j) in
+      let terms : where_host test f ≤ sum_below count (λ j. of e j + of g j) =
       sum_below_le count _ _ (λ j l. grind (arith, less j l)) in
-      omega (arith, sum_below_add count (λ j. when (test (host_of j)) (e j)) (λ j. when (test (host_of j)) (g j)))
+      omega (arith, sum_below_add count (of e) (of g))
 
-  -- more at servers is no more in all than what was added
+  -- what is added at servers adds no more than that in all
   more_room : (f e g : ℕ → ℕ) → ((j : ℕ) → j < count → f j ≤ e j + g j) → room f ≤ room e + sum_below count g
   more_room f e g less =
-      let on : (ℕ → ℕ) → ℕ → ℕ = λ v h. sum_below count (λ j. when (is_on (host_of j) h) (v j)) in
-      let hosted : sum_below (length limits) (λ h. min (slice_index limits h) (on f h))
-      ≤ sum_below (length limits) (λ h. min (slice_index limits h) (on e h) + on g h) =
-      sum_below_le (length limits) _ _ (λ h l. omega (arith, some (λ o. is_on o h) f e g less)) in
+      let on : (ℕ → ℕ) → ℕ → ℕ = λ v h. where_host (λ o. is_on o h) v in
+      let capped : (ℕ → ℕ) → ℕ → ℕ = λ v h. min (slice_index limits h) (on v h) in
+      let hosted : sum_below (length limits) (capped f) ≤ sum_below (length limits) (λ h. capped e h + on g h) =
+      sum_below_le (length limits) _ _ (λ h l. omega (arith, no_more (λ o. is_on o h) f e g less)) in
       omega (
         arith,
-        some is_none f e g less,
-        sum_below_add (length limits) (λ h. min (slice_index limits h) (on e h)) (on g),
+        no_more is_none f e g less,
+        sum_below_add (length limits) (capped e) (on g),
         split_host host_of g count (length limits) hosts,
       )
 

@@ -1,5 +1,5 @@
 -- One network at several counts.
-use Rattle.std.proofs.Common.{◌≡◌, ◌<◌, ◌≤◌, length, slice_index, if◌then◌else◌, ap}
+use Rattle.std.proofs.Common.{ℕ, ◌≡◌, ◌<◌, ◌≤◌, length, slice_index, ap}
 use Rattle.std.proofs.Common.{arith}
 use Rattle.hsp_transport.specs.Network.{IsNetwork}
 use Rattle.hsp_transport.specs.Plans.{Serves}
@@ -8,6 +8,7 @@ use Rattle.hsp_transport.specs.Cut.{IsShort, demand_of}
 use Rattle.hsp_transport.specs.Sums.{sum_below}
 use Rattle.hsp_transport.proofs.Duality.{cut_shows_none}
 use Rattle.hsp_transport.proofs.Lowering.{lowered, lowered_feasible}
+use Rattle.hsp_transport.proofs.Rowwise.{when}
 use Rattle.hsp_transport.proofs.Summing.{sum_below_le}
 use Rattle.hsp_scenarios.specs.Counts.{LessFits, ShortFrom, asking}
 
@@ -28,10 +29,11 @@ less_fits A site n demands one less x feasible =
 -- what a set can reach stays, and what it asks for grows
 pub short_from : (A : Type 0) → ShortFrom A
 short_from A site n demands set is less short =
-    let more : demand_of n set ≤ sum_below (length n.demands) (λ i. if set i then slice_index demands i else 0) =
+    let asked = λ (i : ℕ). when (set i) (slice_index demands i) in
+    let more : demand_of n set ≤ sum_below (length n.demands) asked =
     sum_below_le (length n.demands) _ _ (λ i l. grind (arith, less.each i (omega (arith, less.many)))) in
-    let all : sum_below (length n.demands) (λ i. if set i then slice_index demands i else 0) ≡ demand_of (asking n demands) set =
-    ap (λ rows. sum_below rows (λ i. if set i then slice_index demands i else 0)) less.many in
+    let all : sum_below (length n.demands) asked ≡ demand_of (asking n demands) set =
+    ap (λ rows. sum_below rows asked) less.many in
     let there : IsShort (asking n demands) set = omega arith in
     let network : IsNetwork (asking n demands) =
     record { sources = rw (← less.many) is.sources; servers = is.servers; hosts = is.hosts } in

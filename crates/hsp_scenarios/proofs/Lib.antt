@@ -1,8 +1,9 @@
-pub mod Counting
 pub mod Adding
+pub mod Counting
 pub mod Buying
 pub mod Homes
 pub mod Carrying
 pub mod Joining
+pub mod Keeping
 pub mod Splitting
 pub mod Nearing

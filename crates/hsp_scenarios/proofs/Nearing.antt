@@ -3,14 +3,13 @@ use Rattle.std.proofs.Common.{◌≡◌, ℕ, ◌+◌, ◌*◌, ◌<◌, ◌≤�
 use Rattle.std.proofs.Common.{mul-add, mul-one, mul-le-mul_left}
 use Rattle.std.proofs.lemmas.Bool.{cases_lt}
 use Rattle.hsp_transport.specs.Network.{Network}
-use Rattle.hsp_transport.specs.Flow.{total_cost}
 use Rattle.hsp_transport.specs.Plans.{Best, Feasible, Plan, planned}
 use Rattle.hsp_transport.specs.Prices.{HasPrices}
 use Rattle.hsp_transport.proofs.Duality.{prices_show_cheapest}
 use Rattle.hsp_transport.proofs.Summing.{sum_by_le_all}
 use Rattle.hsp_scenarios.specs.Moves.{Nearest, moved}
 use Rattle.hsp_scenarios.specs.Portions.{ArePortions, Portions, joined, sent_away}
-use Rattle.hsp_scenarios.specs.Nearest.{HeavyWeightsShowNearest, PricesShowNearest, PricesWeighMoves}
+use Rattle.hsp_scenarios.specs.Nearest.{HeavyWeightsShowNearest, PricesShowNearest, PricesWeighMoves, cost_of}
 use Rattle.hsp_scenarios.proofs.Joining.{joined_plans}
 use Rattle.hsp_scenarios.proofs.Splitting.{split_plans}
 
@@ -21,7 +20,7 @@ module _ {A : Type 0} (site : A → ℕ) (n : Network A) (old : Plan) (p : Porti
   x = joined p y
 
   abbrev cost : Plan → ℕ
-  cost z = total_cost n (planned site n z)
+  cost = cost_of site n
 
   -- no plan costs less than the portions do
   bound : (other : Plan) → Feasible site n other →

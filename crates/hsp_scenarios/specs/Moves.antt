@@ -3,8 +3,8 @@ use Rattle.std.specs.Prelude.{ℕ, ◌-◌, ◌≤◌, sum_by}
 use Rattle.hsp_transport.specs.Network.{Network}
 use Rattle.hsp_transport.specs.Plans.{Best, Plan, planned}
 
--- What the old plan has on the arcs and the new plan has no longer. Where no arc leads today, all has to move: that is
--- not counted.
+-- What the old plan has on the arcs and the new plan has no longer. What the old plan sent where no arc leads today
+-- moves in every plan, and is not counted.
 abbrev pub moved : {A : Type 0} → (A → ℕ) → Network A → Plan → Plan → ℕ
 moved site n old x = sum_by (λ a. planned site n old a - planned site n x a) n.arcs
 

@@ -41,8 +41,8 @@ Split A =
     (site : A → ℕ) (n : Network A) (old : Plan) (p : Portions A) → ArePortions site n old p
     → (x : Plan) → Feasible site n x → (y : Plan) × IsSplit site n old p x y
 
--- Prices of portions show of the joined plan: none costs less, where each unit that moves costs one and each unit of cost
--- so many.
+-- Let each unit that moves cost one, and each unit of cost so many. Then no plan costs less than the joined one: prices
+-- of portions show it.
 abbrev pub PricesWeighMoves : Type 0 → Type 0
 PricesWeighMoves A =
     (site : A → ℕ) (n : Network A) (old : Plan) (p : Portions A) → ArePortions site n old p

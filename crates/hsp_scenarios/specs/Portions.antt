@@ -8,8 +8,8 @@ use Rattle.hsp_transport.specs.Network.{Network, IsNetwork}
 use Rattle.hsp_transport.specs.Plans.{Plan, is_allowed, planned}
 use Rattle.hsp_transport.specs.Kinds.{HasOneArcASite, Link, links_of, pooled, together}
 
--- A network whose sources are portions. Each is a part of a source, and has a home or is new. A unit of cost weighs as
--- much as so many units away from home.
+-- A network whose sources are portions. Each is a part of a source, and has a home or is new. A unit of cost weighs
+-- as much as so many units away from home.
 pub record Portions (A : Type 0) : Type 0 where
   pub network : Network A
   pub source_of : ℕ → ℕ

@@ -59,8 +59,8 @@ pub record IsServed {A : Type 0} (site : A → ℕ) (servers : ℕ) (bought : Pu
   pub many : length loss.left.capacities ≡ servers
   pub serves : Serves site loss bought
 
--- Weights count in parts of one: `unit` parts are one. At no server may room help sets of more weight than one. Then a
--- purchase that serves the losses of all sets is at least what the sets lack.
+-- Weights count in parts of one: `unit` parts are one. Let room at each server help sets of no more weight than one.
+-- Then a purchase that serves the losses of all sets is at least what the sets lack.
 abbrev pub SetsShowLeast : Type 0 → Type 0
 SetsShowLeast A =
     (site : A → ℕ) (unit servers : ℕ) (lacks : List (Lack A)) (bought : Purchase)

@@ -15,7 +15,7 @@ pub fn short_from<A>()
     ensures { ShortFrom A }
 {}
 
-/// A plan of portions, added up by rows, is a plan of the rows. It moves at most what the portions send away from home.
+/// A plan of portions, added up by rows, is a plan of the rows. It moves at most what goes away from home.
 pub fn joined_plans<A>()
     ensures { Joined A }
 {}
