@@ -140,6 +140,7 @@ class Certificate:
     def __init__(self, text: str, unit: int = 1) -> None:
         self.text, self._unit = text, unit
         head = text[:200].split("\n")
+        self.head = head[0]
         said = dict(line.split(" ") for line in head[2:4] if line.count(" ") == 1)
         self.is_plan = head[1] == "PLAN"
         self.cost, self.demand, self.capacity = (

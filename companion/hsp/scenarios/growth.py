@@ -3,12 +3,14 @@ on. Each short set says which factor to try next, so few plans are made."""
 
 from __future__ import annotations
 
+from collections import Counter
 from collections.abc import Callable, Sequence
 from dataclasses import dataclass, replace
 from fractions import Fraction
 
 from hsp.base.grammar import GREATEST_COUNT, GREATEST_ROW_COUNT
 from hsp.base.programs import Certificate
+from hsp.plans.counted import times
 from hsp.plans.flows import flows_of
 from hsp.plans.plans import least_purchase, reached_by, with_purchase
 from hsp.plans.service import Row, Server, Service
@@ -29,8 +31,8 @@ class Short:
     demand: int
     capacity: int
     servers: list[Server]
-    # Their queries at the factor at which they were found, without what doesn't grow; rounded up to units.
-    grown: int
+    # What their rows that don't grow ask for.
+    rest: int
 
 
 @dataclass(frozen=True)
@@ -97,7 +99,19 @@ class Growing:
         if not now or capacity < rest:
             return None
         above = Fraction(capacity - rest, now)
-        return Short(above, rows, demand, capacity, reached_by(tried, self._programs), demand - rest)
+        return Short(above, rows, demand, capacity, reached_by(tried, self._programs), rest)
+
+    def _next(self, short: Short, factor: int, region: str | None) -> int:
+        """The greatest factor below one at which a set of rows isn't short, rounded up row by row."""
+        unit, low = self._service.unit, 0
+        high = min(factor, int(STEP * short.above) + 1)
+        rows = (self._service.rows[at] for at in short.rows)
+        counts = Counter(row.count // unit for row in rows if region in (None, row.region))
+        while counts and high - low > 1:
+            tried = Fraction((low + high) // 2, STEP)
+            asked = unit * sum(number * times(count, tried) for count, number in counts.items())
+            low, high = (low, (low + high) // 2) if asked + short.rest > short.capacity else ((low + high) // 2, high)
+        return high - 1
 
     def _first(self, region: str | None) -> int:
         """A factor above which nothing has to be tried: all rows together are short, or no table holds the counts."""
@@ -123,8 +137,7 @@ class Growing:
             if not found:
                 return Growth(region, None, None, None)
             short = found if short is None or found.above < short.above else short
-            room = found.grown - (found.demand - found.capacity)
-            factor = min(factor - 1, int(STEP * short.above), factor * room // max(1, found.grown))
+            factor = self._next(found, factor, region)
         self._put_away(tried)
         return self._short_from(Growth(region, factor, None, short))
 

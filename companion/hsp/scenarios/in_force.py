@@ -3,6 +3,7 @@
 from __future__ import annotations
 
 import os
+import re
 from dataclasses import dataclass, replace
 
 from hsp.base.numbers import some
@@ -14,7 +15,7 @@ from hsp.plans.service import NAMES, VALUES, Service, service_of
 from hsp.scenarios.nearest import Homes, homes_of
 
 PLAN = "plan.txt"
-HEAD, PRICED = "HSPLAN 1\nPLAN\n", "HSPLAN PRICES 1\n"
+HEAD, PRICED = re.compile(r"HSPLAN [0-9]+\nPLAN\n"), "HSPLAN PRICES 1\n"
 
 
 @dataclass(frozen=True)
@@ -40,7 +41,7 @@ def text_of(path: str) -> str:
         text = file.read().decode("utf-8", "replace")
     if text.startswith(PRICED):
         raise Unfit(f"{path}: a certificate by prices names no row, so no plan is near it")
-    if not text.startswith(HEAD) or not text.endswith("END\n"):
+    if not HEAD.match(text) or not text.endswith("END\n"):
         raise Unfit(f"{path}: no plan of hsplan")
     return text
 

@@ -16,6 +16,8 @@ from hsp.base.text import colored, say, show_progress
 Answer = TypeVar("Answer")
 # After so many seconds a terminal is shown how far the plans are.
 PATIENCE = 1.0
+# What takes more seconds than this is said beforehand.
+SAID = 10.0
 
 
 class Judged(Programs):
@@ -89,7 +91,7 @@ def side_by_side(tasks: Sequence[Callable[[], Answer]], done: Callable[[], None]
 def say_how_long(number: int, first: float, what: str) -> None:
     """Says beforehand how long many plans take, by the seconds that the first one took."""
     seconds = number * first / lanes()
-    if seconds > 10:
+    if seconds > SAID:
         say(f"hsp: {number:,} {what}, about {round(seconds, -1):,.0f} seconds on {lanes()} processors", err=True)
 
 

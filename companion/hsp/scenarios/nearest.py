@@ -24,7 +24,7 @@ Key = tuple[str, object]
 Named = tuple[str, int]
 # How many queries of each key go to each server by a plan in force.
 Homes = Mapping[Key, Mapping[Named, int]]
-# How many queries of a row, by its number, go to a site.
+# How many units of a row, by its number, go to a site.
 Uses = dict[tuple[int, int], int]
 # What has a price in a certificate, in its order.
 PRICED = ("row", "server", "host")
@@ -171,30 +171,30 @@ class Portions:
         found, path = self._programs.plan(inputs)
         if not found.is_plan:
             return None
-        uses = self._joined(found)
-        cost = self._cost(service, uses)
+        uses = self._joined(found, service.unit)
+        cost = service.unit * self._cost(service, uses)
         if plain and cost != plain.cost:
             return None
         prices = {of: plain.prices(of) if plain else self._divided(found, of) for of in PRICED}
-        text = text_of(service.unit, cost, uses, prices)
+        text = text_of(found.head, cost // service.unit, uses, prices)
         own = self._programs.put(text)
         if not self._programs.says_yes(service.inputs, own):
             return None
         moved = found.cost - self.weight * cost
         return Nearest(Certificate(text, service.unit), own, moved, inputs, path)
 
-    def _joined(self, found: Certificate) -> Uses:
-        """What all portions of a row send to a site."""
+    def _joined(self, found: Certificate, unit: int) -> Uses:
+        """What all portions of a row send to a site, in units."""
         sums: dict[tuple[int, int], int] = {}
         for portion, site, queries in zip(*found.use_columns):
             key = self._rows[portion], site
             sums[key] = sums.get(key, 0) + queries
-        return {key: sums[key] for key in sorted(sums)}
+        return {key: sums[key] // unit for key in sorted(sums)}
 
     def _cost(self, service: Service, uses: Uses) -> int:
         names, costs = [site.name for site in service.sites], service.costs
         regions = [row.region for row in service.rows]
-        return sum(queries * costs[regions[row], names[site]] for (row, site), queries in uses.items())
+        return sum(units * costs[regions[row], names[site]] for (row, site), units in uses.items())
 
     def _divided(self, found: Certificate, of: str) -> list[int]:
         """Prices of the portions as those of the rows: divided by the weight, to the nearest whole number."""
@@ -205,10 +205,10 @@ class Portions:
         return list(dict(zip(self._rows, prices)).values())
 
 
-def text_of(unit: int, cost: int, uses: Uses, prices: Mapping[str, list[int]]) -> str:
-    """A certificate of rows. Costs and uses are in queries."""
-    lines = ["HSPLAN 1", "PLAN", f"cost {cost // unit}"]
-    lines += [f"use {row} {site} {queries // unit}" for (row, site), queries in uses.items()]
+def text_of(head: str, cost: int, uses: Uses, prices: Mapping[str, list[int]]) -> str:
+    """A certificate of rows below a head that says its form. All is in units."""
+    lines = [head, "PLAN", f"cost {cost}"]
+    lines += [f"use {row} {site} {units}" for (row, site), units in uses.items()]
     for of in PRICED:
         lines += [f"{of} {at} {price}" for at, price in enumerate(prices[of])]
     return "\n".join([*lines, "END", ""])

@@ -145,19 +145,26 @@ class Purchases:
         while True:
             found.rounds += 1
             short = self._short(todo, found)
-            known = {(it.loss, it.servers, it.demand) for it in found.lacks}
-            fresh = [it for it in short if (it.loss, it.servers, it.demand) not in known]
-            if not short and is_whole:
-                break
-            if short and (not fresh or found.rounds >= MOST_ROUNDS or len(found.lacks) + len(fresh) > MOST_SETS):
-                self._on_top(found, [loss for loss in losses if loss not in found.unserved])
-                break
-            found.lacks += fresh
-            is_whole = not short
-            todo = [it.loss for it in short] or [loss for loss in losses if loss not in found.unserved]
-            if short:
-                found.bought = Rounds(self._service, found.lacks).bought()
-        return self._weighed(found)
+            served = [loss for loss in losses if loss not in found.unserved]
+            if len(served) < len(losses):
+                losses, is_whole = served, False
+                found.lacks = [lack for lack in found.lacks if lack.loss in served]
+            elif not short and is_whole:
+                return self._weighed(found)
+            if short and not self._add(short, found):
+                self._on_top(found, losses)
+                return self._weighed(found)
+            found.bought = Rounds(self._service, found.lacks).bought() if found.lacks else {}
+            todo, is_whole = ([it.loss for it in short], False) if short else (losses, True)
+
+    def _add(self, short: Sequence[Lack], found: Purchase) -> bool:
+        """Adds the sets that are new. False where none is, or the rounds run out."""
+        known = {(it.loss, it.servers, it.demand) for it in found.lacks}
+        fresh = [it for it in short if (it.loss, it.servers, it.demand) not in known]
+        if not fresh or found.rounds >= MOST_ROUNDS or len(found.lacks) + len(fresh) > MOST_SETS:
+            return False
+        found.lacks += fresh
+        return True
 
     def _short(self, losses: Sequence[Loss], found: Purchase) -> list[Lack]:
         """What lacks after these losses with the purchase so far. A loss that no room serves is set aside."""

@@ -1,0 +1,136 @@
+"""Plans near the one in force: against integer programmes, and as hsp plan --near prints them."""
+
+from __future__ import annotations
+
+import random
+import shutil
+from pathlib import Path
+
+import pytest
+
+from hsp.base.programs import Programs
+from hsp.base.unfit import Unfit
+from hsp.plans.service import read_service
+from hsp.scenarios.in_force import in_force
+from hsp.scenarios.judged import Judged
+from hsp.scenarios.nearest import Portions, TooMany, homes_of, moved_between, portions_of, shared
+
+from conftest import Hsp
+from scenarios import Example, Flows, demand_of, drawn_service
+
+
+def rows_of(folder: Path) -> list[list[str]]:
+    return [line.split(",") for line in (folder / "demand.csv").read_text().splitlines()[1:]]
+
+
+@pytest.mark.parametrize("seed", range(100))
+def test_a_nearest_plan_is_that_of_an_integer_programme(tmp_path: Path, seed: int) -> None:
+    """The plan in force is one of other counts and capacities; both optima are the programme's."""
+    draw = random.Random(seed)
+    folder = drawn_service(draw, tmp_path / "now")
+    old = Path(shutil.copytree(folder, tmp_path / "old"))
+    counts = [(region, handle, draw.randint(0, 6)) for region, handle, _ in rows_of(folder)]
+    (old / "demand.csv").write_bytes(demand_of(counts))
+    rooms = (old / "capacity.csv").read_text().replace("\n", "0\n").replace("capacity0", "capacity")
+    (old / "capacity.csv").write_text(rooms)
+    (old / "settings.toml").write_text((old / "settings.toml").read_text().partition("[[host]]")[0])
+    programs = Judged()
+    before, now = (read_service(str(own), programs, {}) for own in (old, folder))
+    assert before.certificate.is_plan
+    flows = Flows(now)
+    cost = flows.cheapest()
+    assert now.certificate.is_plan == (cost is not None)
+    homes = homes_of(before, before.certificate, False)
+    near = Portions(now, homes, programs).nearest(now, now.certificate)
+    if cost is None:
+        assert near is None
+        return
+    assert near and near.certificate.cost == cost == now.certificate.cost
+    at_home = {(it.row, it.home): it.units for it in portions_of(now, homes, False) if it.home is not None}
+    fewest = flows.fewest_moved(cost, {key: units for key, units in at_home.items() if key in flows.arcs})
+    gone = sum(units for key, units in at_home.items() if key not in flows.arcs)
+    assert near.moved == fewest + gone == moved_between(now, homes, near.certificate)
+    assert programs.verdict(now.inputs, near.plan_file) == "yes"
+    assert programs.verdict(near.portions, near.portions_plan) == "yes"
+
+
+def test_shares_are_whole_and_fair() -> None:
+    """By hand: 10 in parts of 1:2 are 3 and 7; the greater remainder gets the rest."""
+    assert shared(10, {0: 1, 1: 2}) == {0: 3, 1: 7}
+    assert shared(4, {0: 1, 1: 1, 2: 1}) == {0: 2, 1: 1, 2: 1}
+    assert shared(0, {0: 5}) == {} and shared(5, {}) == {} and shared(7, {3: 2}) == {3: 7}
+
+
+def test_a_plan_moves_nothing_from_itself(hsp: Hsp, example: Example) -> None:
+    folder = example("two-sites")
+    hsp("plan", str(folder))
+    plan = (folder / "plan.txt").read_bytes()
+    printed = hsp("plan", str(folder), "--near", str(folder)).stdout
+    line = next(line for line in printed.splitlines() if line.startswith("near"))
+    assert "moves 0 (0%) of 6,282 queries" in line and "the fewest of all cheapest plans" in line
+    assert (folder / "plan.txt").read_bytes() == plan
+
+
+def test_what_is_kept_shows_both(hsp: Hsp, twelve: Path, tmp_path: Path) -> None:
+    """Yesterday's plan, and a demand that differs by a tenth: far fewer queries move than by a plain plan, and
+    hsplan check says yes to both certificates."""
+    old, now = (Path(shutil.copytree(twelve, tmp_path / name)) for name in ("old", "now"))
+    hsp("plan", str(old))
+    draw = random.Random(3)
+    rows = [(region, handle, round(int(count) * draw.uniform(0.9, 1.1))) for region, handle, count in rows_of(now)]
+    (now / "demand.csv").write_bytes(demand_of(rows))
+    printed = hsp("plan", str(now), "--near", str(old)).stdout
+    line = next(line for line in printed.splitlines() if line.startswith("near  moves"))
+    moved, plain = (int(part.split(" (")[0].replace(",", "")) for part in (line[12:], line.rpartition("plain ")[2]))
+    assert 0 < moved < plain / 4
+    programs = Programs()
+    service = read_service(str(now), programs, {})
+    assert programs.verdict(service.inputs, str(now / "plan.txt")) == "yes"
+    portions = service.inputs.but(demand=str(now / "near/demand.csv"), costs=str(now / "near/costs.csv"))
+    assert programs.verdict(portions, str(now / "near/plan.txt")) == "yes"
+    assert f"check yes: {now}/near/plan.txt shows" in printed
+
+
+def test_a_plan_of_other_rows_is_no_plan_in_force(hsp: Hsp, example: Example) -> None:
+    folder = example("two-sites")
+    hsp("plan", str(folder))
+    service = read_service(str(folder), Programs(), {})
+    for text, why in (
+        ((folder / "plan.txt").read_text().replace("row 35 ", "row 34 ", 1), ""),
+        ("HSPLAN 1\nPLAN\ncost 0\nEND\n", "a plan of 0 rows"),
+        ("HSPLAN 1\nSHORTAGE\ndemand 1\ncapacity 0\nEND\n", "no plan of hsplan"),
+        ("HSPLAN PRICES 1\nPLAN\ncost 0\nEND\n", "by prices"),
+        ("HSPLAN 1\nPLAN\ncost 0\nuse x\nrow 0 0\nEND\n", "no plan of hsplan"),
+        ((folder / "plan.txt").read_text().replace("use 0 0 ", "use 0 1 ", 1).replace("END", "END"), ""),
+        ((folder / "plan.txt").read_text().replace("use 0 ", "use 1 ", 1), "another demand"),
+        ((folder / "plan.txt").read_text().replace("use 0 ", "use 99 ", 1), "other files"),
+    ):
+        (folder / "old.txt").write_text(text)
+        if not why:
+            continue
+        with pytest.raises(Unfit, match=why):
+            in_force(str(folder / "old.txt"), service, Judged())
+    ended = hsp("plan", str(folder), "--near", str(folder / "absent.txt"), status=5)
+    assert ended.stderr == f"hsp: {folder}/absent.txt: no such file; give a certificate, or a folder with plan.txt\n"
+
+
+def test_beyond_the_tables_a_line_says_so(hsp: Hsp, example: Example, monkeypatch: pytest.MonkeyPatch) -> None:
+    folder = example("two-sites")
+    hsp("plan", str(folder))
+    monkeypatch.setattr("hsp.scenarios.nearest.MOST_REGIONS", 2)
+    printed = hsp("plan", str(folder), "--near", str(folder), "--no-save").stdout
+    assert "near  no: 6 regions with their homes, more than tables hold; this is the plain plan, which moves 0" in printed
+    monkeypatch.setattr("hsp.scenarios.nearest.MOST_DEMAND_ROWS", 30)
+    with pytest.raises(TooMany, match="38 portions and 6 regions with their homes"):
+        service = read_service(str(folder), Programs(), {})
+        Portions(service, homes_of(service, service.certificate, False), Judged())
+
+
+def test_a_server_of_another_site_record_is_another_home(hsp: Hsp, example: Example) -> None:
+    """A site whose number of servers changed has other servers for its handles: what they had is new, not moved."""
+    folder = example("two-sites")
+    service = read_service(str(folder), Programs(), {})
+    homes = homes_of(service, service.certificate, False)
+    renamed = {key: {(site, server + 10): number for (site, server), number in own.items()} for key, own in homes.items()}
+    assert all(it.home is None for it in portions_of(service, renamed, False))
+    assert moved_between(service, renamed, service.certificate) == 0

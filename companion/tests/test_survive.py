@@ -1,0 +1,283 @@
+"""hsp survive: each fallback against the planner, and purchases by hand and against an integer programme."""
+
+from __future__ import annotations
+
+import csv
+import io
+import random
+import shutil
+from fractions import Fraction
+from pathlib import Path
+
+import numpy
+import pytest
+from scipy import optimize
+
+from hsp.base.grammar import HEADERS
+from hsp.base.programs import Programs
+from hsp.base.unfit import Unfit
+from hsp.plans.plans import capacity_file
+from hsp.plans.service import Service, read_service
+from hsp.scenarios.fallbacks import Fallbacks
+from hsp.scenarios.judged import Judged
+from hsp.scenarios.losses import HOST, SERVER, SITE, Loss, losses_of, survived, without
+from hsp.scenarios.nearest import Portions, homes_of
+from hsp.scenarios.purchase import Purchases
+from lib import examples
+
+from conftest import Hsp
+from printed import assert_kept
+from scenarios import Example, Flows, demand_of, drawn_service, put
+
+
+def table_of(text: str) -> list[dict[str, str]]:
+    return list(csv.DictReader(io.StringIO(text)))
+
+
+def own_without(service: Service, programs: Programs, kind: str, what: str) -> tuple[str, str]:
+    """The costs and capacities after a loss, by the rows of the folder's own tables."""
+    costs = [(region, site, cost) for (region, site), cost in service.costs.items() if kind != SITE or site != what]
+    gone = {it.label for it in service.servers if kind == SERVER and it.label == what}
+    if kind == HOST:
+        octets = bytes(12) + bytes(int(part) for part in what.split("."))
+        gone = {it.label for it in service.servers if it.address == octets.hex()}
+    rooms = {key: 0 if f"{key[0]} {key[1]}" in gone else room for key, room in service.capacities.items()}
+    return programs.put_table(HEADERS["costs"], costs), capacity_file(programs, rooms)
+
+
+def test_two_sites_lose_all(hsp: Hsp, example: Example) -> None:
+    folder = example("two-sites")
+    printed = hsp("survive", str(folder), "--buy", status=3).stdout.replace(str(folder), "DIR")
+    assert "buy   room for 5,174 queries more" in printed
+    assert "no purchase below 5,174 does, by 2 short sets of weight 1" in printed
+    assert_kept("survive", "two-sites", printed)
+
+
+@pytest.mark.parametrize("seed", range(25))
+def test_each_loss_is_planned_and_judged(hsp: Hsp, tmp_path: Path, seed: int) -> None:
+    """Costs and lacks are the planner's over tables that are made here, and each fallback has a yes by these."""
+    folder = drawn_service(random.Random(seed), tmp_path / "it", hosts=bool(seed % 2))
+    programs = Programs()
+    service = read_service(str(folder), programs, {})
+    if not service.certificate.is_plan:
+        assert "with nothing lost" in hsp("survive", str(folder), status=3).stdout
+        return
+    printed = hsp("survive", str(folder), "--csv", status=-1 if False else expected(service, programs)).stdout
+    rows = table_of(printed)
+    assert printed == (folder / "fallback/losses.csv").read_text()
+    assert {it["kind"] for it in rows} <= {SITE, SERVER, HOST}
+    assert len([it for it in rows if it["kind"] == SITE]) == len(service.sites)
+    assert len([it for it in rows if it["kind"] == SERVER]) == len(service.servers)
+    worst = [(int(it["lack"]), int(it["cost"] or 0)) for it in rows]
+    assert worst == sorted(worst, key=lambda pair: (-pair[0], -pair[1]))
+    for it in rows:
+        costs, capacity = own_without(service, programs, it["kind"], it["what"])
+        inputs = service.inputs.but(costs=costs, capacity=capacity)
+        certificate, _ = programs.plan(inputs)
+        assert (it["served"] == "true") == certificate.is_plan
+        if not certificate.is_plan:
+            assert int(it["lack"]) == certificate.demand - certificate.capacity
+            continue
+        assert int(it["cost"]) == certificate.cost == service.certificate.cost + int(it["change"])
+        plan = folder / "fallback" / it["plan"]
+        assert programs.verdict(inputs, str(plan)) == "yes"
+        kept = {name: str(plan.parent / name) for name in ("costs.csv", "capacity.csv")}
+        own = {name.removesuffix(".csv"): path for name, path in kept.items() if Path(path).exists()}
+        assert len(own) == 1 and programs.verdict(service.inputs.but(**own), str(plan)) == "yes"
+        assert int(it["lost"]) <= int(it["moved"])
+
+
+def expected(service: Service, programs: Programs) -> int:
+    """3 where some loss leaves a shortage."""
+    own = Judged()
+    return 3 if any(it.cost is None for it in survived(service, own, None)) else 0
+
+
+@pytest.mark.parametrize("seed", range(30))
+def test_fallbacks_move_the_fewest(tmp_path: Path, seed: int) -> None:
+    """Against integer programmes: of the cheapest plans after the loss, the fewest that are no longer at home."""
+    folder, programs = drawn_service(random.Random(seed), tmp_path, hosts=bool(seed % 2)), Judged()
+    service = read_service(str(folder), programs, {})
+    if not service.certificate.is_plan:
+        return
+    portions = Portions(service, homes_of(service, service.certificate, False), programs)
+    old = {(row, site): queries for row, site, queries in service.certificate.uses}
+    for found in survived(service, programs, portions):
+        if found.cost is None or found.moved is None:
+            continue
+        left = without(service, found.loss, programs)
+        flows = Flows(left)
+        assert flows.cheapest() == found.cost
+        gone = sum(queries for key, queries in old.items() if key not in flows.arcs)
+        assert found.moved == gone + flows.fewest_moved(found.cost, {k: n for k, n in old.items() if k in flows.arcs})
+
+
+def test_stale_plans_are_taken_away(hsp: Hsp, tmp_path: Path) -> None:
+    """A loss that had a fallback and has none any more keeps none; other files stay."""
+    folder = three_sites(tmp_path / "three", 300)
+    hsp("survive", str(folder))
+    plan = folder / "fallback/site-a/plan.txt"
+    assert plan.exists()
+    (folder / "fallback/note.txt").write_text("mine")
+    capacity = folder / "capacity.csv"
+    capacity.write_text(capacity.read_text().replace(",300", ",100"))
+    hsp("survive", str(folder), status=3)
+    assert not plan.parent.exists() and (folder / "fallback/note.txt").read_text() == "mine"
+
+
+@pytest.mark.parametrize("name", ["fallback", "fallback/site-a"])
+def test_a_link_is_not_written_through(hsp: Hsp, tmp_path: Path, name: str) -> None:
+    folder = three_sites(tmp_path / "three", 300)
+    (tmp_path / "other").mkdir()
+    (tmp_path / "other/plan.txt").write_text("mine")
+    (folder / name).parent.mkdir(exist_ok=True)
+    (folder / name).symlink_to(tmp_path / "other")
+    ended = hsp("survive", str(folder), status=1)
+    assert ended.stderr == f"hsp: {folder}/{name}: no folder of its own; fallback plans are written there\n"
+    assert (tmp_path / "other/plan.txt").read_text() == "mine"
+    assert [it.name for it in (tmp_path / "other").iterdir()] == ["plan.txt"]
+
+
+def three_sites(folder: Path, room: int) -> Path:
+    """Three sites of one server each, and 300 queries."""
+    sites = [(name, examples.site_octets(name, 1, [f"192.0.2.{at}"])) for at, name in enumerate("abc")]
+    return put(
+        folder,
+        {
+            "settings.toml": examples.settings_text(sites),
+            "demand.csv": demand_of([("x", "20.1/0", 300)]),
+            "costs.csv": examples.table("region,site,cost", [("x", name, 1 + at) for at, name in enumerate("abc")]),
+            "capacity.csv": examples.table("site,server_id,capacity", [(name, 1, room) for name in "abc"]),
+        },
+    )
+
+
+def test_three_sites_want_half_weights(hsp: Hsp, tmp_path: Path) -> None:
+    """By hand: each loss of one of three sites of 100 lacks 100. 50 more at each serve all losses. Any purchase p, q, r
+    has q + r, p + r and p + q at least 100, so p + q + r is at least 150: half of each of the three."""
+    folder = three_sites(tmp_path, 100)
+    service, programs = read_service(str(folder), Judged(), {}), Judged()
+    found = Purchases(service, programs).search()
+    assert sorted(found.bought.values()) == [50, 50, 50] and found.least == found.size == 150
+    assert [lack.weight for lack in found.lacks] == [Fraction(1, 2)] * 3
+    assert [lack.queries for lack in found.lacks] == [100, 100, 100]
+    printed = hsp("survive", str(folder), "--buy", status=3).stdout
+    assert "buy   room for 150 queries more at 3 servers serves every loss" in printed
+    assert "no purchase below 150 does, by 3 short sets of weight 1/2" in printed
+
+
+def least_by_programme(service: Service, losses: list[Loss], programs: Judged) -> int | None:
+    """The least purchase for all losses as one integer programme: the room at each server, and a plan for each loss."""
+    servers = service.servers
+    parts = [Flows(without(service, loss, programs)) for loss in losses]
+    width = len(servers) + sum(part.number for part in parts)
+    rows, low, high = [], [], []
+    begin = len(servers)
+    for loss, part in zip(losses, parts):
+        left = part.service
+        for own, row in enumerate(left.rows):
+            weights = numpy.zeros(width)
+            weights[begin : begin + part.number] = [float(at == own) for at, _ in part.arcs]
+            rows.append(weights), low.append(row.count), high.append(row.count)
+        for server in servers:
+            weights = numpy.zeros(width)
+            weights[begin : begin + part.number] = [
+                float(left.server(at, left.rows[row].handle) == server) for row, at in part.arcs
+            ]
+            if server not in loss.servers:
+                weights[server.number] = -1
+            rows.append(weights), low.append(-numpy.inf), high.append(left.capacity(server))
+        for host in service.settings.get("host", []):
+            weights = numpy.zeros(width)
+            weights[begin : begin + part.number] = [
+                float(left.server(at, left.rows[row].handle).address == host["address"]) for row, at in part.arcs
+            ]
+            rows.append(weights), low.append(0), high.append(host["limit"])
+        begin += part.number
+    found = optimize.milp(
+        numpy.r_[numpy.ones(len(servers)), numpy.zeros(width - len(servers))],
+        constraints=optimize.LinearConstraint(numpy.array(rows), low, high),
+        integrality=numpy.ones(width),
+    )
+    return None if found.x is None else round(found.fun)
+
+
+@pytest.mark.parametrize("seed", range(40))
+def test_a_purchase_serves_every_loss_and_none_below_the_bound_does(tmp_path: Path, seed: int) -> None:
+    folder, programs = drawn_service(random.Random(seed), tmp_path, hosts=seed % 4 == 0), Judged()
+    service = read_service(str(folder), programs, {})
+    if not service.certificate.is_plan or not service.asked:
+        return
+    found = Purchases(service, programs).search()
+    served = [loss for loss in losses_of(service) if loss not in found.unserved]
+    for loss in served:
+        left = without(service, loss, programs, found.bought)
+        assert programs.plan(left.inputs)[0].is_plan
+    least = least_by_programme(service, served, programs)
+    assert least is not None and found.least <= least <= found.size
+    if not found.unserved and "host" not in service.settings:
+        assert found.size - found.least <= 1
+    for loss in found.unserved:
+        assert least_by_programme(service, [loss], programs) is None
+    sums = [sum(it.weight for it in found.lacks if own in it.servers) for own in service.servers]
+    assert all(own <= 1 for own in sums)
+
+
+def test_the_rounds_run_out(tmp_path: Path, monkeypatch: pytest.MonkeyPatch, hsp: Hsp) -> None:
+    """Then each loss buys what it still lacks, and both numbers are printed."""
+    monkeypatch.setattr("hsp.scenarios.purchase.MOST_ROUNDS", 1)
+    folder = three_sites(tmp_path, 100)
+    found = Purchases(read_service(str(folder), Judged(), {}), Judged()).search()
+    assert found.size >= 150 and found.lacks == []
+    monkeypatch.setattr("hsp.scenarios.purchase.MOST_ROUNDS", 2)
+    printed = hsp("survive", str(folder), "--buy", status=3).stdout
+    assert "serves every loss" in printed and "buy" in printed
+
+
+def test_the_page_shows_losses_and_growth(hsp: Hsp, example: Example) -> None:
+    folder = example("two-sites")
+    hsp("view", str(folder), "--more")
+    page = (folder / "plan.html").read_text()
+    for words in ("Fits until", "+17.33%", "short from +17.64% on", "Worst loss", "site reston", "short by 3,272 queries"):
+        assert words in page
+    lines = hsp("plan", str(folder), "--more", "--no-save").stdout.splitlines()
+    assert lines[-3].startswith("grow  fits until +17.33%; from +17.64% on 36 rows ask for more than 7,390")
+    assert lines[-2].startswith("loss  without site reston short by 3,272 queries; 0 of 8 losses leave a plan")
+
+
+def test_the_plan_before_is_known_where_it_is_kept(hsp: Hsp, example: Example, tmp_path: Path) -> None:
+    folder = example("two-sites")
+    hsp("plan", str(folder))
+    capacity = folder / "capacity.csv"
+    capacity.write_text(capacity.read_text().replace("paris,2,1510", "paris,2,1723"))
+    old = Path(shutil.copytree(folder, tmp_path / "old"))
+    lines = hsp("plan", str(folder), "--more").stdout
+    assert "moves 3.4% of the queries since the plan before" in lines
+    hsp("view", str(folder), "--before", str(old))
+    assert "<dt>Moves</dt><dd><b>3.4%</b><small>213 queries since the plan before" in (folder / "plan.html").read_text()
+
+
+def test_many_losses_are_announced(hsp: Hsp, tmp_path: Path, monkeypatch: pytest.MonkeyPatch) -> None:
+    monkeypatch.setattr("hsp.scenarios.command.MANY", 2)
+    monkeypatch.setattr("hsp.scenarios.judged.SAID", 0)
+    ended = hsp("survive", str(three_sites(tmp_path, 300)), "--no-save")
+    assert ended.stderr.startswith("hsp: 6 losses, about ") and "processors" in ended.stderr
+
+
+def test_a_certificate_without_a_yes_ends_all(example: Example, monkeypatch: pytest.MonkeyPatch) -> None:
+    from hsp.base.programs import Missing
+
+    service = read_service(str(example("two-sites")), Programs(), {})
+    programs = Judged()
+    monkeypatch.setattr(Programs, "verdict", lambda *words: "no: cost")
+    with pytest.raises(Missing, match="hsplan check says no: cost to hsplan's own plan"):
+        programs.plan(service.inputs)
+
+
+def test_files_that_are_read_are_not_written(hsp: Hsp, tmp_path: Path) -> None:
+    folder = three_sites(tmp_path, 300)
+    service = read_service(str(folder), Judged(), {})
+    kept = Fallbacks(str(folder), service, Judged())
+    (folder / "losses.csv").symlink_to(folder / "demand.csv")
+    with pytest.raises(Unfit, match="read and written"):
+        kept.refuse([])
