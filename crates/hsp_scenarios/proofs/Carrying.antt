@@ -80,9 +80,11 @@ module _ {A : Type 0} (site : A → ℕ) (n : Network A) (old : Plan) (p : Porti
     host_of = are.host_of;
   }
 
+  -- the portions are a network where nothing costs anything
   pub portions_free : IsNetwork (free p.network)
   portions_free = free_network site p.network are.portions
 
+  -- and so are the sources
   pub sources_free : IsNetwork (free n)
   sources_free = free_network site n are.network
 

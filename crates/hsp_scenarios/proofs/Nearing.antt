@@ -32,6 +32,7 @@ module _ {A : Type 0} (site : A → ℕ) (n : Network A) (old : Plan) (p : Porti
       (planned site p.network parts.0) parts.1.feasible.flow in
       omega (arith, least, parts.1.cost, (joined_plans A site n old p are y feasible).cost)
 
+  -- the joined plan is feasible
   plan : Feasible site n x
   plan = (joined_plans A site n old p are y feasible).feasible
 

@@ -54,6 +54,7 @@ module _ {A : Type 0} (site : A → ℕ) (n : Network A) (old : Plan) (p : Porti
   abbrev left_portions : Network A
   left_portions = with_numbers (free p.network) (listed count left) p.network.capacities p.network.limits
 
+  -- as many as there are
   portions_many : length left_portions.demands ≡ count
   portions_many = listed_many count left
 
@@ -64,6 +65,7 @@ module _ {A : Type 0} (site : A → ℕ) (n : Network A) (old : Plan) (p : Porti
   abbrev left_sources : Network A
   left_sources = with_numbers (free n) (listed (length n.demands) left_of) n.capacities n.limits
 
+  -- again as many
   sources_many : length left_sources.demands ≡ length n.demands
   sources_many = listed_many (length n.demands) left_of
 
@@ -82,6 +84,7 @@ module _ {A : Type 0} (site : A → ℕ) (n : Network A) (old : Plan) (p : Porti
       less true v w = omega arith
       less false v w = omega arith
 
+  -- over a host, too
   left_host_load : (h : ℕ) → host_load n (planned site n left_plan) h ≤ host_load n (planned site n x) h
   left_host_load h = sum_below_le (length n.capacities) _ _ (λ j l. grind (arith, left_load j))
 
@@ -119,6 +122,7 @@ module _ {A : Type 0} (site : A → ℕ) (n : Network A) (old : Plan) (p : Porti
       each true r s = omega (arith, kept_joined p x r s)
       each false r s = refl
 
+  -- so it is a plan of what is left
   left_feasible : Feasible site left_sources left_plan
   left_feasible = record {
     allowed = λ i s off. omega (arith, feasible.allowed i s off);
@@ -149,6 +153,7 @@ module _ {A : Type 0} (site : A → ℕ) (n : Network A) (old : Plan) (p : Porti
   abbrev rest : Plan
   rest = spread left_portions p.source_of left_plan
 
+  -- the rest is a plan of what is left of the portions, and adds up to what is left of the plan
   rest_spread : IsSpread site left_portions left_sources p.source_of left_plan rest
   rest_spread =
       let portions : IsNetwork left_portions = record {
@@ -216,6 +221,7 @@ module _ {A : Type 0} (site : A → ℕ) (n : Network A) (old : Plan) (p : Porti
       ∙ sum_below_same (length n.capacities) _ _
       (λ j l. ap (when (is_on (n.host_of j) h)) (sym (alike.load j) ∙ split_load j))
 
+  -- so it is a plan of the portions
   split_feasible : Feasible site p.network split
   split_feasible = record {
     allowed = λ k s off.

@@ -41,8 +41,8 @@ Split A =
     (site : A → ℕ) (n : Network A) (old : Plan) (p : Portions A) → ArePortions site n old p
     → (x : Plan) → Feasible site n x → (y : Plan) × IsSplit site n old p x y
 
--- Let each unit that moves cost one, and each unit of cost so many. Then no plan costs less than the joined one: prices
--- of portions show it.
+-- Let each unit that moves cost one, and each unit of cost so many. Prices of portions show that no plan costs less
+-- than the joined one then.
 abbrev pub PricesWeighMoves : Type 0 → Type 0
 PricesWeighMoves A =
     (site : A → ℕ) (n : Network A) (old : Plan) (p : Portions A) → ArePortions site n old p
