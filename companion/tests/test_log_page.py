@@ -19,8 +19,8 @@ from hsp.base.programs import Programs
 from hsp.plans.plans import planned
 from hsp.plans.service import read_service
 
+from browsers import WIDTHS, Page, allowed, assert_stands, browser
 from conftest import TOP, Hsp
-from test_page import CONTRAST, WIDTHS, Page, allowed, browser
 
 __all__ = ["browser"]
 NAMES = ("log", "short", "compared")
@@ -50,12 +50,7 @@ def pages(hsp: Hsp, tmp_path_factory: pytest.TempPathFactory) -> dict[str, Path]
 @pytest.mark.parametrize("width", WIDTHS)
 @pytest.mark.parametrize("name", NAMES)
 def test_a_page_stands(browser: Any, pages: dict[str, Path], name: str, width: int, scheme: str) -> None:
-    page = Page(browser, pages[name], width, scheme)
-    assert browser.get_log("browser") == []
-    assert page.requests() == []
-    assert page.run("return document.documentElement.scrollWidth") <= width
-    contrast, text = page.run(CONTRAST)
-    assert contrast >= 4.5, f"{text}: {contrast:.2f}"
+    page = assert_stands(browser, pages[name], width, scheme)
     policy = f"default-src 'none'; {allowed('style', page_text(page))}; {allowed('script', page_text(page))}"
     assert policy in page_text(page)
 

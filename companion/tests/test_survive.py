@@ -62,7 +62,7 @@ def test_each_loss_is_planned_and_judged(hsp: Hsp, tmp_path: Path, seed: int) ->
     if not service.certificate.is_plan:
         assert "with nothing lost" in hsp("survive", str(folder), status=3).stdout
         return
-    printed = hsp("survive", str(folder), "--csv", status=-1 if False else expected(service, programs)).stdout
+    printed = hsp("survive", str(folder), "--csv", status=expected(service, programs)).stdout
     rows = table_of(printed)
     assert printed == (folder / "fallback/losses.csv").read_text()
     assert {it["kind"] for it in rows} <= {SITE, SERVER, HOST}

@@ -185,8 +185,7 @@ def _save(found: Day, folder: str, page: str, programs: Judged) -> None:
     """Writes all plans and the page together."""
     contents = _kept(found, folder, programs)
     inputs, _ = in_units(found.service, programs, path_in(folder, PLAN))
-    answered = replace(found.service, inputs=inputs, given=inputs)
-    commands = {plan.hour.name: command_of(answered, folder, plan) for plan in found.plans}
+    commands = {plan.hour.name: command_of(inputs, found.service.unit, plan) for plan in found.plans}
     paths = {block.name: path_in(folder, os.path.join(BLOCKS, block.name, PLAN)) for block in found.blocks}
     text = render_day(found, folder, commands, paths, programs.judged_so_far)
     for path in contents:

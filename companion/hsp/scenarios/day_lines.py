@@ -95,7 +95,7 @@ def verdicts(day: Day) -> Iterator[str]:
     worst, busiest = day.worst, day.busiest
     unit = f" {day.service.titles.cost}" if day.service.titles.cost else ""
     then = f"{worst.each:.1f}{unit} a query" if worst.is_plan else f"short by {queries_of(worst.lack)}"
-    yield f"worst {worst.hour.label}: {then}; the busiest is {busiest.hour.label} with {queries_of(busiest.hour.asked)}"
+    yield f"worst {worst.hour.clock}: {then}; the busiest is {busiest.hour.clock} with {queries_of(busiest.hour.asked)}"
     short = [plan.hour.label for plan in day.plans if not plan.is_plan]
     if short:
         yield f"short {some(len(short), 'hour')}: {listed(short, NAMED)}"
@@ -106,7 +106,7 @@ def verdicts(day: Day) -> Iterator[str]:
         yield (
             f"block {some(len(day.blocks), 'plan')} {'serves' if one else 'serve'} {some(served, 'hour')}, "
             f"{'it' if one else 'each'} as it stands: {names}; {part(float(day.price))} above "
-            f"{some(served, 'plan')}, and fewer can't"
+            f"{some(served, 'plan')}, and fewer don't serve them"
         )
 
 

@@ -8,7 +8,7 @@ from dataclasses import dataclass
 
 from hsp.base.numbers import part, some
 from hsp.base.paths import path_in
-from hsp.base.programs import Load
+from hsp.base.programs import Inputs, Load
 from hsp.plans.answering import answer_command
 from hsp.plans.page import environment
 from hsp.plans.service import Service
@@ -54,10 +54,9 @@ class BlockView:
     path: str
 
 
-def command_of(service: Service, folder: str, plan: HourPlan) -> str:
-    """The command that answers by an hour's plan."""
-    inputs = service.own_inputs.but(demand=plan.hour.demand)
-    return answer_command(inputs, path_in(plan.hour.folder, "plan.txt"), service.unit)
+def command_of(inputs: Inputs, unit: int, plan: HourPlan) -> str:
+    """The command that answers by an hour's plan. The inputs are those in units."""
+    return answer_command(inputs.but(demand=plan.hour.demand), path_in(plan.hour.folder, "plan.txt"), unit)
 
 
 def _shares(service: Service, plan: HourPlan) -> dict[str, list[int]]:
@@ -72,7 +71,7 @@ def _shares(service: Service, plan: HourPlan) -> dict[str, list[int]]:
 
 def _hour(service: Service, plan: HourPlan, command: str) -> dict[str, object]:
     return {
-        "label": plan.hour.label,
+        "label": plan.hour.clock,
         "asked": plan.hour.asked,
         "cost": plan.certificate.cost,
         "each": f"{plan.each:.1f}",
@@ -92,7 +91,7 @@ def _columns(day: Day) -> list[Column]:
     found = []
     for plan in day.plans:
         then = f"{plan.each:.1f} a query" if plan.is_plan else f"short by {plan.lack:,}"
-        title = f"{plan.hour.label}: {plan.hour.asked:,} queries, {then}"
+        title = f"{plan.hour.clock}: {plan.hour.asked:,} queries, {then}"
         height = round(COST_HEIGHT * plan.each / most) if plan.is_plan else COST_HEIGHT
         low = round(ASKED_HEIGHT * plan.hour.asked / asked)
         found.append(Column(plan.hour.label, title, height, low, not plan.is_plan, plan is day.worst))

@@ -35,6 +35,11 @@ class Hour:
         return self.name.replace("-h", " ").removeprefix("h")
 
     @property
+    def clock(self) -> str:
+        """When it begins: `09:00`, or `mon 09:00`."""
+        return f"{self.label}:00"
+
+    @property
     def demand(self) -> str:
         return path_in(self.folder, NAMES["demand"])
 

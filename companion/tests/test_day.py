@@ -1,0 +1,297 @@
+"""hsp day: hours against the planner, blocks against all that could be, and against their hours' own queries."""
+
+from __future__ import annotations
+
+import csv
+import io
+import random
+import re
+import subprocess
+from fractions import Fraction
+from pathlib import Path
+from typing import Any
+
+import pytest
+
+from hsp.base.programs import Programs, program
+from hsp.plans.service import Service, read_service
+from hsp.scenarios.blocks import fewest, price
+from hsp.scenarios.hours import all_planned, names_in, of_hour, read_hour
+from hsp.scenarios.judged import Judged
+from hsp.scenarios.nearest import homes_of, portions_of
+
+from browsers import WIDTHS, Page, allowed, assert_stands, browser
+from conftest import Hsp
+from printed import assert_kept
+from scenarios import Example, Flows, demand_of, drawn_service
+
+__all__ = ["browser"]
+
+
+def drawn_day(draw: random.Random, folder: Path, hours: int, hosts: bool = False) -> Path:
+    """A drawn service with some hours, in which each row counts at most what it counts in the service."""
+    drawn_service(draw, folder, hosts)
+    rows = [line.split(",") for line in (folder / "demand.csv").read_text().splitlines()[1:]]
+    for hour in range(hours):
+        own = folder / f"h{hour:02}"
+        own.mkdir()
+        counts = [(region, handle, draw.randint(0, int(count))) for region, handle, count in rows]
+        (own / "demand.csv").write_bytes(demand_of(counts))
+    return folder
+
+
+def read_day(folder: Path, programs: Judged) -> tuple[Service, list[Any]]:
+    service = read_service(str(folder), programs, {"demand": str(folder / "h00/demand.csv")})
+    names = names_in(str(folder))
+    return service, [read_hour(service, str(folder / name), name) for name in names]
+
+
+def greatest(hours: list[Any]) -> list[int]:
+    return [max(own) for own in zip(*(hour.counts for hour in hours))]
+
+
+def has_plan(service: Service, counts: list[int], programs: Programs) -> bool:
+    rows = [(row.region, row.handle, count) for row, count in zip(service.rows, counts)]
+    return programs.plan(service.inputs.but(demand=programs.put(demand_of(rows), ".csv")))[0].is_plan
+
+
+def fewest_of_all(service: Service, hours: list[Any], programs: Programs) -> int:
+    """The fewest blocks, of all ways to cut the hours."""
+    least = [0]
+    for end in range(1, len(hours) + 1):
+        ways = [
+            least[begin] + 1
+            for begin in range(end)
+            if least[begin] < 100 and has_plan(service, greatest(hours[begin:end]), programs)
+        ]
+        least.append(min(ways, default=100))
+    return least[-1]
+
+
+@pytest.mark.parametrize("seed", range(20))
+def test_blocks_are_the_fewest_and_serve_their_hours(tmp_path: Path, seed: int) -> None:
+    """Each hour's queries, one after the other, are answered by the block's plan without a single `spent`."""
+    programs = Judged()
+    folder = drawn_day(random.Random(seed), tmp_path / "it", 6, hosts=bool(seed % 2))
+    service, hours = read_day(folder, programs)
+    plans = all_planned(service, hours, programs)
+    blocks = fewest(service, plans, programs)
+    assert [hour.name for block in blocks for hour in block.hours] == [it.hour.name for it in plans if it.is_plan]
+    if all(it.is_plan for it in plans):
+        assert len(blocks) == fewest_of_all(service, hours, programs)
+    whole = Fraction(0)
+    for block in blocks:
+        assert block.counts == greatest(list(block.hours))
+        for hour in block.hours:
+            asked = [row for row, count in zip(service.rows, hour.counts) for _ in range(count)]
+            log = programs.put_table("region,handle", ((row.region, row.handle) for row in asked))
+            words = [program("hsplan"), "dispatch", *block.inputs.words(), "--plan", block.plan_file, "--log", log]
+            done = subprocess.run(words, capture_output=True, text=True)
+            assert done.stderr.strip() == f"assigned {len(asked)} spent 0 unknown 0", done.stderr
+            shares = {(row, site): Fraction(n, block.counts[row]) for row, site, n in block.certificate.uses}
+            costs = {
+                (row, site): service.costs[service.rows[row].region, service.sites[site].name] for row, site in shares
+            }
+            whole += sum((share * hour.counts[key[0]] * costs[key] for key, share in shares.items()), Fraction(0))
+    least = sum(it.certificate.cost for it in plans if it.is_plan)
+    assert price(service, plans, blocks) == ((whole - least) / least if least else 0)
+
+
+def test_each_hour_is_planned(hsp: Hsp, tmp_path: Path) -> None:
+    folder = drawn_day(random.Random(11), tmp_path / "it", 4)
+    text = hsp("day", str(folder), "--csv").stdout
+    programs = Programs()
+    rows = list(csv.DictReader(io.StringIO(text)))
+    assert [it["hour"] for it in rows] == ["h00", "h01", "h02", "h03"]
+    for it in rows:
+        service = read_service(str(folder), programs, {"demand": str(folder / it["hour"] / "demand.csv")})
+        assert int(it["cost"]) == service.certificate.cost and int(it["queries"]) == service.asked
+        assert programs.verdict(service.inputs, str(folder / it["hour"] / "plan.txt")) == "yes"
+        kept = folder / "blocks" / it["block"]
+        block = service.inputs.but(demand=str(kept / "demand.csv"))
+        assert programs.verdict(block, str(kept / "plan.txt")) == "yes"
+
+
+@pytest.mark.parametrize("seed", range(8))
+def test_a_chain_moves_the_fewest_from_hour_to_hour(hsp: Hsp, tmp_path: Path, seed: int) -> None:
+    folder = drawn_day(random.Random(seed), tmp_path / "it", 4)
+    text = hsp("day", str(folder), "--near", "--csv", status=status_of(folder)).stdout
+    rows = list(csv.DictReader(io.StringIO(text)))
+    programs = Judged()
+    service, hours = read_day(folder, programs)
+    before: Service | None = None
+    for it, hour in zip(rows, hours):
+        if it["served"] == "false":
+            before = None
+            continue
+        now = of_hour(service, hour)
+        certificate = type(service.certificate)((folder / it["hour"] / "plan.txt").read_text())
+        flows = Flows(now)
+        assert certificate.cost == flows.cheapest() == int(it["cost"])
+        if before is not None:
+            homes = homes_of(before, before.certificate, False)
+            old = {(own.row, own.home): own.units for own in portions_of(now, homes, False) if own.home is not None}
+            assert int(it["moved"]) == flows.fewest_moved(certificate.cost, old)
+        else:
+            assert it["moved"] == ""
+        before = Service(**{**now.__dict__, "certificate": certificate})
+
+
+def status_of(folder: Path) -> int:
+    """3 where an hour has no plan."""
+    programs = Judged()
+    return 0 if all(it.is_plan for it in all_planned(*read_day(folder, programs), programs)) else 3
+
+
+def test_the_lines_of_a_day(hsp: Hsp, day: Path) -> None:
+    printed = hsp("day", str(day), "--near", "--reserve", "1").stdout.replace(str(day), "DIR")
+    assert_kept("day", "two-sites", printed)
+
+
+@pytest.fixture
+def day(example: Example) -> Path:
+    """The example of two sites with a day: each region asks for most when it is afternoon there."""
+    return with_hours(example("two-sites"))
+
+
+def with_hours(folder: Path) -> Path:
+    noon = {"eu": 13, "us": 19, "asia": 6}
+    rows = [line.split(",") for line in (folder / "demand.csv").read_text().splitlines()[1:]]
+    for hour in range(24):
+        own = folder / f"h{hour:02}"
+        own.mkdir()
+        part = {region: 12 - min(abs(hour - at), 24 - abs(hour - at)) for region, at in noon.items()}
+        counts = [(region, handle, int(count) * (4 + part[region]) // 13) for region, handle, count in rows]
+        (own / "demand.csv").write_bytes(demand_of(counts))
+    return folder
+
+
+def test_short_hours_keep_no_plan(hsp: Hsp, day: Path) -> None:
+    """An hour that lacks room is named, ends with status 3, and loses the plan that it had."""
+    hsp("day", str(day))
+    assert (day / "h13/plan.txt").exists()
+    rows = (day / "h13/demand.csv").read_text()
+    (day / "h13/demand.csv").write_text(re.sub(r",(\d+)$", lambda it: f",{3 * int(it[1])}", rows, flags=re.M))
+    lines = hsp("day", str(day), status=3).stdout.splitlines()
+    assert any(re.match(r"  13 +\d+,\d+  short by [\d,]+ queries", line) for line in lines)
+    assert "short 1 hour: 13" in lines and any(line.startswith("worst 13:00: short by") for line in lines)
+    assert not (day / "h13/plan.txt").exists() and (day / "h12/plan.txt").exists()
+    names = sorted(it.name for it in (day / "blocks").iterdir() if (it / "plan.txt").exists())
+    assert any(name.endswith("to-h12") for name in names) and any(name.startswith("h14") for name in names)
+
+
+def test_what_is_no_day(hsp: Hsp, day: Path, tmp_path: Path) -> None:
+    ended = hsp("day", str(tmp_path), status=5)
+    assert ended.stderr == (
+        f"hsp: {tmp_path}/h00: no demand of hours is here; hsp demand --by hour --into writes it\n"
+    )
+    assert "weekday-hour" in hsp("day", str(day), "--week", status=5).stderr
+    (day / "h05/demand.csv").write_text("region,handle,count\neu,20.1/x,1\n")
+    assert f"{day}/h05/demand.csv: its rows are others than those of {day}/h00/demand.csv" in (
+        hsp("day", str(day), status=1).stderr
+    )
+    (day / "h05/demand.csv").write_text((day / "h04/demand.csv").read_text())
+    (day / "h05/hsp.toml").write_text('[demand]\nrows = "kinds"\n')
+    assert "its rows or its unit are others" in hsp("day", str(day), status=1).stderr
+    (day / "h05/hsp.toml").unlink()
+    (day / "h06/demand.csv").write_text((day / "h04/demand.csv").read_text().replace("report-2024,", "report-2024,x", 1))
+    assert "hsplan refuses these files: demand: BadNumber row 0" in hsp("day", str(day), status=1).stderr
+
+
+def test_a_week_has_its_own_hours(hsp: Hsp, day: Path) -> None:
+    for name in ("mon-h09", "sun-h23", "tue-h00"):
+        (day / name).mkdir()
+        (day / name / "demand.csv").write_bytes((day / "h09/demand.csv").read_bytes())
+    assert len(names_in(str(day))) == 24
+    rows = list(csv.DictReader(io.StringIO(hsp("day", str(day), "--week", "--csv").stdout)))
+    assert [it["hour"] for it in rows] == ["mon-h09", "tue-h00", "sun-h23"]
+    assert "plans through the week" in (day / "day.html").read_text()
+
+
+def test_hours_in_units_are_answered_in_units(hsp: Hsp, day: Path) -> None:
+    """Each hour counts in units of ten, and so do the capacities that are kept."""
+    for hour in range(24):
+        (day / f"h{hour:02}/hsp.toml").write_text('[demand]\nrows = "handles"\nunit = 10\n')
+    rooms = re.sub(r",(\d+)$", r",\g<1>0", (day / "capacity.csv").read_text(), flags=re.M)
+    (day / "capacity.csv").write_text(rooms)
+    hsp("day", str(day))
+    page = (day / "day.html").read_text()
+    command = re.search(r"hsplan-stream answer [^\"<]*h13/plan.txt --unit 10 --log /dev/stdin", page)
+    assert command and "capacity-in-units.csv" in command[0]
+    words = command[0].replace("\\u0026", "&").split()[1:]
+    done = subprocess.run(
+        [program("hsplan-stream"), *words], input="region,handle\neu,20.500.1234/film-5\n", capture_output=True, text=True
+    )
+    assert done.stdout.startswith("assigned "), done
+
+
+def test_a_link_is_not_written_through(hsp: Hsp, day: Path, tmp_path: Path) -> None:
+    (tmp_path / "other").mkdir()
+    (day / "blocks").symlink_to(tmp_path / "other")
+    ended = hsp("day", str(day), status=1)
+    assert ended.stderr == f"hsp: {day}/blocks: no folder of its own; plans are written there\n"
+    assert list((tmp_path / "other").iterdir()) == []
+
+
+@pytest.fixture(scope="module")
+def page_of_day(hsp: Hsp, tmp_path_factory: pytest.TempPathFactory) -> Path:
+    import shutil
+
+    from conftest import TOP
+
+    folder = Path(shutil.copytree(TOP / "examples/two-sites", tmp_path_factory.mktemp("day") / "two"))
+    (folder / "plan.html").unlink()
+    hsp("day", str(with_hours(folder)), "--near", "--unit", "ms")
+    return folder / "day.html"
+
+
+@pytest.mark.parametrize("scheme", ["light", "dark"])
+@pytest.mark.parametrize("width", WIDTHS)
+def test_the_page_stands(browser: Any, page_of_day: Path, width: int, scheme: str) -> None:
+    page = assert_stands(browser, page_of_day, width, scheme)
+    text = page.path.read_text(encoding="utf-8")
+    assert f"default-src 'none'; {allowed('style', text)}; {allowed('script', text)}" in text
+    assert " style=" not in text and " onclick=" not in text
+
+
+def test_a_click_shows_an_hour(browser: Any, page_of_day: Path) -> None:
+    """The worst hour stands there first; another one's numbers are those of hsplan's report."""
+    page, programs = Page(browser, page_of_day, 1200, "light"), Programs()
+    pressed = "return [...document.querySelectorAll('#columns [aria-pressed=true]')].map(it => it.innerText)"
+    worst = re.search(r"(\d\d):00 is the dearest", page.text())
+    assert worst and page.run(pressed) == [worst[1]]
+    page.run("document.querySelectorAll('#columns button')[13].click()")
+    assert page.run(pressed) == ["13"] and page.run("return document.getElementById('chosen').innerText") == "13:00"
+    folder = page_of_day.parent
+    service = read_service(str(folder), programs, {"demand": str(folder / "h13/demand.csv")})
+    loads, _ = programs.loads(service.inputs, str(folder / "h13/plan.txt"))
+    cells = "return [...document.getElementById('loads').rows].map(r => [...r.cells].map(c => c.innerText))"
+    shown = page.run(cells)
+    assert [row[0] for row in shown] == [server.label for server in service.servers]
+    assert [row[1] for row in shown] == [f"{own.load:,} / {own.capacity:,}" for own in loads]
+    assert f"--plan {folder}/h13/plan.txt" in page.run("return document.getElementById('commands').innerText")
+    asked = f"{service.asked:,} queries cost {service.certificate.cost:,} ms"
+    assert asked in page.run("return document.getElementById('sums').innerText")
+
+
+def test_the_grid_has_each_hour(browser: Any, page_of_day: Path) -> None:
+    page = Page(browser, page_of_day, 1200, "light")
+    rows = page.run(
+        "return [...document.querySelectorAll('#servers-by-hours tbody tr')].map(r => [...r.cells].map(c => c.className + c.innerText))"
+    )
+    assert rows and all(len(row) == 25 for row in rows)
+    priced = sum("is-dear" in cell for row in rows for cell in row)
+    folder, programs = page_of_day.parent, Programs()
+    wanted = 0
+    for hour in range(24):
+        inputs = read_service(str(folder), programs, {"demand": str(folder / f"h{hour:02}/demand.csv")}).inputs
+        wanted += sum(load.price > 0 for load in programs.loads(inputs, str(folder / f"h{hour:02}/plan.txt"))[0])
+    assert priced == wanted > 0
+
+
+def test_a_page_without_scripts_has_its_hours(browser: Any, page_of_day: Path, tmp_path: Path) -> None:
+    text = re.sub(r"<script.*?</script>", "", page_of_day.read_text(encoding="utf-8"), flags=re.S)
+    plain = tmp_path / "plain.html"
+    plain.write_text(text, encoding="utf-8")
+    page = Page(browser, plain, 1200, "light")
+    assert "Everyone is served at every hour." in page.text() and "hsplan-stream answer" in page.text()
