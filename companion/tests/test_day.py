@@ -22,7 +22,6 @@ from hsp.scenarios.nearest import homes_of, portions_of
 
 from browsers import WIDTHS, Page, allowed, assert_stands, browser
 from conftest import Hsp
-from printed import assert_kept
 from scenarios import Example, Flows, demand_of, drawn_service
 
 __all__ = ["browser"]
@@ -143,11 +142,6 @@ def status_of(folder: Path) -> int:
     return 0 if all(it.is_plan for it in all_planned(*read_day(folder, programs), programs)) else 3
 
 
-def test_the_lines_of_a_day(hsp: Hsp, day: Path) -> None:
-    printed = hsp("day", str(day), "--near", "--reserve", "1").stdout.replace(str(day), "DIR")
-    assert_kept("day", "two-sites", printed)
-
-
 @pytest.fixture
 def day(example: Example) -> Path:
     """The example of two sites with a day: each region asks for most when it is afternoon there."""
@@ -223,6 +217,14 @@ def test_hours_in_units_are_answered_in_units(hsp: Hsp, day: Path) -> None:
         [program("hsplan-stream"), *words], input="region,handle\neu,20.500.1234/film-5\n", capture_output=True, text=True
     )
     assert done.stdout.startswith("assigned "), done
+
+
+def test_a_count_of_0_is_meant_in_an_hour(hsp: Hsp, day: Path) -> None:
+    rows = (day / "h00/demand.csv").read_text().splitlines()
+    (day / "h00/demand.csv").write_text("\n".join([rows[0], rows[1].rpartition(",")[0] + ",0", *rows[2:], ""]))
+    assert hsp("day", str(day)).stderr == ""
+    (day / "demand.csv").write_bytes((day / "h00/demand.csv").read_bytes())
+    assert "1 warning: eu asks 0 times" in hsp("plan", str(day)).stderr
 
 
 def test_a_link_is_not_written_through(hsp: Hsp, day: Path, tmp_path: Path) -> None:

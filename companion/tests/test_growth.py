@@ -16,7 +16,6 @@ from hsp.scenarios.growth import STEP, Growing, Growth, grown, percent_of
 from hsp.scenarios.judged import Judged
 
 from conftest import Hsp
-from printed import assert_kept
 from scenarios import Example, demand_of, drawn_service, put
 
 
@@ -32,8 +31,6 @@ def test_two_sites_by_hand(hsp: Hsp, example: Example) -> None:
     assert sum(times(row.count, Fraction(11_734, STEP)) for row in service.rows) > 7_390
     asked = [sum(times(row.count, Fraction(at, STEP)) for row in service.rows) for at in (11_733, 11_764)]
     assert asked[0] <= 7_390 < asked[1]
-    printed = hsp("grow", str(folder)).stdout.replace(str(folder), "DIR")
-    assert_kept("grow", "two-sites", printed)
 
 
 def status_at(folder: Path, factor: int, region: str | None, programs: Programs) -> bool:

@@ -58,6 +58,7 @@ def test_a_page_stands(browser: Any, pages: dict[str, Path], name: str, width: i
     assert_stands(browser, pages[name], width, scheme)
 
 
+@pytest.mark.parametrize("name", ["two-sites", "base", "twelve-sites"])
 def test_a_page_has_the_numbers_of_the_reports(browser: Any, pages: dict[str, Path], twelve: Path, name: str) -> None:
     folder = twelve if name == "twelve-sites" else pages[name].parent / name
     programs = Programs()

@@ -26,7 +26,6 @@ from hsp.scenarios.purchase import Purchases
 from lib import examples
 
 from conftest import Hsp
-from printed import assert_kept
 from scenarios import Example, Flows, demand_of, drawn_service, put
 
 
@@ -47,10 +46,9 @@ def own_without(service: Service, programs: Programs, kind: str, what: str) -> t
 
 def test_two_sites_lose_all(hsp: Hsp, example: Example) -> None:
     folder = example("two-sites")
-    printed = hsp("survive", str(folder), "--buy", status=3).stdout.replace(str(folder), "DIR")
+    printed = hsp("survive", str(folder), "--buy", status=3).stdout
     assert "buy   room for 5,174 queries more" in printed
     assert "no purchase below 5,174 does, by 2 short sets of weight 1" in printed
-    assert_kept("survive", "two-sites", printed)
 
 
 @pytest.mark.parametrize("seed", range(25))

@@ -292,10 +292,13 @@ def answer_json(index: int, name: str, serial: int, addresses: list[str]) -> byt
     return (json.dumps(answer, indent=1) + "\n").encode()
 
 
-def access_line(at: int, client: str, request: str, status: int) -> str:
-    seconds = at * 6
-    time = f"26/Nov/2026:09:{seconds // 60:02}:{seconds % 60:02} +0000"
+def access_line(time: str, client: str, request: str, status: int) -> str:
     return f'{client} - - [{time}] "{request} HTTP/1.1" {status} - "-" "curl/7.88.1"\n'
+
+
+def time_of(hour: int, seconds: int) -> str:
+    """A time of a day, as logs have it."""
+    return f"26/Nov/2026:{hour:02}:{seconds // 60:02}:{seconds % 60:02} +0000"
 
 
 def access_log(number: int) -> bytes:
@@ -307,8 +310,35 @@ def access_log(number: int) -> bytes:
         odd = NO_QUERIES[drawn(len(NO_QUERIES), "odd", at)]
         path = urllib.parse.quote(handle) if drawn(2, "quoted", at) else handle.replace("-", "%2D")
         lines.append(
-            access_line(at, client, odd if at % 10 == 9 else f"GET /{path}{query}", 200 if at % 10 == 9 else 302)
+            access_line(
+                time_of(9, at * 6),
+                client,
+                odd if at % 10 == 9 else f"GET /{path}{query}",
+                200 if at % 10 == 9 else 302,
+            )
         )
+    return "".join(lines).encode()
+
+
+# The hour, in the zone of the log, at which a region asks most.
+NOONS = {"eu": 12, "us": 18, "asia": 5}
+
+
+def hour_demand(hour: int) -> list[Demanded]:
+    """The demand of an hour: a region asks for a quarter at midnight of what it asks for at noon."""
+    away = {region: min(abs(hour - noon), 24 - abs(hour - noon)) for region, noon in NOONS.items()}
+    return [(region, handle, count * (16 - away[region]) // 16) for region, handle, count in two_demand()]
+
+
+def day_log(part: int) -> bytes:
+    """The log of a handle proxy over a day, with one of so many queries."""
+    lines = []
+    for hour in range(24):
+        demand = hour_demand(hour)
+        number = sum(row[2] for row in demand) // part
+        for at, (region, handle) in enumerate(log_rows(demand, number, f"day-{hour}")):
+            client = CLIENTS[region][drawn(len(CLIENTS[region]), "client of the day", hour, at)]
+            lines.append(access_line(time_of(hour, at * 3600 // number), client, f"GET /{handle}", 302))
     return "".join(lines).encode()
 
 
@@ -318,6 +348,7 @@ def bring_in() -> Files:
         "reston.json": answer_json(4, "reston", 8, TWO_SITES["reston"]),
         "networks.csv": table("network,region", NETWORKS),
         "access.log": access_log(600),
+        "day.log": day_log(40),
     }
 
 

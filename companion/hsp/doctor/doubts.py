@@ -28,7 +28,7 @@ from hsp.doctor.toml_places import value_of
 from hsp.plans.marks import KEYS as MARK_KEYS
 from hsp.plans.marks import TABLE, TITLES
 from hsp.plans.proxied import PROXY, PROXY_KEYS, proxied_of
-from hsp.plans.service import ACCEPT, NAMES, TITLE_KEYS, VALUES, Service, dotted, newer_than
+from hsp.plans.service import ACCEPT, NAMES, TITLE_KEYS, VALUES, Service, dotted, is_of_hour, newer_than
 
 # A demand beyond so many times all capacity, or a capacity beyond so many times the demand, has likely another unit.
 FAR_ABOVE, FAR_BELOW = 10, 1000
@@ -240,7 +240,7 @@ def hosts(read: Read) -> None:
 def zeros(read: Read) -> None:
     """Counts and capacities of 0."""
     for row in read.demand.rows:
-        if row.fields[2] == "0":
+        if row.fields[2] == "0" and not is_of_hour(read.service.inputs.demand):
             message = f"{row.fields[0]} asks 0 times for {read.service.like(quoted(row.fields[1]))}"
             remedy = "take the row out, or write its count"
             words = Words(message, remedy, "the row asks for nothing", "", "count 0", f"count 0 {row.fields[0]}")

@@ -27,6 +27,9 @@ from hsp.plans.marks import TITLES, Mark, mark_in, titles_of
 # The conventional names of the files.
 NAMES = {"settings": "settings.toml", "demand": "demand.csv", "costs": "costs.csv", "capacity": "capacity.csv"}
 VALUES = "sites.values"
+# The folders of hours: `h09` of a day, `mon-h09` of a week.
+OF_DAY = re.compile(r"h([01][0-9]|2[0-3])")
+OF_WEEK = re.compile(r"(mon|tue|wed|thu|fri|sat|sun)-h([01][0-9]|2[0-3])")
 TITLE_KEYS = ("title", "cost", "time")
 # Names of warnings that are meant.
 ACCEPT = "accept"
@@ -261,6 +264,12 @@ def dotted(address: str) -> str:
     return str(ipaddress.IPv6Address(octets))
 
 
+def is_of_hour(demand: str) -> bool:
+    """Whether a demand is that of an hour. It has the rows of all hours, so a count of 0 is meant."""
+    name = os.path.basename(os.path.dirname(os.path.abspath(demand)))
+    return bool(OF_DAY.fullmatch(name) or OF_WEEK.fullmatch(name))
+
+
 def titles_in(folder: str, title: str | None, cost: str | None) -> Titles:
     """The words of `hsp.toml`; a title and a unit of cost that were given come first, the folder's name last."""
     said = titles_of(folder)
@@ -358,7 +367,10 @@ __all__ = [
     "Site",
     "Titles",
     "dotted",
+    "OF_DAY",
+    "OF_WEEK",
     "inputs_in",
+    "is_of_hour",
     "mark_of",
     "newer_than",
     "read_service",

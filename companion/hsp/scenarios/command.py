@@ -29,13 +29,15 @@ from hsp.scenarios.reserve import RESERVE, reserved
 SHORTAGE = 3
 # The growths of which the least purchase is shown.
 PERCENTS = (10, 20, 50)
+# The options of `hsp survive` beside those for other files.
+WORDS = ("reserve", "near", "buy", "into", "no_save", "unit", "every", "as_csv")
 # Above so many losses, it is said beforehand how long they take.
 MANY = 200
 
 
-def _asking(folder: str, programs: Judged, given: dict[str, str | None]) -> Service:
+def _asking(folder: str, programs: Judged, given: dict[str, str | None], unit: str | None) -> Service:
     """A service with sites, to which somebody asks something."""
-    service = sound(folder, programs, given)
+    service = sound(folder, programs, given, cost=unit)
     if not service.sites:
         raise Unfit(f"{service.inputs.settings}: no site, so nobody can answer")
     if not service.asked:
@@ -55,15 +57,18 @@ def _asking(folder: str, programs: Judged, given: dict[str, str | None]) -> Serv
     metavar="P",
     help="show the least purchase for P % more",
 )
+@click.option("--unit", help="of costs, such as ms")
 @click.option("--json", "as_json", is_flag=True, help="the same for other programs")
-def grow(folder: str, percents: tuple[int, ...], as_json: bool, **given: str | None) -> None:
+def grow(
+    folder: str, percents: tuple[int, ...], unit: str | None, as_json: bool, **given: str | None
+) -> None:
     """Shows how far the demand can grow before something is short.
 
     All demand together, and each region by itself. Up to the first number a plan serves every demand of no greater
     counts. From the second on the named rows ask for more than their servers take. Between them rounding decides.
     """
     programs = Judged()
-    service = _asking(folder, programs, given)
+    service = _asking(folder, programs, given, unit)
     regions = len(service.regions)
     done = Progress(1 + regions + len(percents))
     growths = grown(service, programs, done)
@@ -122,6 +127,7 @@ def _first(service: Service, programs: Judged, portions: Portions | None) -> Non
 @click.option("--buy", is_flag=True, help="one purchase of room that serves every loss; needs python3-scipy")
 @click.option("--into", metavar="FOLDER", type=click.Path(file_okay=False), help="in place of DIR/fallback")
 @click.option("--no-save", is_flag=True, help="keep no fallback plan")
+@click.option("--unit", help="of costs, such as ms")
 @click.option("--all", "every", is_flag=True, help="all losses")
 @click.option("--csv", "as_csv", is_flag=True, help="all losses, for other programs")
 def survive(folder: str, **given: Any) -> None:
@@ -130,11 +136,11 @@ def survive(folder: str, **given: Any) -> None:
     Each loss that leaves a plan has a fallback in DIR/fallback: a cheapest plan that moves the fewest queries. Status
     3 means that some loss leaves a shortage.
     """
-    own = {key: given.pop(key) for key in ("reserve", "near", "buy", "into", "no_save", "every", "as_csv")}
+    own = {key: given.pop(key) for key in WORDS}
     programs = Judged()
     if own["buy"]:
         solver()
-    service = reserved(_asking(folder, programs, given), own["reserve"], programs)
+    service = reserved(_asking(folder, programs, given, own["unit"]), own["reserve"], programs)
     if not service.certificate.is_plan:
         _short(service)
     portions, near = _near(own["near"], service, programs)

@@ -73,18 +73,19 @@ def lines(service: Service, all_growths: Sequence[Growth], purchases: Sequence[P
         binds = "" if not own or (short and own.servers == short.servers) else f": {where(service, own)}"
         yield f"{word}{(growth.region or '').ljust(wide)}  {span(growth)}" + (f" short{binds}" if own else "")
     for at, purchase in enumerate(purchases):
-        yield ("buy   " if not at else "      ") + _need(purchase)
+        yield ("buy   " if not at else "      ") + _need(service, purchase)
 
 
-def _need(purchase: Purchase) -> str:
+def _need(service: Service, purchase: Purchase) -> str:
     head = f"{colored(f'+{purchase.percent}%', 'yellow')}  "
+    cost = f"the cost is then {purchase.cost or 0:,}{' ' if service.titles.cost else ''}{service.titles.cost}"
     if purchase.bought is None:
         return f"{head}room for at least {queries_of(purchase.lack)} more"
     if not purchase.bought:
-        return f"{head}no room; the cost is then {purchase.cost:,}"
+        return f"{head}no room; {cost}"
     names = ranked(purchase.bought)
     size = sum(purchase.bought.values())
-    return f"{head}room for {queries_of(size)} more, the least that suffices: {names}; the cost is then {purchase.cost:,}"
+    return f"{head}room for {queries_of(size)} more, the least that suffices: {names}; {cost}"
 
 
 def ranked(bought: dict[Server, int]) -> str:

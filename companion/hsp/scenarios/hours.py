@@ -3,7 +3,6 @@
 from __future__ import annotations
 
 import os
-import re
 from collections.abc import Callable, Sequence
 from dataclasses import dataclass, replace
 
@@ -11,12 +10,9 @@ from hsp.base.paths import path_in
 from hsp.base.programs import Certificate, Load, Missing
 from hsp.base.unfit import Unfit
 from hsp.plans.marks import mark_in
-from hsp.plans.service import NAMES, Row, Service, table
+from hsp.plans.service import NAMES, OF_DAY, OF_WEEK, Row, Service, table
 from hsp.scenarios.judged import Judged, side_by_side
 
-# The folders of hours: `h09` of a day, `mon-h09` of a week.
-OF_DAY = re.compile(r"h([01][0-9]|2[0-3])")
-OF_WEEK = re.compile(r"(mon|tue|wed|thu|fri|sat|sun)-h([01][0-9]|2[0-3])")
 DAYS = ("mon", "tue", "wed", "thu", "fri", "sat", "sun")
 
 
