@@ -1,17 +1,14 @@
 -- A plan of portions, joined to a plan of their sources.
-use Rattle.std.proofs.Common.{ℕ, ◌+◌, ◌-◌, ◌≤◌, ◌==◌, ◌∙◌, Bool, true, false, length, sum_by, slice_index}
-use Rattle.std.proofs.Common.{slice_index_or, sym, arith}
-use Rattle.hsp_transport.specs.Network.{Network}
-use Rattle.hsp_transport.specs.Plans.{Feasible, Plan, planned}
+use Rattle.std.proofs.Common.{ℕ, ◌+◌, ◌-◌, ◌≤◌, ◌==◌, ◌∙◌, Bool, true, false, length, slice_index, sym, arith}
+use Rattle.hsp_transport.specs.Plans.{Feasible, Plan}
 use Rattle.hsp_transport.specs.Sums.{sum_below}
 use Rattle.hsp_transport.proofs.Rowwise.{when}
-use Rattle.hsp_transport.proofs.Summing.{sum_below_add, sum_below_le, sum_by_le_all}
-use Rattle.hsp_scenarios.specs.Moves.{moved}
-use Rattle.hsp_scenarios.specs.Portions.{ArePortions, Portions, at_home, is_away, joined, sent_away}
+use Rattle.hsp_transport.proofs.Summing.{sum_below_add, sum_below_le}
+use Rattle.hsp_scenarios.specs.Moves.{Today, moved}
+use Rattle.hsp_scenarios.specs.Portions.{ArePortions, Portions, at_home, joined, sent_away}
 use Rattle.hsp_scenarios.specs.Nearest.{Joined}
-use Rattle.hsp_scenarios.proofs.Homes.{missing_away, over}
-use Rattle.hsp_scenarios.proofs.Carrying.{cost_joined, joined_feasible, leads_home, one_link, over_all, over_away}
-use Rattle.hsp_scenarios.proofs.Carrying.{own_links, sent_by}
+use Rattle.hsp_scenarios.proofs.Homes.{missing_away}
+use Rattle.hsp_scenarios.proofs.Carrying.{cost_joined, joined_feasible, over_all, sent_portion}
 
 -- what the portions of a source have more than others is no less than what it has more
 more_together : {A : Type 0} (p : Portions A) (y z : Plan) (i s : ℕ)
@@ -28,27 +25,26 @@ more_together p y z i s =
     each false v w = omega arith
 
 -- what moves is away from home
-moves_away : {A : Type 0} (site : A → ℕ) (n : Network A) (old : Plan) (p : Portions A) → ArePortions site n old p
-    → (y : Plan) → Feasible site p.network y → moved site n old (joined p y) ≤ sent_away site p y
-moves_away site n old p are y feasible =
-    let own = own_links site n p in
+moves_away : {A : Type 0} (t : Today A) (p : Portions A) → ArePortions t p → (y : Plan)
+    → Feasible t.site p.network y → moved t (joined p y) ≤ sent_away t p y
+moves_away t p are y feasible =
     let missing : Plan = λ k s. at_home p k s - y k s in
-    let here : moved site n old (joined p y) ≤ sum_by (planned site n (joined p missing)) n.arcs =
-    sum_by_le_all _ _ n.arcs
-    (λ k d l. let a = slice_index_or n.arcs k d in
-    omega (arith, are.kept k d l, more_together p (at_home p) y (n.source a) (site a))) in
-    let there : sum_below (length p.network.demands) (λ k. over (own k) (missing k))
-    ≤ sum_below (length p.network.demands) (λ k. over (own k) (λ s. when (is_away (p.home_of k) s) (y k s))) =
+    let here : moved t (joined p y)
+    ≤ sum_below (length t.network.demands) (λ i. sum_below t.sites (joined p missing i)) =
+    sum_below_le (length t.network.demands) _ _
+    (λ i l. sum_below_le t.sites _ _
+    (λ s m. omega (arith, are.kept i s l m, more_together p (at_home p) y i s))) in
+    let there : sum_below (length p.network.demands) (λ k. sum_below t.sites (missing k)) ≤ sent_away t p y =
     sum_below_le (length p.network.demands) _ _
     (λ k l.
-    missing_away (own k) (one_link site n old p are k l) (p.home_of k) (leads_home site n old p are k l)
-    (slice_index p.network.demands k) (y k) (sym (sent_by site n old p are y k l) ∙ feasible.flow.met k l)) in
-    omega (arith, over_all site n old p are missing, over_away site n old p are y)
+    missing_away t.sites (p.home_of k) (are.homes k) (slice_index p.network.demands k) (y k)
+    (sym (sent_portion t p are y feasible.allowed k l) ∙ feasible.flow.met k l)) in
+    omega (arith, over_all t p are missing)
 
 -- the joined plan is a plan of the sources, at its cost
 pub joined_plans : (A : Type 0) → Joined A
-joined_plans A site n old p are y feasible = record {
-  feasible = joined_feasible site n old p are y feasible;
-  cost = cost_joined site n old p are y;
-  moves = moves_away site n old p are y feasible;
+joined_plans A t p are y feasible = record {
+  feasible = joined_feasible t p are y feasible;
+  cost = cost_joined t p are y feasible;
+  moves = moves_away t p are y feasible;
 }

@@ -1,13 +1,13 @@
 -- A plan of the sources, split into a plan of their portions. Portions keep at home what they can. What is left of
 -- the plan is spread over what is left of the portions.
-use Rattle.std.proofs.Common.{◌≡◌, ℕ, ◌+◌, ◌-◌, ◌*◌, ◌<◌, ◌≤◌, ◌==◌, ◌∙◌, ◌⊎◌, inl, inr, Bool, true}
-use Rattle.std.proofs.Common.{false, List, length, sum_by, slice_index, slice_index_or, refl, ap, ap₂, sym, arith}
+use Rattle.std.proofs.Common.{◌≡◌, ℕ, ◌+◌, ◌-◌, ◌*◌, ◌<◌, ◌≤◌, ◌==◌, ◌∙◌, inl, inr, Bool, true, false, length}
+use Rattle.std.proofs.Common.{sum_by, slice_index, slice_index_or, refl, ap, ap₂, sym, arith}
 use Rattle.std.proofs.lemmas.Bool.{cases_Bool, cases_lt}
 use Rattle.hsp_transport.specs.Network.{Network, IsNetwork}
 use Rattle.hsp_transport.specs.Changes.{with_numbers}
 use Rattle.hsp_transport.specs.Flow.{host_load, is_on, load, sent}
 use Rattle.hsp_transport.specs.Plans.{Feasible, Plan, is_allowed, planned}
-use Rattle.hsp_transport.specs.Kinds.{AreKinds, IsPooled, IsSpread, Link, together}
+use Rattle.hsp_transport.specs.Kinds.{AreKinds, IsPooled, IsSpread, together}
 use Rattle.hsp_transport.specs.Spread.{spread}
 use Rattle.hsp_transport.specs.Sums.{sum_below}
 use Rattle.hsp_transport.proofs.Rowwise.{same_by, when, when_here}
@@ -15,13 +15,13 @@ use Rattle.hsp_transport.proofs.Pooling.{within_alike}
 use Rattle.hsp_transport.proofs.Spreading.{is_spread, part_below}
 use Rattle.hsp_transport.proofs.Summing.{sum_below_add, sum_below_le, sum_below_same, sum_by_add, sum_by_le_all}
 use Rattle.hsp_transport.proofs.Summing.{sum_by_same_all}
-use Rattle.hsp_scenarios.specs.Moves.{moved}
+use Rattle.hsp_scenarios.specs.Moves.{Today, moved}
 use Rattle.hsp_scenarios.specs.Portions.{ArePortions, Portions, at_home, is_away, is_home, joined, sent_away}
 use Rattle.hsp_scenarios.specs.Nearest.{Split, cost_of}
 use Rattle.hsp_scenarios.proofs.Adding.{listed, listed_at, listed_many}
-use Rattle.hsp_scenarios.proofs.Homes.{Leads, one_part, over, rest_away}
-use Rattle.hsp_scenarios.proofs.Carrying.{allowed_is, allowed_links, are_kinds, cost_joined, free, free_one}
-use Rattle.hsp_scenarios.proofs.Carrying.{joined_alike, leads_home, one_link, over_all, over_away, own_links, sent_by}
+use Rattle.hsp_scenarios.proofs.Homes.{rest_away}
+use Rattle.hsp_scenarios.proofs.Carrying.{are_kinds, cost_joined, free, free_one, joined_alike, over_all}
+use Rattle.hsp_scenarios.proofs.Carrying.{sent_portion}
 use Rattle.hsp_scenarios.proofs.Keeping.{homed, kept, kept_allowed, kept_joined, kept_sent, kept_within}
 
 -- a condition on a sum is one on each term
@@ -29,10 +29,10 @@ when_sum : (t : Bool) (v w : ℕ) → when t (v + w) ≡ when t v + when t w
 when_sum true v w = refl
 when_sum false v w = refl
 
-module _ {A : Type 0} (site : A → ℕ) (n : Network A) (old : Plan) (p : Portions A)
-    (are : ArePortions site n old p) (x : Plan) (feasible : Feasible site n x) where
-  abbrev own : ℕ → List Link
-  own = own_links site n p
+module _ {A : Type 0} (t : Today A) (p : Portions A) (are : ArePortions t p) (x : Plan)
+    (feasible : Feasible t.site t.network x) where
+  abbrev n : Network A
+  n = t.network
 
   abbrev count : ℕ
   count = length p.network.demands
@@ -45,7 +45,7 @@ module _ {A : Type 0} (site : A → ℕ) (n : Network A) (old : Plan) (p : Porti
 
   -- what a portion keeps in all, and what is left of it
   abbrev keeps : ℕ → ℕ
-  keeps k = over (own k) (at k)
+  keeps k = sum_below t.sites (at k)
 
   abbrev left : ℕ → ℕ
   left k = asked k - keeps k
@@ -74,18 +74,18 @@ module _ {A : Type 0} (site : A → ℕ) (n : Network A) (old : Plan) (p : Porti
   left_plan i s = x i s - joined p at i s
 
   -- it sends no more than the plan
-  left_load : (j : ℕ) → load n (planned site n left_plan) j ≤ load n (planned site n x) j
+  left_load : (j : ℕ) → load n (planned t.site n left_plan) j ≤ load n (planned t.site n x) j
   left_load j =
       sum_by_le_all _ _ n.arcs
       (λ k d l. let a = slice_index_or n.arcs k d in
-      less (n.server a == j) (x (n.source a) (site a)) (joined p at (n.source a) (site a)))
+      less (n.server a == j) (x (n.source a) (t.site a)) (joined p at (n.source a) (t.site a)))
     where
       less : (t : Bool) (v w : ℕ) → when t (v - w) ≤ when t v
       less true v w = omega arith
       less false v w = omega arith
 
   -- over a host, too
-  left_host_load : (h : ℕ) → host_load n (planned site n left_plan) h ≤ host_load n (planned site n x) h
+  left_host_load : (h : ℕ) → host_load n (planned t.site n left_plan) h ≤ host_load n (planned t.site n x) h
   left_host_load h = sum_below_le (length n.capacities) _ _ (λ j l. grind (arith, left_load j))
 
   -- what is left of a source and what its portions keep is what it demands
@@ -100,20 +100,20 @@ module _ {A : Type 0} (site : A → ℕ) (n : Network A) (old : Plan) (p : Porti
     where
       each : (t : Bool) (k : ℕ) → k < count →
           when t (slice_index left_portions.demands k) + when t (keeps k) ≡ when t (asked k)
-      each true k m = omega (arith, listed_at count left k m, kept_within site n old p are x k m)
+      each true k m = omega (arith, listed_at count left k m, kept_within t p are x feasible k)
       each false k m = refl
 
   -- what is left of the plan sends what is left of each source
-  left_met : (i : ℕ) → i < length n.demands → sent n (planned site n left_plan) i ≡ left_of i
+  left_met : (i : ℕ) → i < length n.demands → sent n (planned t.site n left_plan) i ≡ left_of i
   left_met i l =
-      let of = λ (y : Plan) (a : A). when (n.source a == i) (planned site n y a) in
-      let whole : sum_by (λ a. of left_plan a + of (joined p at) a) n.arcs ≡ sent n (planned site n x) i =
-      same_by _ _ n.arcs (λ a. each (n.source a == i) (n.source a) (site a)) in
+      let of = λ (y : Plan) (a : A). when (n.source a == i) (planned t.site n y a) in
+      let whole : sum_by (λ a. of left_plan a + of (joined p at) a) n.arcs ≡ sent n (planned t.site n x) i =
+      same_by _ _ n.arcs (λ a. each (n.source a == i) (n.source a) (t.site a)) in
       omega (
         arith,
         whole,
         sum_by_add (of left_plan) (of (joined p at)) n.arcs,
-        kept_sent site n old p are x i,
+        kept_sent t p are x feasible i l,
         left_and_kept i l,
         feasible.flow.met i l,
       )
@@ -123,7 +123,7 @@ module _ {A : Type 0} (site : A → ℕ) (n : Network A) (old : Plan) (p : Porti
       each false r s = refl
 
   -- so it is a plan of what is left
-  left_feasible : Feasible site left_sources left_plan
+  left_feasible : Feasible t.site left_sources left_plan
   left_feasible = record {
     allowed = λ i s off. omega (arith, feasible.allowed i s off);
     flow = record {
@@ -136,13 +136,13 @@ module _ {A : Type 0} (site : A → ℕ) (n : Network A) (old : Plan) (p : Porti
   }
 
   -- the sources are the kinds of their portions, with what is left of both
-  left_kinds : AreKinds site left_portions left_sources p.source_of
+  left_kinds : AreKinds t.site left_portions left_sources p.source_of
   left_kinds = record {
     inside = λ k l. omega (arith, portions_many, sources_many, are.inside k (omega (arith, portions_many)));
     seen = λ i l.
         let portion = are.seen i (omega (arith, sources_many)) in
         (portion.0, omega (arith, portions_many, portion.1), portion.2);
-    arcs = λ k l. (are_kinds site n old p are).arcs k (omega (arith, portions_many));
+    arcs = λ k l. (are_kinds t p are).arcs k (omega (arith, portions_many));
     demands = λ i l. listed_at (length n.demands) left_of i (omega (arith, sources_many));
     capacities = are.capacities;
     limits = are.limits;
@@ -154,7 +154,7 @@ module _ {A : Type 0} (site : A → ℕ) (n : Network A) (old : Plan) (p : Porti
   rest = spread left_portions p.source_of left_plan
 
   -- the rest is a plan of what is left of the portions, and adds up to what is left of the plan
-  rest_spread : IsSpread site left_portions left_sources p.source_of left_plan rest
+  rest_spread : IsSpread t.site left_portions left_sources p.source_of left_plan rest
   rest_spread =
       let portions : IsNetwork left_portions = record {
         sources = rw portions_many are.portions.sources;
@@ -166,8 +166,8 @@ module _ {A : Type 0} (site : A → ℕ) (n : Network A) (old : Plan) (p : Porti
         servers = are.network.servers;
         hosts = are.network.hosts;
       } in
-      is_spread site left_portions left_sources p.source_of portions sources left_kinds
-      (λ i s l. free_one site n are.one i s (omega (arith, sources_many))) left_plan left_feasible
+      is_spread t.site left_portions left_sources p.source_of portions sources left_kinds
+      (λ i s l. free_one t.site n are.one i s (omega (arith, sources_many))) left_plan left_feasible
 
   -- the portions of a source send together what is left of the plan
   rest_joined : (i s : ℕ) → i < length n.demands → joined p rest i s ≡ left_plan i s
@@ -176,9 +176,9 @@ module _ {A : Type 0} (site : A → ℕ) (n : Network A) (old : Plan) (p : Porti
       ∙ rest_spread.pooled i s (omega (arith, sources_many))
 
   -- each sends what is left of it
-  rest_sent : (k : ℕ) → k < count → over (own k) (rest k) ≡ left k
+  rest_sent : (k : ℕ) → k < count → sum_below t.sites (rest k) ≡ left k
   rest_sent k l =
-      sym (sent_by site n old p are rest k l)
+      sym (sent_portion t p are rest rest_spread.feasible.allowed k l)
       ∙ rest_spread.feasible.flow.met k (omega (arith, portions_many))
       ∙ listed_at count left k l
 
@@ -196,38 +196,38 @@ module _ {A : Type 0} (site : A → ℕ) (n : Network A) (old : Plan) (p : Porti
       omega (arith, sums, rest_joined i s l, kept_joined p x i s)
 
   -- each portion sends what it is asked for
-  split_all : (k : ℕ) → k < count → over (own k) (split k) ≡ asked k
+  split_all : (k : ℕ) → k < count → sum_below t.sites (split k) ≡ asked k
   split_all k l =
-      omega (
-        arith,
-        sum_by_add (λ (a : Link). at k a.site) (λ a. rest k a.site) (own k),
-        rest_sent k l,
-        kept_within site n old p are x k l,
-      )
+      omega (arith, sum_below_add t.sites (at k) (rest k), rest_sent k l, kept_within t p are x feasible k)
+
+  -- and nothing goes where it may not
+  split_allowed : (k s : ℕ) → is_allowed t.site p.network k s ≡ false → split k s ≡ 0
+  split_allowed k s off =
+      omega (arith, kept_allowed t p are x feasible k s off, rest_spread.feasible.allowed k s off)
 
   -- each server takes what it takes of the plan
-  split_load : (j : ℕ) → load p.network (planned site p.network split) j ≡ load n (planned site n x) j
+  split_load : (j : ℕ) → load p.network (planned t.site p.network split) j ≡ load n (planned t.site n x) j
   split_load j =
-      (joined_alike site n old p are split).load j
+      (joined_alike t p are split).load j
       ∙ sum_by_same_all _ _ n.arcs
       (λ k d l. let a = slice_index_or n.arcs k d in
-      ap (when (n.server a == j)) (split_joined (n.source a) (site a) (are.network.sources k d l)))
+      ap (when (n.server a == j)) (split_joined (n.source a) (t.site a) (are.network.sources k d l)))
 
   -- and so does each host
-  split_host_load : (h : ℕ) → host_load p.network (planned site p.network split) h ≡ host_load n (planned site n x) h
+  split_host_load : (h : ℕ)
+      → host_load p.network (planned t.site p.network split) h ≡ host_load n (planned t.site n x) h
   split_host_load h =
-      let alike = joined_alike site n old p are split in
+      let alike = joined_alike t p are split in
       alike.host_load h
       ∙ sum_below_same (length n.capacities) _ _
       (λ j l. ap (when (is_on (n.host_of j) h)) (sym (alike.load j) ∙ split_load j))
 
   -- so it is a plan of the portions
-  split_feasible : Feasible site p.network split
+  split_feasible : Feasible t.site p.network split
   split_feasible = record {
-    allowed = λ k s off.
-        omega (arith, kept_allowed site n old p are x k s off, rest_spread.feasible.allowed k s off);
+    allowed = split_allowed;
     flow = record {
-      met = λ k l. sent_by site n old p are split k l ∙ split_all k l;
+      met = λ k l. sent_portion t p are split split_allowed k l ∙ split_all k l;
       within =
           within_alike n.capacities p.network.capacities _ _ (sym are.capacities) (λ j. sym (split_load j))
           feasible.flow.within;
@@ -237,88 +237,72 @@ module _ {A : Type 0} (site : A → ℕ) (n : Network A) (old : Plan) (p : Porti
     };
   }
 
-  -- Nothing of the rest goes home. Either all of the portion is kept, or nothing is left of the plan there.
-  rest_away_only : (k : ℕ) → k < count → (s : ℕ) → at_home p k s ≡ asked k → rest k s ≡ 0
-  rest_away_only k l s whole = elim (cases_Bool (is_allowed site p.network k s)) [
-    | inl on ↦
-        let same = allowed_is site n old p are k s l ∙ allowed_links site n old p are k s in
-        by_kept (sym same ∙ on) (cases_lt (at k s) (asked k))
-    | inr off ↦ rest_spread.feasible.allowed k s off
-  ]
-    where
-      -- a portion sends a part of what its source sends
-      part : (y : Plan) → y k s ≤ joined p y (p.source_of k) s
-      part y =
-          let of = λ (r : ℕ). when (p.source_of r == p.source_of k) (y r s) in
-          omega (arith, part_below count k of l, when_here (p.source_of k) (y k s))
+  -- a portion sends a part of what its source sends
+  part : (y : Plan) (k : ℕ) → k < count → (s : ℕ) → y k s ≤ joined p y (p.source_of k) s
+  part y k l s =
+      let of = λ (r : ℕ). when (p.source_of r == p.source_of k) (y r s) in
+      omega (arith, part_below count k of l, when_here (p.source_of k) (y k s))
 
-      by_kept : Leads (own k) s → (at k s < asked k) ⊎ (asked k ≤ at k s) → rest k s ≡ 0
-      by_kept leads (inl some) =
-          omega (
-            arith,
-            whole,
-            part_below count k (homed p (p.source_of k) s) l,
-            when_here (p.source_of k) (at_home p k s),
-            rest_joined (p.source_of k) s (are.inside k l),
-            kept_joined p x (p.source_of k) s,
-            part rest,
-          )
-      by_kept leads (inr all) =
-          let one = one_part (own k) (one_link site n old p are k l) s in
-          omega (arith, one (at k) leads, one (rest k) leads, rest_sent k l)
+  -- Nothing of the rest goes home. Either all of the portion is kept, or nothing is left of the plan there.
+  rest_elsewhere : (k : ℕ) → k < count → (s : ℕ) → s < t.sites → at_home p k s ≡ asked k → rest k s ≡ 0
+  rest_elsewhere k l s m whole = elim (cases_lt (at k s) (asked k)) [
+    | inl some ↦
+        omega (
+          arith,
+          whole,
+          part_below count k (homed p (p.source_of k) s) l,
+          when_here (p.source_of k) (at_home p k s),
+          rest_joined (p.source_of k) s (are.inside k l),
+          kept_joined p x (p.source_of k) s,
+          part rest k l s,
+        )
+    | inr all ↦ omega (arith, part_below t.sites s (at k) m, part_below t.sites s (rest k) m, rest_sent k l)
+  ]
 
   -- so what is at home is what is kept
-  home_kept : (k : ℕ) → k < count → (s : ℕ) → at k s ≡ when (is_home (p.home_of k) s) (split k s)
-  home_kept k l s = elim (cases_Bool (is_home (p.home_of k) s)) [
-    | inl t ↦
-        let none = rest_away_only k l s (ap (λ b. when b (asked k)) t) in
-        omega (arith, none, ap (λ b. when b (split k s)) t)
-    | inr f ↦ omega (arith, ap (λ b. when b (asked k)) f, ap (λ b. when b (split k s)) f)
+  home_kept : (k : ℕ) → k < count → (s : ℕ) → s < t.sites → at k s ≡ when (is_home (p.home_of k) s) (split k s)
+  home_kept k l s m = elim (cases_Bool (is_home (p.home_of k) s)) [
+    | inl here ↦
+        let none = rest_elsewhere k l s m (ap (λ b. when b (asked k)) here) in
+        omega (arith, none, ap (λ b. when b (split k s)) here)
+    | inr there ↦ omega (arith, ap (λ b. when b (asked k)) there, ap (λ b. when b (split k s)) there)
   ]
 
   -- what goes away is what the plan moves
-  split_moves : sent_away site p split ≡ moved site n old x
+  split_moves : sent_away t p split ≡ moved t x
   split_moves =
-      let away = λ (k : ℕ). over (own k) (λ s. when (is_away (p.home_of k) s) (split k s)) in
-      let homes = λ (k : ℕ). over (own k) (at_home p k) in
-      let portions : sum_below count keeps + sum_below count away ≡ sum_below count homes =
-      sym (sum_below_add count keeps away)
+      let all = λ (y : Plan) (i : ℕ). sum_below t.sites (y i) in
+      let away = λ (k : ℕ). sum_below t.sites (λ s. when (is_away (p.home_of k) s) (split k s)) in
+      let portions : sum_below count (all at) + sum_below count away ≡ sum_below count (all (at_home p)) =
+      sym (sum_below_add count (all at) away)
       ∙ sum_below_same count _ _ (λ k l.
-      rest_away (own k) (one_link site n old p are k l) (p.home_of k) (leads_home site n old p are k l) (asked k)
-      (split k) (at k) (split_all k l) (home_kept k l)) in
-      let sources : moved site n old x + sum_by (planned site n (joined p at)) n.arcs
-      ≡ sum_by (planned site n (joined p (at_home p))) n.arcs =
-      sym (sum_by_add (λ a. planned site n old a - planned site n x a) (planned site n (joined p at)) n.arcs)
-      ∙ sum_by_same_all _ _ n.arcs
-      (λ k d l. let a = slice_index_or n.arcs k d in
-      omega (arith, are.kept k d l, kept_joined p x (n.source a) (site a))) in
-      omega (
-        arith,
-        portions,
-        sources,
-        over_all site n old p are at,
-        over_all site n old p are (at_home p),
-        over_away site n old p are split,
-      )
+      rest_away t.sites (p.home_of k) (are.homes k) (asked k) (split k) (at k) (split_all k l) (home_kept k l)) in
+      let moves = λ (i s : ℕ). t.old i s - x i s in
+      let sources : moved t x + sum_below (length n.demands) (all (joined p at))
+      ≡ sum_below (length n.demands) (all (joined p (at_home p))) =
+      sym (sum_below_add (length n.demands) (all moves) (all (joined p at)))
+      ∙ sum_below_same (length n.demands) _ _ (λ i l.
+      sym (sum_below_add t.sites (moves i) (joined p at i))
+      ∙ sum_below_same t.sites _ _ (λ s m. omega (arith, are.kept i s l m, kept_joined p x i s))) in
+      omega (arith, portions, sources, over_all t p are at, over_all t p are (at_home p))
 
   -- and it costs what the plan costs
-  split_cost : cost_of site n (joined p split) ≡ cost_of site n x
+  split_cost : cost_of t.site n (joined p split) ≡ cost_of t.site n x
   split_cost =
       sum_by_same_all _ _ n.arcs
       (λ k d l. let a = slice_index_or n.arcs k d in
-      ap (λ v. n.cost a * v) (split_joined (n.source a) (site a) (are.network.sources k d l)))
+      ap (λ v. n.cost a * v) (split_joined (n.source a) (t.site a) (are.network.sources k d l)))
 
 -- each plan is split
 pub split_plans : (A : Type 0) → Split A
-split_plans A site n old p are x feasible =
-    let away = split_moves site n old p are x feasible in (
-      split site n old p are x feasible,
+split_plans A t p are x feasible =
+    let whole = split_feasible t p are x feasible in
+    let away = split_moves t p are x feasible in (
+      split t p are x feasible,
       record {
-        feasible = split_feasible site n old p are x feasible;
-        joins = split_joined site n old p are x feasible;
-        cost =
-            cost_joined site n old p are (split site n old p are x feasible)
-            ∙ ap₂ (λ v w. p.weight * v + w) (split_cost site n old p are x feasible) away;
+        feasible = whole;
+        joins = split_joined t p are x feasible;
+        cost = cost_joined t p are _ whole ∙ ap₂ (λ v w. p.weight * v + w) (split_cost t p are x feasible) away;
         away = away;
       },
     )

@@ -1,14 +1,21 @@
 -- Plans near an old one: how much they move from where the old plan sends it.
-use Rattle.std.specs.Prelude.{ℕ, ◌-◌, ◌≤◌, sum_by}
+use Rattle.std.specs.Prelude.{ℕ, ◌-◌, ◌≤◌, length}
 use Rattle.hsp_transport.specs.Network.{Network}
-use Rattle.hsp_transport.specs.Plans.{Best, Plan, planned}
+use Rattle.hsp_transport.specs.Plans.{Best, Plan}
+use Rattle.hsp_transport.specs.Sums.{sum_below}
 
--- What the old plan has on the arcs and the new plan has no longer. What the old plan sent where no arc leads today
--- moves in every plan, and is not counted.
-abbrev pub moved : {A : Type 0} → (A → ℕ) → Network A → Plan → Plan → ℕ
-moved site n old x = sum_by (λ a. planned site n old a - planned site n x a) n.arcs
+-- Today's network, whose arcs lead to sites, and an old plan. The old plan may send where no arc leads today.
+pub record Today (A : Type 0) : Type 0 where
+  pub network : Network A
+  pub site : A → ℕ
+  pub sites : ℕ
+  pub old : Plan
+
+-- what the old plan sends from all sources to all sites, and the new plan sends there no longer
+abbrev pub moved : {A : Type 0} → Today A → Plan → ℕ
+moved t x = sum_below (length t.network.demands) (λ i. sum_below t.sites (λ s. t.old i s - x i s))
 
 -- A nearest plan is a best one, and no best plan moves less.
-pub record Nearest {A : Type 0} (site : A → ℕ) (n : Network A) (old x : Plan) : Type 0 where
-  pub best : Best site n x
-  pub fewest : (y : Plan) → Best site n y → moved site n old x ≤ moved site n old y
+pub record Nearest {A : Type 0} (t : Today A) (x : Plan) : Type 0 where
+  pub best : Best t.site t.network x
+  pub fewest : (y : Plan) → Best t.site t.network y → moved t x ≤ moved t y

@@ -9,7 +9,7 @@ use Rattle.hsp_transport.specs.Cut.{capacity_of, demand_of, reaches}
 use Rattle.hsp_transport.specs.Sums.{sum_below}
 
 -- A loss: the network that is left, and which servers are lost. A lost site has no arcs there. A lost server takes
--- nothing, and a lost host has the limit 0.
+-- nothing. A lost host is lost with its servers.
 pub record Loss (A : Type 0) : Type 0 where
   pub left : Network A
   pub is_lost : ℕ → Bool

@@ -25,7 +25,7 @@ pub fn split_plans<A>()
     ensures { Split A }
 {}
 
-/// Prices of the portions show that no plan costs less where a move has a cost, too.
+/// Prices of the portions show that no plan costs less where moves have a cost, too.
 pub fn prices_weigh_moves<A>()
     ensures { PricesWeighMoves A }
 {}
