@@ -148,5 +148,13 @@ def as_table(folder: Path, monkeypatch: pytest.MonkeyPatch):  # type: ignore[no-
     return read_service(str(folder), Programs(), {})
 
 
+def test_more_growth_lacks_no_less() -> None:
+    """Where only a short set is known, a smaller growth may have the set that lacks more."""
+    from hsp.scenarios.growth import Purchase, at_least
+
+    known = [Purchase(10, 9, None, None), Purchase(20, 4, None, None), Purchase(30, 0, {}, 5), Purchase(50, 12, None, None)]
+    assert [it.lack for it in at_least(known)] == [9, 9, 0, 12]
+
+
 def test_percents_are_signed() -> None:
     assert [percent_of(own) for own in (11_733, 10_000, 9_999, 0)] == ["+17.33%", "+0.00%", "\u22120.01%", "\u2212100.00%"]

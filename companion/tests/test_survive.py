@@ -221,6 +221,28 @@ def test_a_purchase_serves_every_loss_and_none_below_the_bound_does(tmp_path: Pa
     assert all(own <= 1 for own in sums)
 
 
+@pytest.mark.parametrize("rounds", [40, 1])
+def test_a_purchase_in_units_counts_what_capacities_have_beyond(
+    hsp: Hsp, example: Example, monkeypatch: pytest.MonkeyPatch, rounds: int
+) -> None:
+    """In units of 10 a capacity of 15,005 takes 15,000, and 5 more make a unit. No purchase below the bound serves all
+    losses, and the purchase itself does."""
+    monkeypatch.setattr("hsp.scenarios.purchase.MOST_ROUNDS", rounds)
+    folder = example("two-sites")
+    (folder / "hsp.toml").write_text('[demand]\nrows = "handles"\nunit = 10\n')
+    lines = (folder / "capacity.csv").read_text().splitlines()
+    (folder / "capacity.csv").write_text("\n".join([lines[0], *(f"{line}5" for line in lines[1:]), ""]))
+    service, programs = read_service(str(folder), Judged(), {}), Judged()
+    assert service.unit == 10 and all(room % 10 == 5 for room in service.capacities.values())
+    found = Purchases(service, programs).search()
+    for loss in losses_of(service):
+        assert programs.plan(without(service, loss, programs, found.bought).inputs)[0].is_plan
+    assert all((service.capacity(it) + more) % 10 == 0 for it, more in found.bought.items())
+    if rounds == 40:
+        # What both sites lack, 19,020 and 32,720 in whole units, less the 5 that each of the five servers has.
+        assert found.size == found.least == 19_020 + 32_720 - 25
+
+
 def test_the_rounds_run_out(tmp_path: Path, monkeypatch: pytest.MonkeyPatch, hsp: Hsp) -> None:
     """Then each loss buys what it still lacks, and both numbers are printed."""
     monkeypatch.setattr("hsp.scenarios.purchase.MOST_ROUNDS", 1)

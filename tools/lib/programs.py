@@ -38,6 +38,7 @@ FILES = {
     "docs/use/FLEET.md": "share/doc/hsplan/use/FLEET.md",
     "docs/use/FORCE.md": "share/doc/hsplan/use/FORCE.md",
     "docs/use/PROXY.md": "share/doc/hsplan/use/PROXY.md",
+    "docs/use/DAY.md": "share/doc/hsplan/use/DAY.md",
     "docs/pictures/flow.svg": "share/doc/hsplan/pictures/flow.svg",
     "docs/pictures/record.svg": "share/doc/hsplan/pictures/record.svg",
 }

@@ -18,7 +18,7 @@ from hsp.plans.service import Service
 from hsp.plans.terminal import head
 from hsp.scenarios import grow_lines, survive_lines
 from hsp.scenarios.fallbacks import FOLDER, Fallbacks, csv_of
-from hsp.scenarios.growth import Growing, grown
+from hsp.scenarios.growth import Growing, at_least, grown
 from hsp.scenarios.in_force import PLAN, in_force
 from hsp.scenarios.judged import Judged, Progress, say_how_long, side_by_side, yes_line
 from hsp.scenarios.losses import after, losses_of, survived
@@ -74,7 +74,7 @@ def grow(
     growths = grown(service, programs, done)
     own = Growing(service, programs)
     tasks = [lambda percent=percent: own.purchase(percent) for percent in sorted(set(percents))]
-    purchases = side_by_side(tasks, done)
+    purchases = at_least(side_by_side(tasks, done))
     if as_json:
         give(grow_lines.json_of(service, growths, purchases))
         return
@@ -116,7 +116,7 @@ def _first(service: Service, programs: Judged, portions: Portions | None) -> Non
     losses = losses_of(service)
     if len(losses) > MANY:
         begun = time.monotonic()
-        after(service, losses[-1], programs, portions)
+        after(service, losses[len(losses) // 2], programs, portions)
         say_how_long(len(losses), time.monotonic() - begun, "losses")
 
 

@@ -170,6 +170,16 @@ class Growing:
         return Purchase(percent, lack, bought if after else None, after.certificate.cost if after else None)
 
 
+def at_least(purchases: Sequence[Purchase]) -> list[Purchase]:
+    """Purchases for growths in their order, where more growth lacks no less than less growth does."""
+    found: list[Purchase] = []
+    lack = 0
+    for purchase in purchases:
+        lack = max(lack, sum(purchase.bought.values()) if purchase.bought else purchase.lack)
+        found.append(replace(purchase, lack=lack) if purchase.bought is None else purchase)
+    return found
+
+
 def _by_region(rows: Sequence[Row]) -> dict[str, int]:
     counts: dict[str, int] = {}
     for row in rows:
@@ -188,4 +198,4 @@ def grown(service: Service, programs: Judged, done: Callable[[], None] = lambda:
     return side_by_side(tasks, done)
 
 
-__all__ = ["STEP", "Growing", "Growth", "Purchase", "Short", "grown", "percent_of"]
+__all__ = ["STEP", "Growing", "Growth", "Purchase", "Short", "at_least", "grown", "percent_of"]

@@ -13,7 +13,7 @@ from dataclasses import dataclass
 from typing import NamedTuple
 
 from hsp.base.grammar import GREATEST_COST, HEADERS, LONGEST_NAME, MOST_COST_ROWS, MOST_DEMAND_ROWS, MOST_REGIONS
-from hsp.base.numbers import some
+from hsp.base.numbers import listed, some
 from hsp.base.programs import Certificate, Inputs
 from hsp.plans.service import Row, Server, Service
 from hsp.scenarios.judged import Judged
@@ -140,7 +140,7 @@ class Portions:
             some(costs, "cost"): costs > MOST_COST_ROWS,
         }
         if any(found.values()):
-            raise TooMany(" and ".join(words for words, is_above in found.items() if is_above))
+            raise TooMany(listed(words for words, is_above in found.items() if is_above))
 
     def _named(self) -> dict[tuple[str, int | None], str]:
         """A name for each region with a home. It is one that people can read, where that is a name and no region's."""

@@ -50,12 +50,16 @@ class Lack:
 
 @dataclass
 class Purchase:
-    """Room that serves every loss; the least that does by the weighted sets; and losses that no room serves."""
+    """Room that serves every loss; the least that does by the weighted sets; and losses that no room serves.
+
+    `spare` is what a server's capacity has beyond whole units: so much less has to be bought there.
+    """
 
     bought: dict[Server, int] = field(default_factory=dict)
     lacks: list[Lack] = field(default_factory=list)
     unserved: list[Loss] = field(default_factory=list)
     rounds: int = 0
+    spare: dict[Server, int] = field(default_factory=dict)
 
     @property
     def size(self) -> int:
@@ -64,7 +68,8 @@ class Purchase:
     @property
     def least(self) -> int:
         """No purchase below it serves every loss."""
-        return math.ceil(sum(lack.weight * lack.queries for lack in self.lacks))
+        spare = sum(lack.weight * sum(self.spare[it] for it in lack.servers) for lack in self.lacks)
+        return max(0, math.ceil(sum(lack.weight * lack.queries for lack in self.lacks) - spare))
 
 
 def solver() -> Any:
@@ -76,15 +81,15 @@ def solver() -> Any:
 
 
 class Rounds:
-    """Purchases for the short sets that are known."""
+    """Purchases for the short sets that are known, in units."""
 
     def __init__(self, service: Service, lacks: list[Lack]) -> None:
         self._optimize: Any = solver()
         self._numpy: Any = importlib.import_module("numpy")
-        self._lacks = lacks
+        self._lacks, self._service = lacks, service
         self._servers = [it for it in service.servers if any(it in lack.servers for lack in lacks)]
         self._reached = self._numpy.array([[it in lack.servers for it in self._servers] for lack in lacks], float)
-        self._queries = self._numpy.array([lack.queries for lack in lacks], float)
+        self._queries = self._numpy.array([lack.queries // service.unit for lack in lacks], float)
         self._rooms = self._numpy.array([max(1, service.capacity(it)) for it in self._servers], float)
 
     def weights(self) -> list[Fraction]:
@@ -121,13 +126,18 @@ class Rounds:
             options={"time_limit": 10, "mip_rel_gap": 0.01},
         )
         rooms = whole.x if spread.x is None else spread.x[:number]
-        return {it: round(more) for it, more in zip(self._servers, rooms) if round(more)}
+        return self._in_queries([round(more) for more in rooms])
 
     def _rounded_up(self) -> dict[Server, int]:
         found = self._optimize.linprog(
             self._numpy.ones(len(self._servers)), A_ub=-self._reached, b_ub=-self._queries, method="highs"
         )
-        return {it: math.ceil(more - 1e-6) for it, more in zip(self._servers, found.x) if more > 1e-6}
+        return self._in_queries([math.ceil(more - 1e-6) for more in found.x])
+
+    def _in_queries(self, units: list[int]) -> dict[Server, int]:
+        """Room in queries. What a capacity has beyond whole units isn't bought again."""
+        unit, service = self._service.unit, self._service
+        return {it: unit * more - service.capacity(it) % unit for it, more in zip(self._servers, units) if more > 0}
 
 
 class Purchases:
@@ -140,7 +150,8 @@ class Purchases:
 
     def search(self) -> Purchase:
         """The purchase, with the sets that show how little can do."""
-        found, losses = Purchase(), losses_of(self._service)
+        spare = {it: self._service.capacity(it) % self._service.unit for it in self._service.servers}
+        found, losses = Purchase(spare=spare), losses_of(self._service)
         todo, is_whole = losses, True
         while True:
             found.rounds += 1
@@ -211,7 +222,9 @@ class Purchases:
         """The servers at which room serves some rows of a set, with how much of it at most: no machine passes its
         limit."""
         rooms = self._rooms(lack.servers, bought)
-        left = {it: self._limits[it] - rooms[it.address.lower()] for it in lack.servers if it in self._limits}
+        unit = self._service.unit
+        limits = {it: self._limits[it] // unit * unit for it in lack.servers if it in self._limits}
+        left = {it: limit - rooms[it.address.lower()] for it, limit in limits.items()}
         return {it: left.get(it, lack.queries) for it in lack.servers if left.get(it, 1) > 0}
 
     def _on_top(self, found: Purchase, losses: Sequence[Loss]) -> None:
@@ -224,7 +237,8 @@ class Purchases:
                     break
                 at = max(useful, key=lambda it: (self._service.capacity(it), -it.number))
                 lacking = lack.demand - self._room(lack.servers, found.bought)
-                found.bought[at] = found.bought.get(at, 0) + max(1, min(useful[at], lacking))
+                more, own = max(self._service.unit, min(useful[at], lacking)), found.bought.get(at, 0)
+                found.bought[at] = own + more - (self._service.capacity(at) + own) % self._service.unit
 
     def _weighed(self, found: Purchase) -> Purchase:
         """The purchase with the weights of its sets, each of which is judged as a shortage of its loss as things are."""
