@@ -29,7 +29,7 @@ from lib import instances, memory
 
 __all__ = ["browser"]
 Example = Callable[[str], Path]
-PAGES = ("two-sites", "base", "hosts", "shortage", "compared", "twelve-sites")
+PAGES = ("two-sites", "base", "hosts", "shortage", "compared", "ahead", "twelve-sites")
 @pytest.fixture(scope="module")
 def pages(hsp: Hsp, twelve: Path, tmp_path_factory: pytest.TempPathFactory) -> dict[str, Path]:
     """The pages of all examples."""
@@ -44,6 +44,7 @@ def pages(hsp: Hsp, twelve: Path, tmp_path_factory: pytest.TempPathFactory) -> d
         "hosts": [str(two), "--settings", str(two / "hosts.toml")],
         "shortage": [str(two), "--demand", str(two / "premiere.csv")],
         "compared": [str(wider), "--before", str(two)],
+        "ahead": [str(two), "--more", "--reserve", "2", "--settings", str(two / "hosts.toml")],
         "twelve-sites": [str(twelve)],
     }
     for name, given in words.items():

@@ -4,7 +4,9 @@ from __future__ import annotations
 
 import csv
 import io
+import os
 import random
+import re
 import shutil
 from fractions import Fraction
 from pathlib import Path
@@ -247,11 +249,14 @@ def test_the_rounds_run_out(tmp_path: Path, monkeypatch: pytest.MonkeyPatch, hsp
     """Then each loss buys what it still lacks, and both numbers are printed."""
     monkeypatch.setattr("hsp.scenarios.purchase.MOST_ROUNDS", 1)
     folder = three_sites(tmp_path, 100)
-    found = Purchases(read_service(str(folder), Judged(), {}), Judged()).search()
-    assert found.size >= 150 and found.lacks == []
-    monkeypatch.setattr("hsp.scenarios.purchase.MOST_ROUNDS", 2)
+    service, programs = read_service(str(folder), Judged(), {}), Judged()
+    found = Purchases(service, programs).search()
+    assert found.size >= 150 and found.lacks == [] and found.least == 0
+    for loss in losses_of(service):
+        assert programs.plan(without(service, loss, programs, found.bought).inputs)[0].is_plan
     printed = hsp("survive", str(folder), "--buy", status=3).stdout
-    assert "serves every loss" in printed and "buy" in printed
+    assert re.search(r"buy   room for \d+ queries more at \d servers? serves every loss: ", printed)
+    assert "less than 0 can't do, by 0 short sets; between the two it's open" in printed
 
 
 def test_the_page_shows_losses_and_growth(hsp: Hsp, example: Example) -> None:
@@ -275,6 +280,19 @@ def test_the_plan_before_is_known_where_it_is_kept(hsp: Hsp, example: Example, t
     assert "moves 3.4% of the queries since the plan before" in lines
     hsp("view", str(folder), "--before", str(old))
     assert "<dt>Moves</dt><dd><b>3.4%</b><small>213 queries since the plan before" in (folder / "plan.html").read_text()
+
+
+def test_a_plan_less_a_reserve_is_no_old_plan(hsp: Hsp, example: Example) -> None:
+    """The doctor judges it by the capacities that are kept beside it, until the folder's own are newer."""
+    folder = example("two-sites")
+    hsp("plan", str(folder), "--reserve", "5", "--settings", str(folder / "settings.toml"))
+    assert "the plan isn't" not in hsp("doctor", str(folder)).stdout
+    kept = folder / "capacity-less-reserve.csv"
+    os.utime(folder / "capacity.csv", (kept.stat().st_mtime + 9, kept.stat().st_mtime + 9))
+    assert "the plan is older than capacity.csv" in hsp("doctor", str(folder)).stdout
+    kept.unlink()
+    os.utime(folder / "capacity.csv", (0, 0))
+    assert "the plan isn't one of these files" in hsp("doctor", str(folder)).stdout
 
 
 def test_many_losses_are_announced(hsp: Hsp, tmp_path: Path, monkeypatch: pytest.MonkeyPatch) -> None:

@@ -28,6 +28,7 @@ from hsp.doctor.toml_places import value_of
 from hsp.plans.marks import KEYS as MARK_KEYS
 from hsp.plans.marks import TABLE, TITLES
 from hsp.plans.proxied import PROXY, PROXY_KEYS, proxied_of
+from hsp.plans.answering import less_reserve
 from hsp.plans.service import ACCEPT, NAMES, TITLE_KEYS, VALUES, Service, dotted, is_of_hour, newer_than
 
 # A demand beyond so many times all capacity, or a capacity beyond so many times the demand, has likely another unit.
@@ -411,7 +412,10 @@ def stale_plan(service: Service, programs: Programs, path: str) -> list[str] | N
     own = {path_in(service.folder, name) for name in (*NAMES.values(), VALUES)}
     if not {inputs.settings, inputs.demand, inputs.costs, inputs.capacity} <= own:
         return None
-    return None if programs.verdict(inputs, path) == "yes" else newer_than(inputs.files(), path)
+    for tried in filter(None, (inputs, less_reserve(path, inputs))):
+        if programs.verdict(tried, path) == "yes":
+            return None
+    return newer_than(inputs.files(), path)
 
 
 def old_plan(read: Read, programs: Programs) -> None:

@@ -8,7 +8,7 @@ from dataclasses import replace
 
 from hsp.base.paths import named, path_in
 from hsp.base.programs import Inputs, Programs
-from hsp.plans.service import Service
+from hsp.plans.service import Service, newer_than
 
 # The inputs in the units of a demand, as they are kept beside its plan.
 CAPACITY, SETTINGS = "capacity-in-units.csv", "settings-in-units.toml"
@@ -28,6 +28,16 @@ def kept_beside(plan: str, inputs: Inputs) -> Inputs:
     """The inputs in units under the names that they have beside a plan."""
     folder = os.path.dirname(plan)
     return replace(inputs, capacity=path_in(folder, CAPACITY), settings=path_in(folder, SETTINGS), unit=1)
+
+
+def less_reserve(plan: str, inputs: Inputs) -> Inputs | None:
+    """The inputs less a reserve as they are kept beside a plan; None where none are, or where they are older than what
+    they were made of."""
+    folder = os.path.dirname(plan)
+    capacity, settings = path_in(folder, LESS_CAPACITY), path_in(folder, LESS_SETTINGS)
+    if not os.path.isfile(capacity) or newer_than([inputs.capacity, inputs.settings], capacity):
+        return None
+    return replace(inputs, capacity=capacity, settings=settings if os.path.isfile(settings) else inputs.settings)
 
 
 def in_units(service: Service, programs: Programs, plan: str) -> tuple[Inputs, dict[str, bytes]]:

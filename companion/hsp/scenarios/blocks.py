@@ -10,6 +10,7 @@ import itertools
 from collections.abc import Callable, Sequence
 from dataclasses import dataclass
 from fractions import Fraction
+from functools import partial
 
 from hsp.base.grammar import HEADERS
 from hsp.base.programs import Certificate, Inputs
@@ -66,60 +67,65 @@ def block_of(service: Service, hours: Sequence[Hour], programs: Judged) -> Block
     return None
 
 
+# Blocks that were tried, by their first hour and the end, which isn't in them.
+Known = dict[tuple[int, int], Block | None]
+
+
 class _Search:
     """Searches blocks among hours in a row, each of which has a plan."""
 
     def __init__(self, service: Service, hours: Sequence[Hour], programs: Judged) -> None:
         self._service, self._hours, self._programs = service, hours, programs
-        self._known: dict[tuple[int, int], Block | None] = {}
 
-    def block(self, first: int, end: int) -> Block | None:
-        """The block of the hours from the first up to the end, which isn't in it."""
-        key = first, end
-        if key not in self._known:
-            self._known[key] = block_of(self._service, self._hours[first:end], self._programs)
-        return self._known[key]
+    def _block(self, bounds: tuple[int, int], known: Known) -> Block | None:
+        if bounds not in known:
+            first, end = bounds
+            known[bounds] = block_of(self._service, self._hours[first:end], self._programs)
+        return known[bounds]
 
-    def _longest(self, bounds: Callable[[int], tuple[int, int]], most: int) -> int:
+    def _longest(self, bounds: Callable[[int], tuple[int, int]], most: int, known: Known) -> int:
         """The greatest size of a block between such bounds. All smaller ones have a plan too."""
         low, high = 1, most + 1
         while high - low > 1:
             size = min(4 * low, (low + high + 1) // 2)
-            low, high = (size, high) if self.block(*bounds(size)) else (low, size)
+            low, high = (size, high) if self._block(bounds(size), known) else (low, size)
         return low
 
-    def _from(self, at: int) -> int:
-        return at + self._longest(lambda size: (at, at + size), len(self._hours) - at)
-
-    def _up_to(self, at: int) -> int:
-        return at - self._longest(lambda size: (at - size, at), at)
-
-    def ends(self) -> list[int]:
+    def _ends(self) -> tuple[list[int], Known]:
         """The ends of the longest blocks, one after the other from the first hour on."""
-        found: list[int] = [0]
-        while found[-1] < len(self._hours):
-            found.append(self._from(found[-1]))
-        return found[1:]
+        found, known = [0], dict[tuple[int, int], Block | None]()
+        while (at := found[-1]) < len(self._hours):
+            found.append(at + self._longest(partial(_from, at), len(self._hours) - at, known))
+        return found[1:], known
 
-    def begins(self) -> list[int]:
+    def _begins(self) -> tuple[list[int], Known]:
         """The begins of the longest blocks, one before the other from the last hour on, the first one first."""
-        found: list[int] = [len(self._hours)]
-        while found[0]:
-            found.insert(0, self._up_to(found[0]))
-        return found[:-1]
+        found, known = [len(self._hours)], dict[tuple[int, int], Block | None]()
+        while at := found[0]:
+            found.insert(0, at - self._longest(partial(_up_to, at), at, known))
+        return found[:-1], known
 
     def fewest(self) -> list[Block]:
         """The fewest blocks. They are as even as can be where that serves too, since long blocks cost more."""
-        ends, begins = side_by_side([self.ends, self.begins])
+        (ends, known), (begins, more) = side_by_side([self._ends, self._begins])
+        known.update(more)
         number = len(ends)
         even = [round(at * len(self._hours) / number) for at in range(1, number)]
         inner = [max(begin, min(end, own)) for begin, own, end in zip(begins[1:], even, ends)]
         for bounds in ([0, *inner, len(self._hours)], [0, *ends]):
-            blocks = [self.block(first, end) for first, end in zip(bounds, bounds[1:])]
+            blocks = [self._block(own, known) for own in zip(bounds, bounds[1:])]
             found = [block for block in blocks if block]
             if len(found) == number:
                 return found
         raise AssertionError("the longest blocks have plans")
+
+
+def _from(at: int, size: int) -> tuple[int, int]:
+    return at, at + size
+
+
+def _up_to(at: int, size: int) -> tuple[int, int]:
+    return at - size, at
 
 
 def fewest(service: Service, plans: Sequence[HourPlan], programs: Judged) -> list[Block]:

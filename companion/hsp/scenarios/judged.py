@@ -3,9 +3,9 @@
 from __future__ import annotations
 
 import contextlib
-import itertools
 import os
 import sys
+import threading
 import time
 from collections.abc import Callable, Sequence
 from typing import TypeVar
@@ -25,7 +25,7 @@ class Judged(Programs):
 
     def __init__(self) -> None:
         super().__init__()
-        self._judged = itertools.count(1)
+        self._lock = threading.Lock()
         self.judged_so_far = 0
 
     def plan(self, inputs: Inputs) -> tuple[Certificate, str]:
@@ -35,13 +35,18 @@ class Judged(Programs):
 
     def insist(self, inputs: Inputs, plan: str) -> None:
         super().insist(inputs, plan)
-        self.judged_so_far = next(self._judged)
+        self._count()
 
     def says_yes(self, inputs: Inputs, plan: str) -> bool:
         """Whether the checker says yes to a certificate that hsp has put together."""
         is_valid = self.verdict(inputs, plan) == "yes"
-        self.judged_so_far = next(self._judged) if is_valid else self.judged_so_far
+        if is_valid:
+            self._count()
         return is_valid
+
+    def _count(self) -> None:
+        with self._lock:
+            self.judged_so_far += 1
 
     def put_away(self, *paths: str) -> None:
         """Takes away files that were made on the way and aren't asked for again."""

@@ -95,7 +95,7 @@ def purchase_lines(purchase: Purchase) -> Iterator[str]:
 
 def _sets(lacks: Sequence[Lack]) -> str:
     weights = listed(sorted({str(lack.weight) for lack in lacks}), NAMED)
-    return f"{some(len(lacks), 'short set')} of weight {weights}"
+    return some(len(lacks), "short set") + (f" of weight {weights}" if weights else "")
 
 
 def _lack(lack: Lack) -> str:
