@@ -30,8 +30,9 @@ from hsp.base.programs import Inputs, Programs, Refused
 from hsp.cli import main
 from hsp.intake.forms import Form
 from hsp.intake.logs import LONGEST, Skipped, numbered
-from hsp.intake.queries import Judge, Reading, queries
+from hsp.intake.queries import Judge, Reading
 from hsp.intake.regions import Database, Networks, Seek, regions_in
+from hsp.intake.side_by_side import parts_of
 from hsp.intake.tally import Tally, advice
 
 from conftest import TOP, Hsp, variables
@@ -415,8 +416,8 @@ def test_counts_beyond_memory_give_the_same_table(tmp_path: Path) -> None:
     for most in (100, 1 << 20):
         programs = Programs()
         reading, tally = Reading(Form(), seek, Judge(programs, 1000)), Tally(programs, most)
-        for _ in tally.add(queries(str(path), reading)):
-            pass
+        for part in parts_of([str(path)], reading):
+            tally.count(part.counts)
         own = tally.demand(inputs, None)
         assert own.is_joined and not own.why_log and tally.handles == (None if most == 100 else 20_000)
         assert tally.asked == 20_000 and tally.regions == {b"eu", b"us", b"asia"}
@@ -539,8 +540,8 @@ def processor_seconds(path: Path, seek: Seek) -> float:
     """The seconds of the processor that counting a log takes, those of hsplan-stream among them."""
     before = sum(os.times()[:4])
     tally = Tally(Programs())
-    for _ in tally.add(queries(str(path), Reading(Form(), seek, Judge(Programs())))):
-        pass
+    for part in parts_of([str(path)], Reading(Form(), seek, Judge(Programs()))):
+        tally.count(part.counts)
     assert tally.asked == 20 * LINES
     return sum(os.times()[:4]) - before
 

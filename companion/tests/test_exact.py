@@ -6,6 +6,7 @@ import doctest
 import io
 import os
 import time
+from collections import Counter
 from collections.abc import Iterator
 from pathlib import Path
 from types import SimpleNamespace
@@ -19,11 +20,12 @@ from hsp.base.unfit import Unfit
 from hsp.doctor import mark_doubts
 from hsp.fleet import engine
 from hsp.fleet.answers import blocks
-from hsp.intake import prefixes, progress, queries, tally
+from hsp.intake import logs, prefixes, progress, reader, tally
 from hsp.intake.forms import Form
 from hsp.intake.logs import LONGEST, MOST_OF_LINE, Skipped, numbered
 from hsp.intake.prefixes import MOST_SHOWN, Prefixes
 from hsp.intake.queries import Judge, Reading
+from hsp.intake.side_by_side import parts_of
 from hsp.intake.sitefiles import Files
 from hsp.intake.tally import Tally
 
@@ -88,27 +90,30 @@ def test_pairs_are_spilled_above_so_many(monkeypatch: pytest.MonkeyPatch) -> Non
 
 
 def test_handles_are_judged_in_batches(tmp_path: Path, monkeypatch: pytest.MonkeyPatch) -> None:
-    """A batch ends with so many rows, or with more octets."""
-    asked: list[int] = []
-    monkeypatch.setattr(Judge, "faults", lambda self, handles: asked.append(len(list(handles))) or {})
+    """Lines wait for so many octets as soon as there is a new handle. A part ends with so many octets, or pairs."""
+    asked: list[list[bytes]] = []
+    monkeypatch.setattr(Judge, "faults", lambda self, handles: asked.append(sorted(handles)) or {})
+    monkeypatch.setattr(logs, "TOGETHER", 16)  # each line is a block
     path = tmp_path / "log"
-    path.write_text("client,handle\n" + "10.0.0.1,20.1/a\n" * 10)
-    shown: list[int] = []
+    path.write_text("client,handle\n" + "10.0.0.1,20.1/%d\n" * 10 % (0, 0, 1, 0, 0, 0, 0, 0, 2, 3))
 
-    def ran(batch: int, octets: int) -> list[int]:
+    def ran(octets: int, of_part: int, pairs: int) -> list[int]:
         asked.clear()
-        shown.clear()
-        monkeypatch.setattr(queries, "BATCH", batch)
-        monkeypatch.setattr(queries, "BATCH_OCTETS", octets)
-        reading = Reading(
-            Form("csv"), lambda _: b"eu", Judge(Programs()), progress=lambda _, lines: shown.append(lines)
-        )
-        assert len(list(queries.queries(str(path), reading))) == 10 and reading.lines == 10
-        return list(asked)
+        monkeypatch.setattr(reader, "BATCH_OCTETS", octets)
+        monkeypatch.setattr(reader, "PIECE", of_part)
+        monkeypatch.setattr(reader, "MOST_AT_ONCE", pairs)
+        reading = Reading(Form("csv"), lambda _: b"eu", Judge(Programs()))
+        found = list(parts_of([str(path)], reading))
+        assert [part.is_last for part in found] == [False] * (len(found) - 1) + [True] and reading.lines == 10
+        counts = sum((part.counts for part in found), Counter())
+        assert counts == {(b"eu", b"20.1/%d" % at): number for at, number in enumerate((7, 1, 1, 1))}
+        return [part.lines for part in found]
 
-    assert (ran(4, 1000), shown) == ([4, 4, 2], [4, 8])
-    assert (ran(100, 31), shown) == ([3, 3, 3, 1], [3, 6, 9])
-    assert (ran(100, 29), shown) == ([2, 2, 2, 2, 2, 0], [2, 4, 6, 8, 10])
+    each = [[b"20.1/%d" % at] for at in range(4)]
+    assert (ran(1, 1000, 100), asked) == ([10], each)
+    assert (ran(33, 1000, 100), asked) == ([10], [each[0], each[1], [b"20.1/2", b"20.1/3"]])
+    assert ran(1, 51, 100) == [4, 4, 2]
+    assert ran(1, 1000, 1) == [3, 6, 1]
 
 
 def test_how_much_of_all_logs_was_read(tmp_path: Path, monkeypatch: pytest.MonkeyPatch) -> None:
@@ -125,19 +130,8 @@ def test_how_much_of_all_logs_was_read(tmp_path: Path, monkeypatch: pytest.Monke
         0,
     ]
     gauge = progress.Gauge(paths, 2)
-    assert gauge.share() is None
-    shares = []
-    for it in [*paths, *paths, *paths]:
-        with open(it, "rb", buffering=0) as raw:
-            file = io.BufferedReader(raw)
-            gauge.watch(file)
-            file.read(50)
-            shares.append(gauge.share())
-    assert shares == [0.125, 0.375, 0.625, 0.875, 1.0, 1.0] and gauge.share() is None
-    unknown = progress.Gauge(["none"])
-    with open(paths[0], "rb") as file:
-        unknown.watch(file)
-        assert unknown.share() is None
+    assert [gauge.share(it) for it in (0, 50, 400, 500)] == [0.0, 0.125, 1.0, 1.0]
+    assert progress.Gauge(["none"]).share(5) is None
     clock: Iterator[float] = iter([100.0, 100.5, 100.51, 101.0, 101.02, 110.0])
     monkeypatch.setattr(time, "monotonic", lambda: next(clock))
     monkeypatch.setattr(time, "time", lambda: 1_000_000.0)
@@ -145,20 +139,12 @@ def test_how_much_of_all_logs_was_read(tmp_path: Path, monkeypatch: pytest.Monke
     monkeypatch.setattr(progress, "show_progress", lines.append)
     own = progress.Progress(progress.Gauge(["none"]))
     for count in (10, 20, 30, 40, 5000):
-        own.show("log", count)
+        own.show("log", count, 5)
     assert lines == ["log: 10 lines, 20 a second", "log: 40 lines, 39 a second", "log: 5,000 lines, 500 a second"]
-    gauge = progress.Gauge(paths[:1])
-    with open(paths[0], "rb") as file:
-        gauge.watch(file)
-        file.read(0)
-        file.seek(25)
-        end = time.strftime("%H:%M:%S", time.localtime(1_000_000 + 30))
-        assert (
-            progress.Progress.__new__(progress.Progress)._rest.__func__(  # type: ignore[attr-defined]
-                type("P", (), {"_gauge": gauge})(), 10.0
-            )
-            == f", 25%, until {end}"
-        )
+    end = time.strftime("%H:%M:%S", time.localtime(1_000_000 + 30))
+    clock = iter([100.0, 110.0])
+    progress.Progress(progress.Gauge(paths[:1])).show("log", 100, 25)
+    assert lines[-1] == f"log: 100 lines, 10 a second, 25%, until {end}"
 
 
 def test_what_is_nested_too_deep_is_said(monkeypatch: pytest.MonkeyPatch) -> None:

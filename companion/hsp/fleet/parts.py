@@ -6,11 +6,9 @@ import json
 import os
 import re
 import sys
-from collections import Counter
 from collections.abc import Callable
 from typing import Any
 
-from hsp.base.bounds import Query, pieces
 from hsp.base.files import created
 from hsp.base.grammar import LOG_HEAD
 from hsp.base.programs import Inputs, Missing, Programs, Refused
@@ -18,8 +16,9 @@ from hsp.base.unfit import Unfit
 from hsp.fleet import answers
 from hsp.fleet.tables import Table, merged
 from hsp.intake.forms import Form, within
-from hsp.intake.queries import Judge, Reading, field_of, queries
+from hsp.intake.queries import Judge, Reading
 from hsp.intake.regions import regions_in
+from hsp.intake.side_by_side import parts_of
 from hsp.intake.times import Span
 
 Request = dict[str, Any]
@@ -52,18 +51,17 @@ def count(request: Request) -> Reply:
     programs = Programs()
     seek = regions_in(request["files"]["networks"], request["by"], request["elsewhere"])
     span = Span(*request["span"])
-    reading = Reading(form_of(request["form"]), seek, Judge(programs), wrap=None if span.is_all else within(span))
+    reading = Reading(form_of(request["form"]), seek, Judge(programs), tag=None if span.is_all else within(span))
     table, asked = Table(programs, inputs_of(request["files"])), 0
     kept = created(request["staged"][0]) if request["staged"] else None
     try:
         if kept:
             kept.write(LOG_HEAD)
-        for chunk in pieces(queries(request["log"], reading)):
-            asked += len(chunk)
-            of_chunk: Counter[Query] = Counter(chunk)
-            table.add(of_chunk.items())
+        for part in parts_of([request["log"]], reading, kept is not None):
+            asked += part.counts.total()
+            table.add(part.counts.items())
             if kept:
-                kept.write(b"".join(b"%b,%b\n" % (field_of(region), field_of(handle)) for region, handle in chunk))
+                kept.writelines(part.kept)
         if kept:
             kept.flush()
             os.fsync(kept.fileno())

@@ -2,6 +2,7 @@
 
 from __future__ import annotations
 
+import contextlib
 import os
 import re
 import sys
@@ -22,15 +23,16 @@ from hsp.base.unfit import Unfit
 from hsp.intake import skeleton
 from hsp.intake.busiest import busiest_hour, refuse_pipes
 from hsp.intake.forms import NAMES as FORMS
-from hsp.intake.forms import Form, timed, within
+from hsp.intake.forms import Form, within
 from hsp.intake.hour_folders import folders_of, in_folders, tables_in, write_hours
 from hsp.intake.hour_tally import HourTally
 from hsp.intake.hours import CYCLES, Chosen, Cycle, chosen
 from hsp.intake.joining import block, capacity_rows, joined, lines_of, read_back
 from hsp.intake.outlook import may_be_long, outlook, refuse_unit
 from hsp.intake.progress import Gauge, Progress
-from hsp.intake.queries import Judge, Reading, field_of, queries
-from hsp.intake.regions import named_in, regions_in, tagged
+from hsp.intake.queries import Judge, Reading
+from hsp.intake.regions import named_in, regions_in
+from hsp.intake.side_by_side import MOST_JOBS, parts_of
 from hsp.intake.sitefiles import Files, Found
 from hsp.intake.tally import Demand, Tally
 from hsp.intake.times import FIRST, LAST, Span, iso_seconds
@@ -235,10 +237,11 @@ def counted(logs: tuple[str, ...], reading: Reading, tally: Tally, into: Any) ->
     """Counts the queries of all logs. Writes them into a file, too, where one is given."""
     if into:
         into.write(LOG_HEAD)
-    for path in logs:
-        for chunk in tally.add(queries(path, reading)):
+    with contextlib.closing(parts_of(logs, reading, into is not None)) as parts:
+        for part in parts:
+            tally.count(part.counts)
             if into:
-                into.write(b"".join(b"%b,%b\n" % (field_of(region), field_of(handle)) for region, handle in chunk))
+                into.write(b"".join(part.kept))
     if sys.stderr.isatty():
         show_progress("")
     some_in(logs, reading, tally.asked > 0)
@@ -251,23 +254,20 @@ def by_time(logs: tuple[str, ...], reading: Reading, given: dict[str, Any]) -> l
         refuse_pipes(logs, "--busiest-hour")
         span, first, line = busiest_hour(logs, reading, span)
         some_in(logs, first, bool(line))
-        reading.lines = first.lines
+        reading.lines, reading.octets = first.lines, first.octets
         lines.append(line)
-    reading.wrap = None if span.is_all else within(span)
+    reading.tag = None if span.is_all else within(span)
     return lines
 
 
 def by_hours(logs: tuple[str, ...], reading: Reading, given: dict[str, Any], cycle: Cycle) -> Chosen:
     """Has each hour of a cycle counted on the day with most queries in it, and returns which hours these are."""
-    if given["busiest_hour"]:
-        raise click.UsageError(f"--busiest-hour counts one hour, and --by {cycle.word} counts all; give one of them")
     span = span_of(given)
     refuse_pipes(logs, f"--by {cycle.word}")
     found, first = chosen(logs, reading, span, cycle)
     some_in(logs, first, found is not None)
     assert found
-    reading.lines = first.lines
-    reading.wrap, reading.seek = timed(found.tag(span)), tagged(reading.seek)
+    reading.lines, reading.octets, reading.tag = first.lines, first.octets, found.tag(span)
     return found
 
 
@@ -426,6 +426,7 @@ def output_of(given: dict[str, Any], into: str | None) -> str | None:
 @click.option("--into", metavar="DIR", type=FOLDER, help="the folder whose demand.csv is written")
 @click.option("-o", "--output", metavar="FILE", help="the table, in place of DIR/demand.csv")
 @click.option("--log", "kept", metavar="FILE", help="also the queries, as a log for hsplan dispatch")
+@click.option("--jobs", metavar="N", type=click.IntRange(1, MOST_JOBS), help="processes side by side; one a processor")
 @with_hours
 def demand(logs: tuple[str, ...], regions: str, into: str | None, kept: str | None, **given: Any) -> None:
     """Counts the queries of access logs by region and handle.
@@ -438,13 +439,16 @@ def demand(logs: tuple[str, ...], regions: str, into: str | None, kept: str | No
     those of one clock: that of the first time in the logs. DIR/demand.csv has the busiest hour.
     """
     programs, by = Programs(), given["by"]
+    if by.cycle and (kept or given["busiest_hour"]):
+        raise click.UsageError(f"--log and --busiest-hour are of one demand, and --by {by.cycle.word} makes many")
     output, folders = output_of(given, into), folders_of(into, by.cycle)
     refuse_own(logs, regions, into, [own for own in (output, kept, *tables_in(folders)) if own], given)
     refuse_clashes([path_in(into, NAMES["demand"])] if into else [], [kept] if kept else [])
     reading = Reading(form_of(given), regions_in(regions, by.field, given["elsewhere"], programs), Judge(programs))
+    reading.jobs = given["jobs"] or min(MOST_JOBS, len(os.sched_getaffinity(0)))
     if sys.stderr.isatty():
         gauge = Gauge(logs, 2 if given["busiest_hour"] or by.cycle else 1)
-        reading.watch, reading.progress = gauge.watch, Progress(gauge).show
+        reading.progress = Progress(gauge).show
     expect(twice(logs))
     inputs = foreseen(regions, into, given, any(map(may_be_long, logs)), programs)
     found = by_hours(logs, reading, given, by.cycle) if by.cycle else None

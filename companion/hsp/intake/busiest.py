@@ -2,6 +2,7 @@
 
 from __future__ import annotations
 
+import contextlib
 import os
 import stat
 from collections import Counter
@@ -10,10 +11,10 @@ from dataclasses import replace
 
 from hsp.base.numbers import some
 from hsp.base.unfit import Unfit
-from hsp.intake.forms import OTHER_TIME, Tag, timed
+from hsp.intake.forms import OTHER_TIME, Tag
 from hsp.intake.logs import Skipped
-from hsp.intake.queries import Reading, queries
-from hsp.intake.regions import tag_of, tagged
+from hsp.intake.queries import Reading
+from hsp.intake.side_by_side import parts_of
 from hsp.intake.times import HOUR, Span, Time, shown_time, shown_zone
 
 
@@ -26,10 +27,12 @@ def refuse_pipes(logs: Sequence[str], option: str) -> None:
 
 def counted_by(logs: Sequence[str], reading: Reading, tag: Tag) -> tuple[Counter[bytes], Reading]:
     """How many queries have each tag of their time, and what was passed over."""
-    first = replace(reading, seek=tagged(reading.seek), wrap=timed(tag), skipped=Skipped(), lines=0)
+    first = replace(reading, tag=tag, are_tags=True, skipped=Skipped())
     counts: Counter[bytes] = Counter()
-    for path in logs:
-        counts.update(tag_of(region)[0] for region, _ in queries(path, first))
+    with contextlib.closing(parts_of(logs, first)) as parts:
+        for part in parts:
+            for (own, _), count in part.counts.items():
+                counts[own] += count
     return counts, first
 
 

@@ -17,7 +17,7 @@ Taken = tuple[bytes, "bytes | str"]
 Take = Callable[[bytes], Taken]
 # From a line to its time, or none.
 Clock = Callable[[bytes], "Time | None"]
-# From a time to the tag of its lines, a word, or the reason why they don't count.
+# From a time to the tag of its lines, a word or nothing, or the reason why they don't count.
 Tag = Callable[[Time], "bytes | str"]
 
 ODD = "not a line of this form"
@@ -112,8 +112,9 @@ class Form:
             return self._clock_of_table(first)
         if self.name == "json":
             return self._clock_of_json()
-        begin, end = (b"[", b"]") if self.name == "proxy" else (b'"', b'"')
-        return lambda line: time_of(line.partition(begin)[2].partition(end)[0])
+        if self.name == "proxy":
+            return lambda line: time_of(line.partition(b" ")[2].partition(b"[")[2].partition(b"]")[0])
+        return lambda line: time_of(line.partition(b'"')[2].partition(b'"')[0])
 
     def _clock_of_table(self, first: bytes) -> Clock:
         header = _row(first)
@@ -235,29 +236,9 @@ class Form:
         return take
 
 
-def timed(tag: Tag) -> Callable[[Take, Clock], Take]:
-    """Takes only the lines whose time has a tag. One that isn't empty stands before the address."""
-
-    def wrapped(take: Take, clock: Clock) -> Take:
-        def taken(line: bytes) -> Taken:
-            time = clock(line)
-            if time is None:
-                address, handle = take(line)
-                return address, handle if handle.__class__ is str else NO_TIME
-            found = tag(time)
-            if isinstance(found, str):
-                return b"", found
-            address, handle = take(line)
-            return b"%b %b" % (found, address) if found else address, handle
-
-        return taken
-
-    return wrapped
-
-
-def within(span: Span) -> Callable[[Take, Clock], Take]:
-    """Takes only the lines of a span of time."""
-    return timed(lambda time: b"" if span.has(time.seconds) else OTHER_TIME)
+def within(span: Span) -> Tag:
+    """Has only the lines of a span of time counted, and doesn't tell them apart."""
+    return lambda time: b"" if span.has(time.seconds) else OTHER_TIME
 
 
 def _unescaped(match: re.Match[bytes]) -> bytes:

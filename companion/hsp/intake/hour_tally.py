@@ -8,7 +8,7 @@ from __future__ import annotations
 import io
 import os
 import re
-from collections.abc import Callable, Iterable, Iterator
+from collections.abc import Callable, Iterable, Iterator, Mapping
 
 from hsp.base.bounds import BESIDE, MOST_HELD, Query
 from hsp.base.grammar import MOST_DEMAND_ROWS
@@ -38,20 +38,18 @@ class HourTally(Tally):
         # The octets of the demand of an hour, in pieces of whole rows, as soon as there is a demand.
         self.table: Callable[[int], Iterator[bytes]] = lambda hour: iter(())
 
-    def add(self, queries: Iterable[Query]) -> Iterator[list[Query]]:
-        return super().add(self._untagged(queries))
-
-    def _untagged(self, queries: Iterable[Query]) -> Iterator[Query]:
-        """Counts queries by their hours, and passes them on without these."""
-        for tagged, handle in queries:
+    def count(self, counts: Mapping[Query, int]) -> None:
+        """Counts queries by their hours, too."""
+        plain: dict[Query, int] = {}
+        for (tagged, handle), number in counts.items():
             tag, region = tag_of(tagged)
             hour, pair = int(tag), (region, handle)
-            counts = self._hours[hour]
-            before = counts.get(pair, 0)
-            counts[pair] = before + 1
-            self._entries += not before
-            self.queries[hour] += 1
-            yield pair
+            of_hour = self._hours[hour]
+            self._entries += pair not in of_hour
+            of_hour[pair] = of_hour.get(pair, 0) + number
+            self.queries[hour] += number
+            plain[pair] = plain.get(pair, 0) + number
+        super().count(plain)
 
     @property
     def _is_full(self) -> bool:

@@ -1,20 +1,27 @@
-"""The lines of a log, plain or packed, with their numbers."""
+"""The lines of a log, plain or packed, with their numbers: by themselves, or many in a block."""
 
 from __future__ import annotations
 
 import bz2
 import gzip
 import io
+import itertools
 import lzma
+import os
+import stat
 import sys
 import zlib
-from collections.abc import Callable, Iterator
-from typing import IO, Any, cast
+from collections.abc import Callable, Iterable, Iterator
+from typing import IO, Any, NamedTuple, cast
 
 from hsp.base.unfit import Unfit, shown
 
 
 BLOCK = 1 << 20
+# So many octets of lines are looked at together: as many as stay near a processor.
+TOGETHER = 1 << 16
+# A plain log is read in pieces of so many octets, each of which any process can read.
+PIECE = 1 << 23
 # A longer line is no query: a handle has at most 4,096 octets, and servers take no longer requests.
 LONGEST = 1 << 15
 # No more octets of a line are held, and the memory that an xz file may ask for.
@@ -22,6 +29,8 @@ MOST_OF_LINE, MOST_XZ = 1 << 20, 1 << 27
 TOO_LONG = f"longer than {LONGEST:,} octets"
 UTF_8_MARK = b"\xef\xbb\xbf"
 UTF_16 = (b"\xff\xfe", b"\xfe\xff")
+# Takes a line that is passed over: the reason, its number, and its beginning.
+Skip = Callable[[str, int, bytes], None]
 # What looks at the file of a log, so that it is known how much of it was read.
 Watch = Callable[[io.BufferedReader], None]
 DAMAGE = (EOFError, zlib.error, lzma.LZMAError, gzip.BadGzipFile)
@@ -38,10 +47,11 @@ class Skipped:
         self.counts: dict[str, int] = {}
         self.first: dict[str, str] = {}
 
-    def add(self, reason: str, path: str, number: int, line: bytes) -> None:
+    def add(self, reason: str, path: str, number: int, line: bytes, count: int = 1) -> None:
+        """Adds so many lines, of which the first one is given."""
         if reason not in self.counts:
             self.first[reason] = f"{path}:{number}: {shown(line.decode('utf-8', 'replace'))}"
-        self.counts[reason] = self.counts.get(reason, 0) + 1
+        self.counts[reason] = self.counts.get(reason, 0) + count
 
     @property
     def sum(self) -> int:
@@ -102,46 +112,150 @@ def opened(path: str, watch: Watch = unwatched) -> io.BufferedReader:
     return file
 
 
+class Piece(NamedTuple):
+    """A log, or those of its lines that begin at an octet or later, and before an end where it has one."""
+
+    path: str
+    begin: int = 0
+    end: int | None = None
+
+
+class Lines(NamedTuple):
+    """Whole lines, each with its end, and the number of the first one."""
+
+    number: int
+    text: bytes
+
+
+def pieces_of(path: str, size: int = PIECE) -> list[Piece]:
+    """The pieces of a log: several only of a plain file. What can't be looked at is one, and faults when it is read."""
+    whole = [Piece(path)]
+    try:
+        found = os.stat(path)
+        if path == "-" or not stat.S_ISREG(found.st_mode) or found.st_size <= size:
+            return whole
+        with open(path, "rb") as file:
+            head = file.read(8)
+    except OSError:
+        return whole
+    if head.startswith((*PACKED, *UTF_16)):
+        return whole
+    begins = range(0, found.st_size, size)
+    return [Piece(path, begin, begin + size if begin != begins[-1] else None) for begin in begins]
+
+
+def _behind_a_line_end(file: io.BufferedReader, piece: Piece, size: int) -> bytes | None:
+    """What was read behind the end of the line that goes on into a piece. None where no line begins in the piece."""
+    file.seek(piece.begin - 1)
+    while True:
+        left = piece.end - 1 - file.tell() if piece.end else size
+        block = file.read1(min(size, left)) if left > 0 else b""
+        cut = block.find(b"\n") + 1
+        if cut or not block:
+            return block[cut:] if cut else None
+
+
+def _within(file: io.BufferedReader, piece: Piece, size: int) -> Iterator[bytes]:
+    """The blocks of a piece, up to the end of its last line."""
+    rest = _behind_a_line_end(file, piece, size) if piece.begin else b""
+    if rest is None:
+        return
+    for block in itertools.chain([rest], iter(lambda: file.read1(size), b"")):
+        over = file.tell() - piece.end if piece.end else -1
+        if over >= 0:
+            cut = block.find(b"\n", max(0, len(block) - over - 1)) + 1
+            if cut:
+                yield block[:cut]
+                return
+        yield block
+
+
+def _blocks(piece: Piece, numbers: list[int], watch: Watch, size: int) -> Iterator[bytes]:
+    path = piece.path
+    with opened(path, watch) as file:
+        try:
+            if piece.begin or piece.end:
+                yield from _within(file, piece, size)
+                return
+            while block := file.read1(size):
+                yield block
+        except DAMAGE as error:
+            raise Unfit(f"{path}: line {numbers[0]}: it can't be unpacked further: {error}") from None
+        except OSError as error:
+            if error.errno is not None:
+                raise OSError(error.errno, error.strerror, path) from None
+            raise Unfit(f"{path}: line {numbers[0]}: it can't be unpacked further: {error}") from None
+
+
 def blocks(path: str, numbers: list[int], watch: Watch = unwatched, size: int = BLOCK) -> Iterator[bytes]:
     """The blocks of a log. `numbers` holds the number of the line that the next block goes on with."""
-    with opened(path, watch) as file:
-        while True:
-            try:
-                block = file.read1(size)
-            except DAMAGE as error:
-                raise Unfit(f"{path}: line {numbers[0]}: it can't be unpacked further: {error}") from None
-            except OSError as error:
-                if error.errno is not None:
-                    raise OSError(error.errno, error.strerror, path) from None
-                raise Unfit(f"{path}: line {numbers[0]}: it can't be unpacked further: {error}") from None
-            if not block:
-                return
-            yield block
+    return _blocks(Piece(path), numbers, watch, size)
 
 
-def numbered(path: str, skipped: Skipped, watch: Watch = unwatched) -> Iterator[tuple[int, bytes]]:
-    """The lines of a log that aren't empty, with their numbers from 1 on."""
+def lines_of(piece: Piece, skip: Skip, watch: Watch = unwatched) -> Iterator[Lines]:
+    """The lines of a piece in blocks, numbered from its first one on. One that is too long is an empty one.
+
+    The last block has no lines, and the number behind all.
+    """
     numbers, rest, is_long = [1], b"", False
-    for at, block in enumerate(blocks(path, numbers, watch)):
-        block = block.removeprefix(UTF_8_MARK) if not at else block
-        lines = (rest + block).split(b"\n")
-        rest = lines.pop()
-        number = numbers[0]
-        for line in lines:
-            if is_long:
-                is_long = False
-            elif len(line) > LONGEST:
-                skipped.add(TOO_LONG, path, number, line[:99])
-            else:
-                line = line.rstrip(b"\r")
-                if line:
-                    yield number, line
-            number += 1
-        numbers[0] = number
+    for at, block in enumerate(_blocks(piece, numbers, watch, BLOCK)):
+        block = block.removeprefix(UTF_8_MARK) if not at and not piece.begin else block
+        if is_long:
+            _, end, block = block.partition(b"\n")
+            is_long = not end
+            numbers[0] += len(end)
+        text = rest + block
+        whole = text.rfind(b"\n") + 1
+        rest = text[whole:]
+        for part in _parts(text, whole):
+            yield Lines(numbers[0], _tidy(part, numbers[0], skip))
+            numbers[0] += part.count(b"\n")
         if len(rest) > LONGEST:
-            if not is_long:
-                skipped.add(TOO_LONG, path, number, rest[:99])
+            skip(TOO_LONG, numbers[0], rest[:99])
             rest, is_long = b"", True
-    rest = rest.rstrip(b"\r")
-    if rest and not is_long:
-        yield numbers[0], rest
+    if rest:
+        yield Lines(numbers[0], _tidy(rest + b"\n", numbers[0], skip))
+        numbers[0] += 1
+    yield Lines(numbers[0], b"")
+
+
+def _parts(text: bytes, whole: int) -> Iterator[bytes]:
+    """The whole lines of a text in parts."""
+    at = 0
+    while at < whole:
+        end = text.find(b"\n", min(at + TOGETHER, whole) - 1) + 1
+        yield text[at:end]
+        at = end
+
+
+def _tidy(text: bytes, number: int, skip: Skip) -> bytes:
+    """Lines with the same ends, of which those that are too long are passed over.
+
+    A longer line fills one of the stretches of half that length, and has no end there.
+    """
+    half = LONGEST // 2
+    if any(text.find(b"\n", at, at + half) < 0 for at in range(0, len(text) - half + 1, half)):
+        lines = text.split(b"\n")
+        for at, line in enumerate(lines):
+            if len(line) > LONGEST:
+                skip(TOO_LONG, number + at, line[:99])
+                lines[at] = b""
+        text = b"\n".join(lines)
+    return b"\n".join([line.rstrip(b"\r") for line in text.split(b"\n")]) if b"\r" in text else text
+
+
+def numbered(path: str, skipped: Skipped) -> Iterator[tuple[int, bytes]]:
+    """The lines of a log that aren't empty, with their numbers from 1 on."""
+
+    def skip(reason: str, number: int, line: bytes) -> None:
+        skipped.add(reason, path, number, line)
+
+    return nonempty(lines_of(Piece(path), skip))
+
+
+def nonempty(blocks: Iterable[Lines]) -> Iterator[tuple[int, bytes]]:
+    """The lines of blocks that aren't empty, with their numbers."""
+    for number, text in blocks:
+        for at, line in enumerate(text.split(b"\n"), number):
+            if line:
+                yield at, line

@@ -2,7 +2,6 @@
 
 from __future__ import annotations
 
-import io
 import os
 import stat
 import time
@@ -34,20 +33,10 @@ class Gauge:
     def __init__(self, paths: Sequence[str], times: int = 1) -> None:
         whole = octets_of(paths)
         self._whole = whole * times if whole else 0
-        self._before, self._size = 0, 0
-        self._file: io.BufferedReader | None = None
 
-    def watch(self, file: io.BufferedReader) -> None:
-        """Begins with a file."""
-        self._before += self._size
-        self._size = os.fstat(file.fileno()).st_size
-        self._file = file
-
-    def share(self) -> float | None:
-        """The part of all octets that was read."""
-        if not self._whole or not self._file or self._file.closed:
-            return None
-        return min(1.0, (self._before + self._file.tell()) / self._whole)
+    def share(self, octets: int) -> float | None:
+        """The part of all octets that so many are. It isn't known of a pipe."""
+        return min(1.0, octets / self._whole) if self._whole else None
 
 
 class Progress:
@@ -57,17 +46,18 @@ class Progress:
         self._gauge = gauge
         self._begun, self._last = time.monotonic(), 0.0
 
-    def show(self, path: str, lines: int) -> None:
+    def show(self, path: str, lines: int, octets: int) -> None:
+        """Shows how many lines and octets of all logs were read, and of which log the last ones."""
         now = time.monotonic()
         if now - self._last <= PAUSE:
             return
         self._last = now
         spent = max(now - self._begun, 0.001)
-        show_progress(f"{path}: {lines:,} lines, {lines / spent:,.0f} a second{self._rest(spent)}")
+        show_progress(f"{path}: {lines:,} lines, {lines / spent:,.0f} a second{self._rest(spent, octets)}")
 
-    def _rest(self, spent: float) -> str:
+    def _rest(self, spent: float, octets: int) -> str:
         """The part that was read, and when all will be."""
-        share = self._gauge.share()
+        share = self._gauge.share(octets)
         if not share:
             return ""
         end = time.localtime(time.time() + spent * (1 - share) / share)

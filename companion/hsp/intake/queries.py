@@ -1,34 +1,26 @@
-"""The queries of a log: which region asks for which handle.
-
-hsplan judges every handle. A line that gives no query is passed over and counted, with the reason.
-"""
+"""What the reading of logs needs: the form of each, and hsplan, which judges every handle."""
 
 from __future__ import annotations
 
 import itertools
 import re
-from collections.abc import Callable, Iterable, Iterator
+from collections.abc import Callable, Iterable
 from dataclasses import dataclass, field, replace
 
-from hsp.base.bounds import Query
 from hsp.base.grammar import LOG_HEAD
 from hsp.base.programs import Programs
 from hsp.base.unfit import Unfit
-from hsp.intake.forms import NAMES, ODD, Clock, Form, Odd, Remembered, Take, likeliest
-from hsp.intake.logs import Skipped, Watch, numbered
+from hsp.intake.forms import LONGEST_REMEMBERED, NAMES, Clock, Form, Odd, Remembered, Tag, Take, likeliest
+from hsp.intake.logs import Skipped, numbered
 from hsp.intake.regions import Seek
 from hsp.intake.times import Time
 
 NAME_IT = "name one by --format, its fields by --client and --handle or --path, or give --regex"
-BATCH, BATCH_OCTETS = 1 << 14, 1 << 22
 # What a handle takes beside its octets while it is remembered.
 BESIDE = 120
 SEEN_FIRST = 100
 REFUSED = "refused "
 BAD_HANDLE = "BadHandle "
-
-Wrap = Callable[[Take, Clock], Take]
-
 
 _is_odd = re.compile(rb'[",\r\n]').search
 
@@ -65,6 +57,38 @@ class Judge:
         return {own: self._faults[own] for own in asked & self._faults.keys()} if self._faults else {}
 
 
+class Handles(Remembered):
+    """What a function gives for octets: handles, or why there is none. Those that come anew wait to be judged."""
+
+    def __init__(self, function: Callable[[bytes], bytes | str], judge: Judge) -> None:
+        super().__init__(function)
+        self._judge, self._is_cleared = judge, False
+        self.fresh: set[bytes] = set()
+        # Of those that were judged and are remembered, the ones that are none, with the reason.
+        self._faults: dict[bytes, str] = {}
+
+    def __missing__(self, key: bytes) -> bytes | str:
+        found = super().__missing__(key)
+        if isinstance(found, bytes):
+            self.fresh.add(found)
+        return found
+
+    def clear(self) -> None:
+        super().clear()
+        self._is_cleared = True
+
+    def faults(self) -> dict[bytes, str]:
+        """Of all handles that were given since this was last asked, those that are none, with the reason."""
+        fresh = self._judge.faults(self.fresh) if self.fresh else {}
+        found = {**self._faults, **fresh} if fresh else self._faults
+        if fresh or self._is_cleared:
+            kept = fresh if self._is_cleared else found
+            self._faults = {own: why for own, why in kept.items() if len(own) <= LONGEST_REMEMBERED}
+            self._octets += sum(len(own) + len(why) + BESIDE for own, why in fresh.items())
+        self.fresh, self._is_cleared = set(), False
+        return found
+
+
 @dataclass
 class Reading:
     """What the reading of logs needs, and what it counts."""
@@ -73,31 +97,41 @@ class Reading:
     seek: Seek
     judge: Judge
     skipped: Skipped = field(default_factory=Skipped)
-    # How lines are taken by their time; None where it doesn't matter.
-    wrap: Wrap | None = None
+    # What the time of a line makes of it; None where times don't matter. A tag stands before the region.
+    tag: Tag | None = None
+    # Whether only tags are counted, in place of regions and handles.
+    are_tags: bool = False
     lines: int = 0
-    progress: Callable[[str, int], None] = lambda path, lines: None
-    watch: Watch = lambda file: None
+    octets: int = 0
+    # So many processes read side by side.
+    jobs: int = 1
+    # What was found for octets before, in any log.
+    remembered: dict[str, Remembered] = field(default_factory=dict)
+    progress: Callable[[str, int, int], None] = lambda path, lines, octets: None
 
 
-def _taker(path: str, form: Form, first: list[tuple[int, bytes]]) -> tuple[Form, Take]:
-    """How the lines of a log are taken, by its first lines where no form is named."""
+def form_of(path: str, form: Form, first: list[tuple[int, bytes]]) -> Form:
+    """The form of a log, by its first lines where none is named."""
+    if form.name != "auto" or form.pattern:
+        return form
     lines = [line for _, line in first]
-    chosen: Form | None = form
-    if form.name == "auto" and not form.pattern:
-        chosen = likeliest((replace(form, name=name) for name in NAMES), lines)
-        if not chosen:
-            raise Unfit(f"{path}: line {first[0][0]}: a log of no known form; {NAME_IT}")
-    assert chosen
+    chosen = likeliest((replace(form, name=name) for name in NAMES), lines)
+    if not chosen:
+        raise Unfit(f"{path}: line {first[0][0]}: a log of no known form; {NAME_IT}")
+    return chosen
+
+
+def take_of(path: str, form: Form, number: int, line: bytes) -> Take:
+    """How the lines of a log are taken. The given line is its first one."""
     try:
-        return chosen, chosen.take(lines[0])
+        return form.take(line)
     except Odd:
-        wanted = f"{chosen.client} and {chosen.path or chosen.handle}"
-        raise Unfit(f"{path}: line {first[0][0]}: no header with {wanted}") from None
+        wanted = f"{form.client} and {form.path or form.handle}"
+        raise Unfit(f"{path}: line {number}: no header with {wanted}") from None
 
 
-def _clock(path: str, form: Form, line: bytes) -> Clock:
-    """How the time of a line is read, where the log has times. `line` is the first one."""
+def clock_of(path: str, form: Form, line: bytes) -> Clock:
+    """How the time of a line is read, where the log has times. The given line is its first one."""
     try:
         return form.clock(line)
     except Odd:
@@ -111,64 +145,5 @@ def first_time(path: str, reading: Reading) -> Time | None:
     first = list(itertools.islice(lines, SEEN_FIRST))
     if not first:
         return None
-    form, _ = _taker(path, reading.form, first)
-    clock = _clock(path, form, first[0][1])
+    clock = clock_of(path, form_of(path, reading.form, first), first[0][1])
     return next((time for _, line in itertools.chain(first, lines) if (time := clock(line))), None)
-
-
-def queries(path: str, reading: Reading) -> Iterator[Query]:
-    """Region and handle of each query of a log, in their order."""
-    lines = numbered(path, reading.skipped, reading.watch)
-    first = list(itertools.islice(lines, SEEN_FIRST))
-    if not first:
-        return
-    form, take = _taker(path, reading.form, first)
-    if reading.wrap:
-        take = reading.wrap(take, _clock(path, form, first[0][1]))
-    regions, skip = Remembered(reading.seek), reading.skipped.add
-    rows: list[Query] = []
-    places: list[tuple[int, bytes]] = []
-    count = octets = 0
-    rest = itertools.chain(first, lines)
-    if form.name == "csv" and not form.pattern:
-        next(rest)
-    for number, line in rest:
-        count += 1
-        try:
-            address, handle = take(line)
-        except Odd:
-            skip(ODD, path, number, line)
-            continue
-        if handle.__class__ is str:
-            skip(str(handle), path, number, line)
-            continue
-        region = regions[address]
-        if region.__class__ is str:
-            skip(str(region), path, number, line)
-            continue
-        rows.append((region, handle))  # type: ignore[arg-type]
-        places.append((number, line[:99]))
-        octets += len(line)
-        if len(rows) == BATCH or octets > BATCH_OCTETS:
-            yield from _judged(path, reading, rows, places)
-            rows, places, octets = [], [], 0
-            reading.progress(path, reading.lines + count)
-    yield from _judged(path, reading, rows, places)
-    reading.lines += count
-
-
-def _judged(path: str, reading: Reading, rows: list[Query], places: list[tuple[int, bytes]]) -> Iterable[Query]:
-    """The queries whose handles hsplan takes. The places are the numbers and the beginnings of their lines."""
-    faults = reading.judge.faults(handle for _, handle in rows)
-    return _without(path, reading, faults, zip(rows, places)) if faults else rows
-
-
-def _without(
-    path: str, reading: Reading, faults: dict[bytes, str], placed: Iterable[tuple[Query, tuple[int, bytes]]]
-) -> Iterator[Query]:
-    """The queries but those whose handles have a fault."""
-    for row, (number, line) in placed:
-        if row[1] in faults:
-            reading.skipped.add(faults[row[1]], path, number, line)
-        else:
-            yield row

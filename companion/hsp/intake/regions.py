@@ -44,21 +44,10 @@ def packed(address: bytes) -> bytes | None:
     return octets[12:] if octets.startswith(MAPPED) else octets
 
 
-def tagged(seek: Seek) -> Seek:
-    """Keeps the tag that stands before an address, before its region."""
-
-    def tagged_region(octets: bytes) -> bytes | str:
-        tag, address = tag_of(octets)
-        region = seek(address)
-        return b"%b %b" % (tag, region) if isinstance(region, bytes) else region
-
-    return tagged_region
-
-
 def tag_of(octets: bytes) -> tuple[bytes, bytes]:
-    """The tag, and what stands behind it."""
-    tag, _, own = octets.partition(b" ")
-    return tag, own
+    """The tag that stands before a region, and the region."""
+    tag, _, region = octets.partition(b" ")
+    return tag, region
 
 
 Network = tuple[int, int, bytes]

@@ -9,7 +9,7 @@ import csv
 import itertools
 import re
 from collections import Counter
-from collections.abc import Callable, Iterable, Iterator
+from collections.abc import Callable, Iterable, Iterator, Mapping
 from dataclasses import dataclass
 
 from hsp.base.bounds import MOST_HELD, Query, pieces, weight
@@ -84,16 +84,21 @@ class Tally:
     def add(self, queries: Iterable[Query]) -> Iterator[list[Query]]:
         """Counts queries, and passes them on in pieces."""
         for chunk in pieces(queries):
-            before = len(self._counts)
-            self._counts.update(chunk)
-            self._octets += weight(itertools.islice(reversed(self._counts), len(self._counts) - before))
-            self.asked += len(chunk)
-            if len(self._counts) > MOST_DEMAND_ROWS:
-                self.regions.update({region for region, _ in chunk})
-                self._joinable()
-            if self._is_full:
-                self._spill()
+            self.count(Counter(chunk))
             yield chunk
+
+    def count(self, counts: Mapping[Query, int]) -> None:
+        """Counts queries that were counted in a part of the logs. The pairs come in the order in which they first do."""
+        own, before = self._counts, len(self._counts)
+        for pair, number in counts.items():
+            own[pair] = own.get(pair, 0) + number
+        self._octets += weight(itertools.islice(reversed(own), len(own) - before))
+        self.asked += sum(counts.values())
+        if len(own) > MOST_DEMAND_ROWS:
+            self.regions.update({region for region, _ in counts})
+            self._joinable()
+        if self._is_full:
+            self._spill()
 
     @property
     def _is_full(self) -> bool:
