@@ -297,3 +297,39 @@ def test_a_page_without_scripts_has_its_hours(browser: Any, page_of_day: Path, t
     plain.write_text(text, encoding="utf-8")
     page = Page(browser, plain, 1200, "light")
     assert "Everyone is served at every hour." in page.text() and "hsplan-stream answer" in page.text()
+
+
+def test_hours_and_losses_of_a_log(hsp: Hsp, day: Path, monkeypatch: pytest.MonkeyPatch) -> None:
+    """A demand that no table holds is planned by prices: each hour and each loss, without portions and blocks."""
+    as_table = list(csv.DictReader(io.StringIO(hsp("day", str(day), "--csv").stdout)))
+    losses = hsp("survive", str(day), "--csv", "--no-save", status=3).stdout
+    monkeypatch.setattr("hsp.plans.counted.MOST_DEMAND_ROWS", 2)
+    rows = list(csv.DictReader(io.StringIO(hsp("day", str(day), "--csv").stdout)))
+    assert [(it["hour"], it["queries"], it["cost"]) for it in rows] == [
+        (it["hour"], it["queries"], it["cost"]) for it in as_table
+    ]
+    assert (day / "h09/plan.txt").read_text().startswith("HSPLAN PRICES 1\n")
+    assert f"--prices {day}/h09/plan.txt" in (day / "day.html").read_text()
+    for kept, own in zip(csv_rows(losses), csv_rows(hsp("survive", str(day), "--csv", "--no-save", status=3).stdout)):
+        assert (kept["what"], kept["lack"], kept["cost"]) == (own["what"], own["lack"], own["cost"])
+    printed = hsp("plan", str(day), "--near", str(day), "--more").stdout
+    assert "near  no: the rows of a log have no portions; this is the plain plan" in printed
+    assert "loss  without site reston short by 3,272 queries" in printed
+    roomy = re.sub(r",(\d+)$", r",\g<1>0", (day / "capacity.csv").read_text(), flags=re.M)
+    (day / "capacity.csv").write_text(roomy)
+    printed = hsp("survive", str(day), "--buy").stdout
+    assert "kept  8 fallback plans" in printed and "the rows of a log have no portions" in printed
+    programs = Programs()
+    service = read_service(str(day), programs, {"costs": str(day / "fallback/site-paris/costs.csv")})
+    assert service.log and programs.verdict(service.inputs, str(day / "fallback/site-paris/plan.txt")) == "yes"
+
+
+def csv_rows(text: str) -> list[dict[str, str]]:
+    return list(csv.DictReader(io.StringIO(text)))
+
+
+def test_one_purchase_serves_all_losses_of_a_log(hsp: Hsp, day: Path, monkeypatch: pytest.MonkeyPatch) -> None:
+    monkeypatch.setattr("hsp.plans.counted.MOST_DEMAND_ROWS", 2)
+    printed = hsp("survive", str(day), "--buy", "--no-save", status=3).stdout
+    assert "buy   room for 5,174 queries more at 5 servers serves every loss" in printed
+    assert "no purchase below 5,174 does, by 2 short sets of weight 1" in printed

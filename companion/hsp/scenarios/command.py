@@ -87,7 +87,7 @@ def grow(
 def _near(words: str | None, service: Service, programs: Judged) -> tuple[Portions | None, str]:
     """The portions by which fallbacks are near a plan in force, and what they are near to; or why they aren't."""
     if service.log:
-        return None, "a log's rows have no portions, so fallbacks are plain plans"
+        return None, "the rows of a log have no portions, so fallbacks are plain plans"
     path = words or path_in(service.folder, PLAN)
     try:
         held = in_force(path, service, programs)

@@ -19,10 +19,11 @@ FOLDER = "near"
 
 @dataclass(frozen=True)
 class Near:
-    """A service with a plan near the one in force, or with the plain plan where `why` says why it isn't near."""
+    """A service with a plan near the one in force, or with the plain plan where `why` says why it isn't near. Of a log
+    nobody knows what its plan moves."""
 
     service: Service
-    held: InForce
+    held: InForce | None
     moved: int
     plain: int
     why: str = ""
@@ -32,6 +33,8 @@ class Near:
     def line(self) -> str:
         """How many queries are moved, and by how many the plain plan would move."""
         moved, plain = self._share(self.moved), self._share(self.plain)
+        if not self.held:
+            return f"near  no: {self.why}; this is the plain plan"
         if self.why:
             return f"near  no: {self.why}; this is the plain plan, which moves {plain} from {self.held.path}"
         of = f"{self.service.asked:,} queries"
@@ -66,6 +69,8 @@ class Near:
 
 def near_plan(words: str, service: Service, programs: Judged) -> Near:
     """Of the cheapest plans of a service one that moves the fewest queries from the plan in force."""
+    if service.log:
+        return Near(service, None, 0, 0, "the rows of a log have no portions")
     held = in_force(words, service, programs)
     plain = moved_between(service, held.homes, service.certificate, held.by_kind)
     try:
