@@ -7,8 +7,9 @@
 # make release     writes the folder release from what was proved and built: an archive and a package of Debian
 # make deb         writes the package of Debian of the release anew
 # make quick       runs the checks that need no built program: documents, examples, completions, types
+# make check       runs what needs no kit, over the released programs: documents, examples, hsp, cases, random inputs
 # make test        runs the whole gate: the checks of documents and examples, every proof from nothing,
-#                  every test and every must-fail edit
+#                  every test and every must-fail edit; without the kit it is `make check`, and ends with an error
 # make mutants     checks that each wrong body of mutants/ is refused by its test or case; outside the gate
 # make fuzz N=..   gives the built programs N inputs that are changed at random; outside the gate
 
@@ -19,7 +20,7 @@ DESTDIR ?=
 # HSPLAN and HSPLAN_STREAM name the programs that a check tries. Here these are the ones that are built.
 unexport HSPLAN HSPLAN_STREAM
 
-.PHONY: demo try install uninstall prove release deb quick test mutants fuzz
+.PHONY: demo try install uninstall prove release deb quick check test gate unproved mutants fuzz
 
 demo:
 	@tools/demo.py
@@ -56,8 +57,16 @@ quick:
 	tools/gate/check_modules.py
 	tools/gate/check_tools.py
 
+check:
+	@tools/check.py
+
+test: $(if $(shell command -v rt 2> /dev/null),gate,unproved)
+
+unproved:
+	@tools/check.py --unproved
+
 # The checks that need no built program run before the proofs.
-test: quick
+gate: quick
 	RT_JOBS=$${RT_JOBS:-$$(tools/gate/lanes.py)} rt ci
 	tools/gate/check_docs.py
 	tools/gate/check_examples.py

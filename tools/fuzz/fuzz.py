@@ -1,4 +1,4 @@
-#!/usr/bin/env python3
+#!/usr/bin/python3
 """Gives the built programs inputs that are changed at random, or written from fields that are drawn, and judges their
 answers.
 
@@ -79,7 +79,7 @@ def main() -> int:
     words.add_argument("--seed", type=int, default=1)
     words.add_argument("--kinds", default="", help="names with a comma between them")
     for name, option in PROGRAMS.items():
-        words.add_argument(option, dest=name, metavar="FILE", default=programs.built_path(name))
+        words.add_argument(option, dest=name, metavar="FILE", default=programs.tested(name))
     given = words.parse_args()
     packages.install(packages.absent(["python3-hypothesis"]))
     from runner import built

@@ -18,8 +18,8 @@ It fails where
 - a command stands in a block that is not marked, or prints something else;
 - a file still has the marks of a merge.
 
-    tools/gate/check_docs.py --names               checks the names only, without the program
-    tools/gate/check_docs.py [--program FILE]      does all
+    tools/gate/check_docs.py --names                        checks the names only, without the program
+    tools/gate/check_docs.py [--program FILE] [--bash]      does all; with --bash in bash and no other shell
 """
 from __future__ import annotations
 
@@ -42,6 +42,7 @@ Found = tuple[list[str], int]
 # The mark of a block, or None between blocks, and its lines.
 Block = tuple[str | None, list[str]]
 
+SHELLS = ("dash", "zsh")
 PAGES = ("docs/use/hsplan.1", "docs/use/hsplan-stream.1", "docs/use/hsp.1")
 
 
@@ -267,14 +268,15 @@ def steps_in(path: str) -> list[transcripts.Step]:
     return [step for mark, lines in found if not lacking(mark) for step in transcripts.steps_of(lines)]
 
 
-def wrong_commands(program: str) -> Found:
-    """The commands of the documents that print something other than the documents show, and how many there are."""
+def wrong_commands(program: str, shells: tuple[str, ...]) -> Found:
+    """The commands of the documents that print something other than the documents show, in bash or in one of the
+    shells, and how many there are."""
     found = {path: steps_in(path) for path in documents()}
     found.update({page: manual_steps(page) for page in PAGES})
     faults = [
         fault for path, steps in found.items() if steps for fault in transcripts.faults_of(path, steps, program)
     ]
-    for shell in ("dash", "zsh"):
+    for shell in shells:
         faults += wrong_in(
             shell,
             {path: steps for path, steps in found.items() if path == "README.md" or path.startswith("docs/use/")},
@@ -314,13 +316,14 @@ def main() -> int:
     arguments.add_argument(
         "--program", default=transcripts.PROGRAM, help="the program that is run, if not the built one"
     )
+    arguments.add_argument("--bash", action="store_true", help="run the commands in bash and no other shell")
     chosen = arguments.parse_args()
     if not chosen.names and not os.access(chosen.program, os.X_OK):
         print(f"no program {chosen.program}: run rt ci or make prove first")
         return 1
     found = {kind: check() for kind, check in KINDS.items()}
     if not chosen.names:
-        found["commands run"] = wrong_commands(chosen.program)
+        found["commands run"] = wrong_commands(chosen.program, () if chosen.bash else SHELLS)
     faults = [fault for it, _ in found.values() for fault in it]
     counts = ", ".join(f"{count} {kind}" for kind, (_, count) in found.items())
     print("\n".join(faults + [f"documents: {counts}; {len(faults)} faults"]))

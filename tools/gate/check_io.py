@@ -2,7 +2,7 @@
 """Makes each call of `open`, `read`, `write` and `close` of the built program fail in turn, over the cases in
 checks/hsplan.
 
-    tools/gate/check_io.py [--jobs N] [CASE]..
+    tools/gate/check_io.py [--jobs N] [--each N] [CASE]..    each N-th call of a case
 
 Each case is run as tools/gate/check_program.py runs it, with its words as arguments and on standard input. A first run
 records its calls. Then each call is made to fail in a run of its own, in each of the ways below. The table states
@@ -81,11 +81,12 @@ class Run(NamedTuple):
 
 
 class Tools(NamedTuple):
-    """The program, the library that lets calls fail, and answers that are known."""
+    """The program, the library that lets calls fail, answers that are known, and that each so many-th call is tried."""
 
     program: str
     preloaded: str
     answers: dict[tuple[tuple[bytes, ...], bytes, str], cases.Ended]
+    each: int
 
 
 def is_of_log(run: Run) -> bool:
@@ -213,8 +214,10 @@ def check_run(pool: Pool, tools: Tools, run: Run) -> tuple[list[str], int]:
     if ordinary != hoped:
         return [f"{run.case.name}: wanted {hoped}, got {ordinary}"], 0
     tried = [(call, kind) for call in calls for kind in ERRORS[call.name] if has_stand_in(call, kind, calls)]
-    found = pool.map(lambda one: fault_of(tools, run, one[0], one[1], ordinary), tried)
-    return [fault for faults in found for fault in faults], len(tried)
+    # Another call of each case comes first, so that all kinds of calls are tried.
+    chosen = tried[len(run.case.name) % tools.each :: tools.each]
+    found = pool.map(lambda one: fault_of(tools, run, one[0], one[1], ordinary), chosen)
+    return [fault for faults in found for fault in faults], len(chosen)
 
 
 def check_cases(pool: Pool, tools: Tools, names: list[str], room: str) -> tuple[list[str], int]:
@@ -379,14 +382,15 @@ def main() -> int:
         description="Makes each call of the built program on files and streams fail in turn."
     )
     growth.jobs_of(words)
-    words.add_argument("--program", default=os.path.join(programs.TOP, "crates", "hsplan", "out", "hsplan"))
+    words.add_argument("--program", default=programs.tested("hsplan"))
+    words.add_argument("--each", type=int, default=1, metavar="N", help="try each N-th call of a case")
     words.add_argument("names", nargs="*", metavar="CASE")
     given = words.parse_args()
     if not os.access(given.program, os.X_OK):
         print(f"no program {given.program}: run rt ci first")
         return 1
     with tempfile.TemporaryDirectory() as room, concurrent.futures.ThreadPoolExecutor(given.jobs) as pool:
-        tools = Tools(os.path.abspath(given.program), preload.built("fail_io", room), {})
+        tools = Tools(os.path.abspath(given.program), preload.built("fail_io", room), {}, given.each)
         found = [check_cases(pool, tools, given.names, room)]
         folder = os.path.join(room, "data")
         found += [] if given.names else [check_streams(tools, folder), check_shrinking(tools, folder, room)]

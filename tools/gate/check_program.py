@@ -8,7 +8,7 @@ in turn. The program has to report that, or to end as without a refusal. The com
 printed their first lines by then. If a case has more than growth.MOST allocations, some are left out, as by
 tools/gate/check_growth.py.
 
-    tools/gate/check_program.py [--jobs N]
+    tools/gate/check_program.py [--jobs N] [--most N]    refuses N allocations of a case that has more
 """
 from __future__ import annotations
 
@@ -55,13 +55,14 @@ def refusing(
 
 
 class Room(NamedTuple):
-    """Where the cases of a program run: its name, its path, the shared files, and the library that refuses."""
+    """Where the cases of a program run: its name, its path, the shared files, the library that refuses, and how many
+    allocations of a case are refused, if not growth.MOST."""
 
     name: str
     program: str
-    folder: str
     data: str
     preloaded: str
+    most: int | None
 
 
 def check_way(pool: concurrent.futures.Executor, room: Room, case: cases.Case, folder: str, way: cases.Way) -> Tried:
@@ -69,7 +70,7 @@ def check_way(pool: concurrent.futures.Executor, room: Room, case: cases.Case, f
     wanted, count = refusing(room.program, way, folder, room.preloaded, 0)
     if count is None:
         return Tried([*faults, f"{case.name}: no count of allocations"])
-    chosen = growth.numbers(count)
+    chosen = growth.numbers(count, room.most)
     answers = pool.map(functools.partial(refusing, room.program, way, folder, room.preloaded), chosen)
     words = way[0] or way[1].split()
     for number, (got, _) in zip(chosen, answers):
@@ -78,10 +79,10 @@ def check_way(pool: concurrent.futures.Executor, room: Room, case: cases.Case, f
     return Tried(faults, len(chosen), count)
 
 
-def check(pool: concurrent.futures.Executor, name: str, folder: str) -> list[str]:
+def check(pool: concurrent.futures.Executor, name: str, folder: str, most: int | None) -> list[str]:
     """The faults of the cases of a program."""
-    data = cases.base(name, folder, programs.built_path("hsplan"))
-    room = Room(name, programs.built_path(name), folder, data, preload.built("refuse_growth", folder))
+    data = cases.base(name, folder, programs.tested("hsplan"))
+    room = Room(name, programs.tested(name), data, preload.built("refuse_growth", folder), most)
     every = cases.cases_in(name)
     places = {case.name: cases.folder_of(case, folder, data) for case in every}
     found = [check_way(pool, room, case, places[case.name], way) for case in every for way in case.ways()]
@@ -95,16 +96,17 @@ def check(pool: concurrent.futures.Executor, name: str, folder: str) -> list[str
 def main() -> int:
     arguments = argparse.ArgumentParser(description="Runs the built programs over the cases in checks.")
     growth.jobs_of(arguments)
-    jobs = arguments.parse_args().jobs
-    absent = [path for path in map(programs.built_path, programs.PROGRAMS) if not os.access(path, os.X_OK)]
+    arguments.add_argument("--most", type=int, metavar="N", help="refuse N allocations of each case that has more")
+    given = arguments.parse_args()
+    absent = [path for path in map(programs.tested, programs.PROGRAMS) if not os.access(path, os.X_OK)]
     if absent:
         print(f"no program {absent[0]}: run rt ci first")
         return 1
     faults = []
-    with concurrent.futures.ThreadPoolExecutor(jobs) as pool:
+    with concurrent.futures.ThreadPoolExecutor(given.jobs) as pool:
         for name in programs.PROGRAMS:
             with tempfile.TemporaryDirectory() as folder:
-                faults += check(pool, name, folder)
+                faults += check(pool, name, folder, given.most)
     return 1 if faults else 0
 
 

@@ -217,6 +217,7 @@ def strangers(visitor: Visitor) -> list[str]:
     archive = os.path.join(visitor.top, "release", os.path.basename(programs.archive()))
     faults = nothing_fits(visitor, "setarch i686", "needs Linux on x86_64")
     faults += expected(visitor, "tools/prove.py", 1, ["no rt in PATH", README])
+    faults += expected(visitor, "make -n test", 0, ["tools/check.py --unproved"])
     with open(archive, "r+b") as file:
         file.seek(1000)
         file.write(b"forged")
