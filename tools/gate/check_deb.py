@@ -144,9 +144,9 @@ def used(fresh: Fresh) -> list[str]:
 
 
 def changed(before: set[str], after: set[str], how: str) -> list[str]:
-    """The files that are there afterwards and weren't before, and those that are gone."""
-    left = [f"{how} left {it}" for it in sorted(after - before)]
-    return left + [f"{how} took {it}" for it in sorted(before - after)]
+    """The fault where files are there afterwards that weren't before, and where some are gone."""
+    found = {"left": sorted(after - before), "took": sorted(before - after)}
+    return [f"{how} {verb} {len(files)} files: {' '.join(files[:10])}" for verb, files in found.items() if files]
 
 
 def installed(fresh: Fresh, path: str) -> list[str]:
