@@ -34,14 +34,10 @@ def drawn_service(draw: Draw, folder: Path, hosts: bool = True) -> Path:
     names = ["a", "b", "c"][: draw.randint(2, 3)]
     addresses = {name: [f"192.0.2.{draw.randint(1, 4)}" for _ in range(draw.randint(1, 3))] for name in names}
     regions = ["x", "y"][: draw.randint(1, 2)]
-    rows = [
-        (region, f"20.1/{at}", draw.randint(0, 6)) for region in regions for at in range(draw.randint(2, 5))
-    ]
+    rows = [(region, f"20.1/{at}", draw.randint(0, 6)) for region in regions for at in range(draw.randint(2, 5))]
     whole = max(1, sum(row[2] for row in rows))
     servers = [(name, at + 1) for name in names for at in range(len(addresses[name]))]
-    settings = examples.settings_text(
-        [(name, examples.site_octets(name, 1, addresses[name])) for name in names]
-    )
+    settings = examples.settings_text([(name, examples.site_octets(name, 1, addresses[name])) for name in names])
     if hosts:
         shared = sorted({own for group in addresses.values() for own in group})
         settings += examples.hosts_text([(own, draw.randint(whole // 2, whole)) for own in shared[:2]])

@@ -188,7 +188,9 @@ def test_what_is_no_day(hsp: Hsp, day: Path, tmp_path: Path) -> None:
     (day / "h05/hsp.toml").write_text('[demand]\nrows = "kinds"\n')
     assert "its rows or its unit are others" in hsp("day", str(day), status=1).stderr
     (day / "h05/hsp.toml").unlink()
-    (day / "h06/demand.csv").write_text((day / "h04/demand.csv").read_text().replace("report-2024,", "report-2024,x", 1))
+    (day / "h06/demand.csv").write_text(
+        (day / "h04/demand.csv").read_text().replace("report-2024,", "report-2024,x", 1)
+    )
     assert "hsplan refuses these files: demand: BadNumber row 0" in hsp("day", str(day), status=1).stderr
 
 
@@ -214,7 +216,10 @@ def test_hours_in_units_are_answered_in_units(hsp: Hsp, day: Path) -> None:
     assert command and "capacity-in-units.csv" in command[0]
     words = command[0].replace("\\u0026", "&").split()[1:]
     done = subprocess.run(
-        [program("hsplan-stream"), *words], input="region,handle\neu,20.500.1234/film-5\n", capture_output=True, text=True
+        [program("hsplan-stream"), *words],
+        input="region,handle\neu,20.500.1234/film-5\n",
+        capture_output=True,
+        text=True,
     )
     assert done.stdout.startswith("assigned "), done
 
@@ -279,7 +284,8 @@ def test_a_click_shows_an_hour(browser: Any, page_of_day: Path) -> None:
 def test_the_grid_has_each_hour(browser: Any, page_of_day: Path) -> None:
     page = Page(browser, page_of_day, 1200, "light")
     rows = page.run(
-        "return [...document.querySelectorAll('#servers-by-hours tbody tr')].map(r => [...r.cells].map(c => c.className + c.innerText))"
+        "return [...document.querySelectorAll('#servers-by-hours tbody tr')]"
+        ".map(r => [...r.cells].map(c => c.className + c.innerText))"
     )
     assert rows and all(len(row) == 25 for row in rows)
     priced = sum("is-dear" in cell for row in rows for cell in row)

@@ -37,7 +37,11 @@ def status_at(folder: Path, factor: int, region: str | None, programs: Programs)
     """Whether hsplan has a plan where each row, or each of a region, counts so many times as much, rounded up."""
     service = read_service(str(folder), programs, {})
     rows = [
-        (row.region, row.handle, times(row.count, Fraction(factor, STEP)) if region in (None, row.region) else row.count)
+        (
+            row.region,
+            row.handle,
+            times(row.count, Fraction(factor, STEP)) if region in (None, row.region) else row.count,
+        )
         for row in service.rows
     ]
     path = programs.put(demand_of(rows), ".csv")
@@ -74,8 +78,12 @@ def one_site(folder: Path, rows: list[tuple[str, str, int]], rooms: list[int]) -
         {
             "settings.toml": examples.settings_text([("a", examples.site_octets("a", 1, addresses))]),
             "demand.csv": demand_of(rows),
-            "costs.csv": examples.table("region,site,cost", [(region, "a", 1) for region in {row[0] for row in rows}]),
-            "capacity.csv": examples.table("site,server_id,capacity", [("a", at + 1, n) for at, n in enumerate(rooms)]),
+            "costs.csv": examples.table(
+                "region,site,cost", [(region, "a", 1) for region in {row[0] for row in rows}]
+            ),
+            "capacity.csv": examples.table(
+                "site,server_id,capacity", [("a", at + 1, n) for at, n in enumerate(rooms)]
+            ),
         },
     )
 
@@ -152,9 +160,19 @@ def test_more_growth_lacks_no_less() -> None:
     """Where only a short set is known, a smaller growth may have the set that lacks more."""
     from hsp.scenarios.growth import Purchase, at_least
 
-    known = [Purchase(10, 9, None, None), Purchase(20, 4, None, None), Purchase(30, 0, {}, 5), Purchase(50, 12, None, None)]
+    known = [
+        Purchase(10, 9, None, None),
+        Purchase(20, 4, None, None),
+        Purchase(30, 0, {}, 5),
+        Purchase(50, 12, None, None),
+    ]
     assert [it.lack for it in at_least(known)] == [9, 9, 0, 12]
 
 
 def test_percents_are_signed() -> None:
-    assert [percent_of(own) for own in (11_733, 10_000, 9_999, 0)] == ["+17.33%", "+0.00%", "\u22120.01%", "\u2212100.00%"]
+    assert [percent_of(own) for own in (11_733, 10_000, 9_999, 0)] == [
+        "+17.33%",
+        "+0.00%",
+        "\u22120.01%",
+        "\u2212100.00%",
+    ]

@@ -119,7 +119,10 @@ def test_beyond_the_tables_a_line_says_so(hsp: Hsp, example: Example, monkeypatc
     hsp("plan", str(folder))
     monkeypatch.setattr("hsp.scenarios.nearest.MOST_REGIONS", 2)
     printed = hsp("plan", str(folder), "--near", str(folder), "--no-save").stdout
-    assert "near  no: 6 regions with their homes, more than tables hold; this is the plain plan, which moves 0" in printed
+    assert (
+        "near  no: 6 regions with their homes, more than tables hold; this is the plain plan, which moves 0"
+        in printed
+    )
     monkeypatch.setattr("hsp.scenarios.nearest.MOST_DEMAND_ROWS", 30)
     with pytest.raises(TooMany, match="38 portions and 6 regions with their homes"):
         service = read_service(str(folder), Programs(), {})
@@ -131,6 +134,8 @@ def test_a_server_of_another_site_record_is_another_home(hsp: Hsp, example: Exam
     folder = example("two-sites")
     service = read_service(str(folder), Programs(), {})
     homes = homes_of(service, service.certificate, False)
-    renamed = {key: {(site, server + 10): number for (site, server), number in own.items()} for key, own in homes.items()}
+    renamed = {
+        key: {(site, server + 10): number for (site, server), number in own.items()} for key, own in homes.items()
+    }
     assert all(it.home is None for it in portions_of(service, renamed, False))
     assert moved_between(service, renamed, service.certificate) == 0

@@ -263,7 +263,14 @@ def test_the_page_shows_losses_and_growth(hsp: Hsp, example: Example) -> None:
     folder = example("two-sites")
     hsp("view", str(folder), "--more")
     page = (folder / "plan.html").read_text()
-    for words in ("Fits until", "+17.33%", "short from +17.64% on", "Worst loss", "site reston", "short by 3,272 queries"):
+    for words in (
+        "Fits until",
+        "+17.33%",
+        "short from +17.64% on",
+        "Worst loss",
+        "site reston",
+        "short by 3,272 queries",
+    ):
         assert words in page
     lines = hsp("plan", str(folder), "--more", "--no-save").stdout.splitlines()
     assert lines[-3].startswith("grow  fits until +17.33%; from +17.64% on 36 rows ask for more than 7,390")
@@ -279,7 +286,9 @@ def test_the_plan_before_is_known_where_it_is_kept(hsp: Hsp, example: Example, t
     lines = hsp("plan", str(folder), "--more").stdout
     assert "moves 3.4% of the queries since the plan before" in lines
     hsp("view", str(folder), "--before", str(old))
-    assert "<dt>Moves</dt><dd><b>3.4%</b><small>213 queries since the plan before" in (folder / "plan.html").read_text()
+    assert (
+        "<dt>Moves</dt><dd><b>3.4%</b><small>213 queries since the plan before" in (folder / "plan.html").read_text()
+    )
 
 
 def test_a_plan_less_a_reserve_is_no_old_plan(hsp: Hsp, example: Example) -> None:

@@ -3,9 +3,9 @@
 
     tools/measure/ahead.py [--runs N]
 
-The day has 24 hours: each row's count times a curve of its region's local time, times noise of a tenth. The plan in force
-is that of the hour before. Each command runs N times, and the least times count: by the clock, and of all processors. The
-script prints a table in Markdown, with the load of the machine.
+The day has 24 hours: each row's count times a curve of its region's local time, times noise of a tenth. The plan in
+force is that of the hour before. Each command runs N times, and the least times count: by the clock, and of all
+processors. The script prints a table in Markdown, with the load of the machine.
 """
 from __future__ import annotations
 

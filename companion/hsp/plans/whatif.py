@@ -75,9 +75,7 @@ def demand_times(service: Service, programs: Programs, factor: Fraction, region:
         programs.add(path, grown(joined(service, programs).demand, factor, region))
         return path
     own, unit = factor / service.unit, service.unit
-    counts = (
-        times(row.count, own) if region in (None, row.region) else row.count // unit for row in service.rows
-    )
+    counts = (times(row.count, own) if region in (None, row.region) else row.count // unit for row in service.rows)
     lines = (f"{head}{count}\n" for head, count in zip(service.row_heads, counts))
     return programs.put(f"{HEADERS['demand']}\n{''.join(lines)}", ".csv")
 

@@ -75,8 +75,12 @@ def growth_table(service: Service, growths: Sequence[Growth]) -> FactTable:
         short_from = percent_of(growth.short_from) if growth.short_from is not None else "never"
         binds = grow_lines.where(service, growth.short) if growth.short else ""
         rows.append([growth.region or "all demand", fits, short_from, binds])
-    note = "Up to the first number a plan serves all; from the second on some rows ask for more than their servers take."
-    return FactTable("ahead", "When the demand grows", note, ["", "fits until", "short from", "what is full then"], rows)
+    note = (
+        "Up to the first number a plan serves all; from the second on some rows ask for more than their servers take."
+    )
+    return FactTable(
+        "ahead", "When the demand grows", note, ["", "fits until", "short from", "what is full then"], rows
+    )
 
 
 def loss_table(service: Service, losses: Sequence[After]) -> FactTable:
@@ -85,7 +89,9 @@ def loss_table(service: Service, losses: Sequence[After]) -> FactTable:
         [f"{survive_lines.WORDS[it.loss.kind]} {it.loss.name}", survive_lines.change(service, it)] for it in losses
     ]
     served = sum(it.cost is not None for it in losses)
-    note = f"{served:,} of {len(losses):,} losses leave a plan; what it costs more stands beside them. The worst first."
+    note = (
+        f"{served:,} of {len(losses):,} losses leave a plan; what it costs more stands beside them. The worst first."
+    )
     return FactTable("losses", "When something is lost", note, ["without", "then"], rows)
 
 

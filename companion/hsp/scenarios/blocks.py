@@ -1,7 +1,7 @@
 """The fewest blocks of hours that one plan serves each.
 
-The table of each row's greatest count in some hours has a plan: it serves each of these hours. A part of such a block is
-one too, so the longest blocks, one after the other, are the fewest.
+The table of each row's greatest count in some hours has a plan: it serves each of these hours. A part of such a block
+is one too, so the longest blocks, one after the other, are the fewest.
 """
 
 from __future__ import annotations
@@ -42,9 +42,7 @@ class Block:
 
     def cost(self, service: Service) -> Fraction:
         """What its hours cost where each row is split by the shares that it has in the plan."""
-        costs = [
-            [service.costs.get((row.region, site.name), 0) for site in service.sites] for row in service.rows
-        ]
+        costs = [[service.costs.get((row.region, site.name), 0) for site in service.sites] for row in service.rows]
         whole = Fraction(0)
         spent = [0] * len(self.counts)
         for row, site, queries in zip(*self.certificate.use_columns):

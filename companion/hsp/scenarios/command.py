@@ -59,9 +59,7 @@ def _asking(folder: str, programs: Judged, given: dict[str, str | None], unit: s
 )
 @click.option("--unit", help="of costs, such as ms")
 @click.option("--json", "as_json", is_flag=True, help="the same for other programs")
-def grow(
-    folder: str, percents: tuple[int, ...], unit: str | None, as_json: bool, **given: str | None
-) -> None:
+def grow(folder: str, percents: tuple[int, ...], unit: str | None, as_json: bool, **given: str | None) -> None:
     """Shows how far the demand can grow before something is short.
 
     All demand together, and each region by itself. Up to the first number a plan serves every demand of no greater

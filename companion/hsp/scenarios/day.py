@@ -129,7 +129,9 @@ def _day(service: Service, hours: Sequence[Hour], is_near: bool, programs: Judge
 @click.option("--near", "is_near", is_flag=True, help="each plan moves the fewest queries from the hour before")
 @click.option("--unit", help="of costs, such as ms")
 @click.option("--all", "every", is_flag=True, help="all servers at which room has a price")
-@click.option("-o", "--output", metavar="FILE", type=click.Path(dir_okay=False), help="the page, in place of DIR/day.html")
+@click.option(
+    "-o", "--output", metavar="FILE", type=click.Path(dir_okay=False), help="the page, in place of DIR/day.html"
+)
 @click.option("--no-save", is_flag=True, help="keep no plan and no page")
 @click.option("--csv", "as_csv", is_flag=True, help="the hours, for other programs")
 def day(folder: str, **given: Any) -> None:

@@ -54,7 +54,11 @@ def lines(day: Day, every: bool) -> Iterator[str]:
     wide = max(len(plan.hour.label) for plan in day.plans)
     most = max(plan.each for plan in day.plans)
     is_moving = any(plan.moved is not None for plan in day.plans)
-    yield bold(f"{'hour'.rjust(max(4, wide))}   queries   a query   full" + ("   moves" if is_moving else "") + "  dearest room at")
+    yield bold(
+        f"{'hour'.rjust(max(4, wide))}   queries   a query   full"
+        + ("   moves" if is_moving else "")
+        + "  dearest room at"
+    )
     for plan in day.plans:
         yield _line(service, plan, most, max(4, wide), is_moving)
     yield from _servers(day, every)

@@ -118,7 +118,9 @@ def _grid(day: Day) -> tuple[list[GridRow], str]:
         for at in order[:ROWS_SHOWN]
     ]
     others = len(service.servers) - len(full)
-    note = f"{some(others, 'server is', 'servers are')} never full." if others else "Each server is full at some hour."
+    note = (
+        f"{some(others, 'server is', 'servers are')} never full." if others else "Each server is full at some hour."
+    )
     if len(order) > len(rows):
         note += f" {some(len(order) - len(rows), 'more server is', 'more servers are')} full at some hour."
     return rows, note

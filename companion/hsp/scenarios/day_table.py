@@ -7,7 +7,19 @@ import io
 
 from hsp.scenarios.day_lines import Day
 
-HEADER = ["hour", "queries", "served", "cost", "lack", "full", "dearest_site", "dearest_server_id", "price", "moved", "block"]
+HEADER = [
+    "hour",
+    "queries",
+    "served",
+    "cost",
+    "lack",
+    "full",
+    "dearest_site",
+    "dearest_server_id",
+    "price",
+    "moved",
+    "block",
+]
 
 
 def csv_of(day: Day) -> str:

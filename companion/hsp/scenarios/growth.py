@@ -1,5 +1,5 @@
-"""How far a demand can grow. A plan shows that a demand still fits; a short set of rows, that it doesn't from some factor
-on. Each short set says which factor to try next, so few plans are made."""
+"""How far a demand can grow. A plan shows that a demand still fits; a short set of rows, that it doesn't from some
+factor on. Each short set says which factor to try next, so few plans are made."""
 
 from __future__ import annotations
 
@@ -23,8 +23,8 @@ STEP = 10000
 
 @dataclass(frozen=True)
 class Short:
-    """Rows that ask for more than the servers that they may use take, at each factor above `above`. Rows of a log have no
-    numbers."""
+    """Rows that ask for more than the servers that they may use take, at each factor above `above`. Rows of a log have
+    no numbers."""
 
     above: Fraction
     rows: list[int]
@@ -142,7 +142,7 @@ class Growing:
         return self._short_from(Growth(region, factor, None, short))
 
     def _short_from(self, found: Growth) -> Growth:
-        """The same with the first step at which a set is short whatever is rounded, shown by a certificate of its own."""
+        """The same with the first step at which a set is short whatever is rounded. A certificate of its own shows it."""
         short = found.short
         while short is not None:
             factor = int(STEP * short.above) + 1

@@ -1,8 +1,8 @@
 """Of the cheapest plans one that moves the fewest queries.
 
-A row becomes portions: one for each site to which the plan in force sends some of it, its home, and one for what is new.
-Away from home a portion's query costs one more than many times the site's cost. So a cheapest plan of the portions is a
-cheapest plan of the rows and moves the fewest queries, and a certificate of each shows both.
+A row becomes portions: one for each site to which the plan in force sends some of it, its home, and one for what is
+new. Away from home a portion's query costs one more than many times the site's cost. So a cheapest plan of the portions
+is a cheapest plan of the rows and moves the fewest queries, and a certificate of each shows both.
 """
 
 from __future__ import annotations
@@ -221,9 +221,7 @@ def moved_between(service: Service, homes: Homes, certificate: Certificate, by_k
         for it in portions_of(service, homes, by_kind)
         if it.home is not None
     }
-    kept = sum(
-        min(queries, at_home.get((row, site), 0)) for row, site, queries in zip(*certificate.use_columns)
-    )
+    kept = sum(min(queries, at_home.get((row, site), 0)) for row, site, queries in zip(*certificate.use_columns))
     return sum(at_home.values()) - kept
 
 
