@@ -211,7 +211,7 @@ def csv_of(plan: Planned) -> str:
     return out.getvalue()
 
 
-def json_of(plan: Planned, reference: Reference | None) -> str:
+def json_of(plan: Planned, reference: Reference | None, near: Near | None, later: Ahead | None) -> str:
     """What the lines show, for other programs."""
     servers = [
         {
@@ -248,6 +248,8 @@ def json_of(plan: Planned, reference: Reference | None) -> str:
         "regions": [{"region": region, "queries": a, "cost": b} for region, (a, b) in plan.regions.items()],
         "shares": shares,
         "by_shares_alone": {"servers_too_full": regional.servers, "queries_too_many": regional.queries},
+        **(near.report() if near else {}),
+        **(later.report() if later else {}),
     }
     return json.dumps(report, indent=2, ensure_ascii=False) + "\n"
 
@@ -340,7 +342,7 @@ def plan(folder: str, **given: Any) -> None:
         ended(1, f"{name} check says {verdict} to {name}'s own plan: please report this with your files")
     lines = [] if said.no_save else keep(service, programs, path, near)
     if said.as_csv or said.as_json:
-        give(csv_of(found) if said.as_csv else json_of(found, reference))
+        give(csv_of(found) if said.as_csv else json_of(found, reference, near, later))
         return
     say(head(service))
     more = [*([near.line()] if near else []), *(later.lines() if later else [])]

@@ -176,3 +176,15 @@ def test_percents_are_signed() -> None:
         "\u22120.01%",
         "\u2212100.00%",
     ]
+
+
+def test_counts_near_their_greatest(hsp: Hsp, tmp_path: Path) -> None:
+    """A count of 800,000 can grow by a quarter, and not by half: no table holds that."""
+    folder = one_site(tmp_path / "large", [("x", "20.1/0", 800_000)], [1_000_000_000])
+    lines = hsp("grow", str(folder)).stdout.splitlines()
+    assert lines[1] == "all demand  fits until +25.00%, as far as a demand can count"
+    assert [line[6:] for line in lines[2:5]] == [
+        "+10%  no room; the cost is then 880,000",
+        "+20%  no room; the cost is then 960,000",
+        "+50%  more than a demand can count",
+    ]

@@ -2,6 +2,7 @@
 
 from __future__ import annotations
 
+import json
 import random
 import shutil
 from pathlib import Path
@@ -139,3 +140,12 @@ def test_a_server_of_another_site_record_is_another_home(hsp: Hsp, example: Exam
     }
     assert all(it.home is None for it in portions_of(service, renamed, False))
     assert moved_between(service, renamed, service.certificate) == 0
+
+
+def test_json_has_what_moves_and_what_lies_ahead(hsp: Hsp, example: Example) -> None:
+    folder = example("two-sites")
+    hsp("plan", str(folder))
+    found = json.loads(hsp("plan", str(folder), "--near", str(folder), "--more", "--json").stdout)
+    assert (found["moved"], found["moved_is_fewest"], found["moved_by_plain_plan"]) == (0, True, 0)
+    assert (found["fits_until"], found["short_from"], found["moved_since_before"]) == (1.1733, 1.1764, 0)
+    assert found["worst_loss"] == {"kind": "site", "what": "reston", "cost": None, "lack": 3_272}

@@ -25,6 +25,7 @@ LOG = {
     "--by": ("continent.code", None, None),
     "--unit": (None, 1, 1_000_000),
 }
+RESERVE = {"--reserve": ("0", None, None)}
 FLEET = {"--workers": (None, 1, 256), "--patience": (60, 1, None)}
 OPTIONS = {
     "whatif": {
@@ -36,7 +37,12 @@ OPTIONS = {
     "sites": {"--capacity": (0, 0, 1_000_000_000)},
     "export haproxy": {"--watch": ("127.0.0.1:8405", None, None)},
     "steer": {"--every": (10.0, 0.1, 86_400), "--period": (3600.0, 1, 31_622_400)},
-    "demand": LOG,
+    "plan": RESERVE,
+    "view": RESERVE,
+    "grow": {"--percent": ((10, 20, 50), 1, 100_000)},
+    "survive": RESERVE,
+    "day": RESERVE,
+    "demand": {**LOG, "--by": (["continent.code"], None, None)},
     "fleet demand": {**LOG, **FLEET},
     "fleet dispatch": {"--fronts": (None, 1, 64), "--unit": (None, 1, 1_000_000), **FLEET},
 }

@@ -12,7 +12,7 @@ from hsp.base.unfit import Unfit
 from hsp.plans.page import Fact, FactTable
 from hsp.plans.service import Service
 from hsp.scenarios import grow_lines, survive_lines
-from hsp.scenarios.growth import Growth, grown, percent_of
+from hsp.scenarios.growth import STEP, Growth, grown, percent_of
 from hsp.scenarios.in_force import in_force
 from hsp.scenarios.judged import Judged, Progress
 from hsp.scenarios.losses import After, losses_of, survived
@@ -38,6 +38,21 @@ class Ahead:
             yield f"loss  {survive_lines.worst(self.service, self.losses)} (hsp survive {folder})"
         if self.moved is not None:
             yield f"moves {self._moved()} of the queries since the plan before"
+
+    def report(self) -> dict[str, object]:
+        """The same for other programs. Factors are of the present counts, and what isn't known is null."""
+        first, worst = self.growths[0], self.losses[0] if self.losses else None
+        loss = (
+            {"kind": worst.loss.kind, "what": worst.loss.name, "cost": worst.cost, "lack": worst.lack}
+            if worst
+            else None
+        )
+        return {
+            "fits_until": None if first.fits is None else first.fits / STEP,
+            "short_from": None if first.short_from is None else first.short_from / STEP,
+            "worst_loss": loss,
+            "moved_since_before": self.moved,
+        }
 
     def _moved(self) -> str:
         return part((self.moved or 0) / self.service.asked)

@@ -79,6 +79,8 @@ def lines(service: Service, all_growths: Sequence[Growth], purchases: Sequence[P
 def _need(service: Service, purchase: Purchase) -> str:
     head = f"{colored(f'+{purchase.percent}%', 'yellow')}  "
     cost = f"the cost is then {purchase.cost or 0:,}{' ' if service.titles.cost else ''}{service.titles.cost}"
+    if purchase.is_beyond:
+        return f"{head}more than a demand can count"
     if purchase.bought is None:
         return f"{head}room for at least {queries_of(purchase.lack)} more"
     if not purchase.bought:

@@ -51,12 +51,14 @@ class Growth:
 
 @dataclass(frozen=True)
 class Purchase:
-    """What so many percent more need: a least purchase, None where only the lack of a short set is known."""
+    """What so many percent more need: a least purchase, None where only the lack of a short set is known, or where the
+    counts are beyond what a demand can hold."""
 
     percent: int
     lack: int
     bought: dict[Server, int] | None
     cost: int | None
+    is_beyond: bool = False
 
 
 def percent_of(factor: int) -> str:
@@ -116,14 +118,18 @@ class Growing:
     def _first(self, region: str | None) -> int:
         """A factor above which nothing has to be tried: all rows together are short, or no table holds the counts."""
         service = self._service
-        if service.log:
-            most, counts = GREATEST_ROW_COUNT // max(1, *service.log.regions.values()), service.log.regions
-        else:
-            own = [row.count // service.unit for row in service.rows if region in (None, row.region)]
-            most, counts = GREATEST_COUNT // max(1, *own, 1), _by_region(service.rows)
+        counts = service.log.regions if service.log else _by_region(service.rows)
         now = sum(count for name, count in counts.items() if region in (None, name))
         room = sum(map(service.capacity, service.servers)) - sum(counts.values()) + now
-        return min(STEP * most, STEP * max(0, room) // max(1, now) + 1)
+        return min(self.most(region), STEP * max(0, room) // max(1, now) + 1)
+
+    def most(self, region: str | None = None) -> int:
+        """The greatest factor at which a demand can hold the counts."""
+        service = self._service
+        if service.log:
+            return STEP * GREATEST_ROW_COUNT // max(1, *service.log.regions.values())
+        counts = [row.count // service.unit for row in service.rows if region in (None, row.region)]
+        return STEP * GREATEST_COUNT // max([1, *counts])
 
     def growth(self, region: str | None = None) -> Growth:
         """How far the queries of a region, or of all, can grow."""
@@ -160,7 +166,10 @@ class Growing:
 
     def purchase(self, percent: int) -> Purchase:
         """The least purchase for so many percent more."""
-        grown = self.planned(STEP * (100 + percent) // 100)
+        factor = STEP * (100 + percent) // 100
+        if factor > self.most():
+            return Purchase(percent, 0, None, None, is_beyond=True)
+        grown = self.planned(factor)
         certificate: Certificate = grown.certificate
         if certificate.is_plan:
             return Purchase(percent, 0, {}, certificate.cost)

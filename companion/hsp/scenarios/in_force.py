@@ -6,6 +6,7 @@ import os
 import re
 from dataclasses import dataclass, replace
 
+from hsp.base.bounds import whole
 from hsp.base.numbers import some
 from hsp.base.paths import path_in
 from hsp.base.programs import Certificate, Missing, Programs
@@ -37,8 +38,7 @@ def plan_named(words: str) -> str:
 
 def text_of(path: str) -> str:
     """The text of a certificate by rows."""
-    with open(path, "rb") as file:
-        text = file.read().decode("utf-8", "replace")
+    text = whole(path).decode("utf-8", "replace")
     if text.startswith(PRICED):
         raise Unfit(f"{path}: a certificate by prices names no row, so no plan is near it")
     if not HEAD.match(text) or not text.endswith("END\n"):

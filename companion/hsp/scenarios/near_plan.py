@@ -40,6 +40,15 @@ class Near:
         of = f"{self.service.asked:,} queries"
         return f"near  moves {moved} of {of} from {self.held.path}, the fewest of all cheapest plans; plain {plain}"
 
+    def report(self) -> dict[str, object]:
+        """The same for other programs. What isn't known is null."""
+        known = bool(self.held)
+        return {
+            "moved": self.moved if known else None,
+            "moved_is_fewest": known and not self.why,
+            "moved_by_plain_plan": self.plain if known else None,
+        }
+
     def _share(self, moved: int) -> str:
         return f"{moved:,} ({part(moved / self.service.asked) if self.service.asked else '0%'})"
 

@@ -11,13 +11,16 @@ import importlib
 import itertools
 import math
 import re
+import sys
 from collections import Counter
 from collections.abc import Callable, Iterable, Sequence
 from dataclasses import dataclass, field, replace
 from fractions import Fraction
 from typing import Any
 
+from hsp.base.numbers import some
 from hsp.base.programs import Missing
+from hsp.base.text import show_progress
 from hsp.plans.joined import joined
 from hsp.plans.plans import reached_by
 from hsp.plans.service import Server, Service
@@ -140,11 +143,17 @@ class Rounds:
         return {it: unit * more - service.capacity(it) % unit for it, more in zip(self._servers, units) if more > 0}
 
 
+def show_round(found: Purchase | None) -> None:
+    """How far the search is, on a terminal; nothing takes that away again."""
+    if sys.stderr.isatty() and (found is None or found.rounds > 1):
+        show_progress("" if found is None else f"buying: round {found.rounds}, {some(len(found.lacks), 'short set')}")
+
+
 class Purchases:
     """Searches for a purchase that serves every loss of a service."""
 
-    def __init__(self, service: Service, programs: Judged, done: Callable[[], None] = lambda: None) -> None:
-        self._service, self._programs, self._done = service, programs, done
+    def __init__(self, service: Service, programs: Judged) -> None:
+        self._service, self._programs = service, programs
         limits = {host["address"].lower(): host["limit"] for host in service.settings.get("host", [])}
         self._limits = {it: limits[it.address.lower()] for it in service.servers if it.address.lower() in limits}
 
@@ -155,6 +164,7 @@ class Purchases:
         todo, is_whole = losses, True
         while True:
             found.rounds += 1
+            show_round(found)
             short = self._short(todo, found)
             served = [loss for loss in losses if loss not in found.unserved]
             if len(served) < len(losses):
@@ -182,7 +192,7 @@ class Purchases:
         tasks: list[Callable[[], Lack | None]] = [
             lambda loss=loss: self.lack_of(loss, found.bought) for loss in losses  # type: ignore[misc]
         ]
-        lacks = [lack for lack in side_by_side(tasks, self._done) if lack]
+        lacks = [lack for lack in side_by_side(tasks) if lack]
         found.unserved += [it.loss for it in lacks if not self._useful(it, found.bought)]
         return [it for it in lacks if it.loss not in found.unserved]
 
@@ -242,6 +252,7 @@ class Purchases:
 
     def _weighed(self, found: Purchase) -> Purchase:
         """The purchase with the weights of its sets, each of which is judged as a shortage of its loss as things are."""
+        show_round(None)
         if not found.lacks:
             return found
         weights = Rounds(self._service, found.lacks).weights()

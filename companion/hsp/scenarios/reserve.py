@@ -2,6 +2,7 @@
 
 from __future__ import annotations
 
+import re
 from dataclasses import replace
 from fractions import Fraction
 from typing import Any
@@ -14,6 +15,9 @@ from hsp.plans.plans import capacity_file
 from hsp.plans.service import Service
 
 
+NUMBER = re.compile(r"[0-9]{1,3}(\.[0-9]{1,9})?")
+
+
 class Percent(click.ParamType):
     """A part in percent, as an exact number: at least 0, and less than 100."""
 
@@ -22,11 +26,8 @@ class Percent(click.ParamType):
     def convert(self, value: Any, param: click.Parameter | None, context: click.Context | None) -> Fraction:
         if isinstance(value, Fraction):
             return value
-        try:
-            part = Fraction(str(value)) / 100
-        except (ValueError, ZeroDivisionError):
-            part = Fraction(1)
-        if "/" in str(value) or not 0 <= part < 1:
+        part = Fraction(value) / 100 if NUMBER.fullmatch(str(value)) else Fraction(1)
+        if part >= 1:
             self.fail(f"'{value}' is no part from 0 to less than 100, such as 5 or 2.5", param, context)
         return part
 
