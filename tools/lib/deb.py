@@ -1,7 +1,7 @@
 """The Debian package of a release: programs, hsp, manual pages, completions, guide and examples in Debian's folders.
 
-tools/debian has what Debian wants beside them. The modules of hsp are private to it, below /usr/share/hsplan. The pages
-of the guide are not compressed, since the manual pages name them, and they link to one another.
+tools/debian has what Debian wants beside them. The modules of hsp are private to it, below /usr/share/hsplan. The
+pages of the guide are not compressed, since the manual pages name them, and they link to one another.
 
 The same files give the same octets by the same dpkg-deb: each file has the time of the version in CHANGELOG.md, the
 owner root and a mode that stands here, whatever day it is and whatever umask is set.
@@ -35,7 +35,7 @@ import sys
 
 sys.path.insert(0, "/{MODULES}")
 """
-COLUMNS = 79
+COLUMNS, DAY = 79, 86_400
 
 
 class File(NamedTuple):
@@ -66,17 +66,22 @@ def versions() -> list[tuple[str, str, str]]:
     )
 
 
-def seconds(date: str) -> int:
-    """The first second of a day in UTC, since 1970."""
-    return calendar.timegm(time.strptime(date, "%Y-%m-%d"))
+def times() -> dict[str, int]:
+    """The time of each version in seconds since 1970: the first second of its day in UTC. Debian wants a later time of
+    a later version, so of several versions of a day each comes a second after the one before."""
+    found: dict[str, int] = {}
+    for version, date, _ in reversed(versions()):
+        day = calendar.timegm(time.strptime(date, "%Y-%m-%d"))
+        found[version] = day + sum(it // DAY == day // DAY for it in found.values())
+    return found
 
 
 def epoch() -> int:
-    """The time of every file in the package: the first second of the day that CHANGELOG.md has for this version."""
-    dates = {version: date for version, date, _ in versions()}
-    if programs.version() not in dates:
+    """The time of every file in the package, which is that of this version."""
+    found = times().get(programs.version())
+    if found is None:
         raise programs.Missing(f"CHANGELOG.md has no date of version {programs.version()}, and a package needs one")
-    return seconds(dates[programs.version()])
+    return found
 
 
 def field(name: str) -> str:
@@ -91,11 +96,11 @@ def changelog() -> bytes:
         COLUMNS, initial_indent="  * ", subsequent_indent="    ", break_long_words=False, break_on_hyphens=False
     )
     parts = []
-    for version, date, text in versions():
+    for version, _, text in versions():
         plain = re.sub(r"\[([^]]*)\]\([^)]*\)", r"\1", text)
         body = "\n".join(wrapper.fill(" ".join(it.split())) for it in re.split(r"^- ", plain, flags=re.M)[1:])
-        day = time.strftime("%a, %d %b %Y 00:00:00 +0000", time.gmtime(seconds(date)))
-        parts.append(f"hsplan ({version}) unstable; urgency=medium\n\n{body}\n\n -- {field('Maintainer')}  {day}\n")
+        when = time.strftime("%a, %d %b %Y %H:%M:%S +0000", time.gmtime(times()[version]))
+        parts.append(f"hsplan ({version}) unstable; urgency=medium\n\n{body}\n\n -- {field('Maintainer')}  {when}\n")
     return "\n".join(parts).encode()
 
 
