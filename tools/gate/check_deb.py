@@ -7,7 +7,7 @@ It fails where
 - lintian finds an error;
 - the package doesn't go in beside a minimal Debian and what it depends on, or a file of it has another sum there;
 - a plan of examples/two-sites, made there by an ordinary user, hasn't the least cost, by hsplan or by hsp;
-- a file is there after the package is removed, or is removed and purged, that wasn't there before, or one is gone.
+- after the package is removed, or purged, a file is there that wasn't there before, or one is gone.
 
 The fresh Debian is made by debootstrap in a temporary folder. That takes root, the network and a minute. What can't be
 tried here is named in capitals. The programs have to be built already, by `rt ci` or `make prove`.
@@ -28,8 +28,8 @@ sys.path.insert(0, str(Path(__file__).resolve().parents[1]))
 
 from lib import deb, examples, programs
 
-# The oldest Debian whose Python hsp takes, and the seconds in which all of this ends.
-SUITE, SECONDS = "bookworm", 230
+# The oldest Debian whose Python hsp takes, the seconds until it is made, and those in which all of this ends.
+SUITE, MAKING, SECONDS = "bookworm", 150, 230
 # No process and no mount of a command outlives it.
 APART = ["unshare", "--mount", "--pid", "--fork", "--kill-child"]
 PATH = "/usr/sbin:/usr/bin:/sbin:/bin"
@@ -45,8 +45,8 @@ class NotTried(Exception):
 class Fresh:
     """A fresh Debian in a folder, with a user, where commands run in a shell."""
 
-    def __init__(self, room: str, until: float) -> None:
-        self.root, self.until = os.path.join(room, "root"), until
+    def __init__(self, room: str, begun: float) -> None:
+        self.root, self.begun, self.limit = os.path.join(room, "root"), begun, MAKING
 
     def ran(self, words: list[str]) -> tuple[str, int]:
         """What a command of this machine prints, and its status."""
@@ -58,18 +58,18 @@ class Fresh:
                 stdout=subprocess.PIPE,
                 stderr=subprocess.STDOUT,
                 text=True,
-                timeout=self.until - time.monotonic(),
+                timeout=self.begun + self.limit - time.monotonic(),
             )
         except subprocess.TimeoutExpired:
-            return f"it didn't end within the {SECONDS} seconds of this check", -1
+            return f"it didn't end before {self.limit} seconds of this check were over", -1
         return done.stdout, done.returncode
 
     def run(self, line: str, user: str = "root") -> tuple[str, int]:
         """What a line of the shell prints there, and its status."""
         return self.ran(["chroot", f"--userspec={user}:{user}", self.root, "sh", "-c", line])
 
-    def make(self, depends: str) -> None:
-        """Makes it, with the packages that the package depends on."""
+    def make(self, depends: str) -> list[str]:
+        """Makes it, with the packages that the package depends on. The fault where there are no such packages."""
         if os.geteuid():
             raise NotTried("only root can make a fresh Debian")
         if not shutil.which("debootstrap", path=PATH):
@@ -82,8 +82,10 @@ class Fresh:
         if status:
             raise NotTried(f"apt-get got no list of packages: {last_of(said)}")
         said, status = self.run(f"apt-get satisfy --yes --quiet --no-install-recommends '{depends}'")
-        if status:
-            raise NotTried(f"apt-get installed not all of {depends}: {last_of(said)}")
+        if status < 0 or "Failed to fetch" in said:
+            raise NotTried(f"apt-get got no packages: {last_of(said)}")
+        self.limit = SECONDS
+        return [f"apt-get found not all of {depends}:\n{said}"] if status else []
 
     def files(self) -> set[str]:
         """The paths of all files and folders."""
@@ -163,8 +165,21 @@ def installed(fresh: Fresh, path: str) -> list[str]:
     return faults
 
 
+def tried(room: str, begun: float) -> tuple[list[str], str]:
+    """The faults of the package, and what was done with it."""
+    path, faults = made_twice(room)
+    faults += judged(path)
+    fresh = Fresh(room, begun)
+    try:
+        unmet = fresh.make(deb.field("Depends"))
+        return faults + (unmet or installed(fresh, path)), f"installed and removed in a fresh {SUITE}"
+    except NotTried as why:
+        print(f"NOT TRIED: the package in a fresh Debian: {why}")
+        return faults, "made twice"
+
+
 def main() -> int:
-    until = time.monotonic() + SECONDS
+    begun = time.monotonic()
     absent = [path for path in map(programs.tested, programs.PROGRAMS) if not os.access(path, os.X_OK)]
     if absent:
         print(f"no program {absent[0]}: run rt ci first")
@@ -174,16 +189,11 @@ def main() -> int:
         return 0
     with tempfile.TemporaryDirectory() as room:
         os.chmod(room, 0o755)
-        path, faults = made_twice(room)
-        faults += judged(path)
-        fresh, tried = Fresh(room, until), f"installed and removed in a fresh {SUITE}"
         try:
-            fresh.make(deb.field("Depends"))
-            faults += installed(fresh, path)
-        except NotTried as why:
-            tried = "made twice"
-            print(f"NOT TRIED: the package in a fresh Debian: {why}")
-    print("\n".join([*faults, f"package: {tried}, {len(faults)} faults"]))
+            faults, done = tried(room, begun)
+        except programs.Missing as missing:
+            faults, done = [str(missing)], "not made"
+    print("\n".join([*faults, f"package: {done}, {len(faults)} faults"]))
     return 1 if faults else 0
 
 
