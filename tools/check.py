@@ -4,9 +4,10 @@
     tools/check.py               ends with status 0 where no step fails
     tools/check.py --unproved    ends with NOT PROVED and status 1 at best, as `make test` does without the kit
 
-The steps are those of `make quick` and `make test`, read from the Makefile, and a minute of random inputs. Left out are
-those that take what only the kit makes. THINNED says which try less than the gate, so that all end within ten minutes
-on two processors. The programs are unpacked from release/ once their sum is compared. RT_JOBS=N takes N processors.
+The steps are those of `make quick` and `make test`, read from the Makefile, and a minute of random inputs. Those are
+left out that take what only the kit makes. THINNED says which try less than in the gate, so that all end within ten
+minutes on two processors. The programs are unpacked from release/ once their sum is compared. RT_JOBS=N takes N
+processors.
 """
 from __future__ import annotations
 
@@ -32,7 +33,7 @@ THINNED = {
     "check_docs": ("--bash", "commands of documents in bash and no other shell"),
     "check_program": ("--most 6", "of each case 6 refused allocations, not up to 2,000"),
     "check_stream": ("--million 200000", "logs of 200,000 handles, not 1,000,000"),
-    "check_io": ("--each 20", "each twentieth failing call of a case"),
+    "check_io": ("--each 20", "one in twenty of the failing calls"),
     "check_companion": (
         "--ignore tests/test_fleet.py --ignore tests/test_doctor_random.py",
         "no tests of Dask's workers, nor of folders that are broken at random",
@@ -61,10 +62,12 @@ def name_of(words: list[str]) -> str:
 def listed() -> list[list[str]]:
     """The steps of `make quick` and `make test`, each by its words, without those that take what the kit makes."""
     makefile = programs.text_of("Makefile")
-    recipes = [found[1] for it in ("quick", "gate") if (found := re.search(rf"^{it}:.*\n((?:\t.*\n)+)", makefile, re.M))]
+    recipes = re.findall(r"^(?:quick|gate):.*\n((?:\t.*\n)+)", makefile, re.M)
     lines = [it.split() for recipe in recipes for it in recipe.splitlines()]
-    steps = [it for it in lines if it[0].startswith("tools/") and name_of(it) not in (*LEFT_OUT, "packages")]
-    return [it for it in steps if it[1:] != ["--names"]] + [FUZZ.split()]
+    every = [it for it in lines if it[0].startswith("tools/")] + [FUZZ.split()]
+    if absent := sorted({*LEFT_OUT, *THINNED, *SPREAD, *FIRST} - set(map(name_of, every))):
+        raise programs.Missing(f"the Makefile has no step {' '.join(absent)}, and tools/check.py names it")
+    return [it for it in every if name_of(it) not in (*LEFT_OUT, "packages") and it[1:] != ["--names"]]
 
 
 def steps(jobs: int) -> tuple[list[list[str]], list[list[str]]]:

@@ -2,7 +2,7 @@
 """Makes each call of `open`, `read`, `write` and `close` of the built program fail in turn, over the cases in
 checks/hsplan.
 
-    tools/gate/check_io.py [--jobs N] [--each N] [CASE]..    each N-th call of a case
+    tools/gate/check_io.py [--jobs N] [--each N] [CASE]..    one in N of the failing calls
 
 Each case is run as tools/gate/check_program.py runs it, with its words as arguments and on standard input. A first run
 records its calls. Then each call is made to fail in a run of its own, in each of the ways below. The table states
@@ -81,7 +81,7 @@ class Run(NamedTuple):
 
 
 class Tools(NamedTuple):
-    """The program, the library that lets calls fail, answers that are known, and that each so many-th call is tried."""
+    """The program, the library that lets calls fail, answers that are known, and of how many calls one is tried."""
 
     program: str
     preloaded: str
@@ -214,7 +214,7 @@ def check_run(pool: Pool, tools: Tools, run: Run) -> tuple[list[str], int]:
     if ordinary != hoped:
         return [f"{run.case.name}: wanted {hoped}, got {ordinary}"], 0
     tried = [(call, kind) for call in calls for kind in ERRORS[call.name] if has_stand_in(call, kind, calls)]
-    # Another call of each case comes first, so that all kinds of calls are tried.
+    # Cases begin at different calls, so that all kinds of calls are tried.
     chosen = tried[len(run.case.name) % tools.each :: tools.each]
     found = pool.map(lambda one: fault_of(tools, run, one[0], one[1], ordinary), chosen)
     return [fault for faults in found for fault in faults], len(chosen)
@@ -383,7 +383,7 @@ def main() -> int:
     )
     growth.jobs_of(words)
     words.add_argument("--program", default=programs.tested("hsplan"))
-    words.add_argument("--each", type=int, default=1, metavar="N", help="try each N-th call of a case")
+    words.add_argument("--each", type=int, default=1, metavar="N", help="try one in N of the failing calls")
     words.add_argument("names", nargs="*", metavar="CASE")
     given = words.parse_args()
     if not os.access(given.program, os.X_OK):
