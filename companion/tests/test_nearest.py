@@ -25,9 +25,14 @@ def rows_of(folder: Path) -> list[list[str]]:
 
 
 @pytest.mark.parametrize("seed", range(100))
-def test_a_nearest_plan_is_that_of_an_integer_programme(tmp_path: Path, seed: int) -> None:
-    """The plan in force is one of other counts and capacities; both optima are the programme's."""
+def test_a_nearest_plan_is_that_of_an_integer_programme(
+    tmp_path: Path, monkeypatch: pytest.MonkeyPatch, seed: int
+) -> None:
+    """The plan in force is one of other counts and capacities; both optima are the programme's. In each third network
+    costs leave no room but for the smaller weight."""
     draw = random.Random(seed)
+    if seed % 3 == 0:
+        monkeypatch.setattr("hsp.scenarios.nearest.GREATEST_COST", 45)
     folder = drawn_service(draw, tmp_path / "now")
     old = Path(shutil.copytree(folder, tmp_path / "old"))
     counts = [(region, handle, draw.randint(0, 6)) for region, handle, _ in rows_of(folder)]

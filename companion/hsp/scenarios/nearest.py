@@ -106,6 +106,15 @@ def portions_of(service: Service, homes: Homes, by_kind: bool) -> list[Portion]:
     return found
 
 
+def weight_of(service: Service) -> int:
+    """How many times a site's cost counts. A round of moves that saves cost passes each server once, and moves at most
+    as many queries: so one more than the servers is enough. Where costs allow it, it is more than twice as many, and
+    the prices of the portions divided by it are those of the rows."""
+    servers, dearest = len(service.servers), max(service.costs.values(), default=0)
+    wide = 2 * servers + 4
+    return wide if wide * dearest < GREATEST_COST else servers + 1
+
+
 class Portions:
     """The portions of a service's rows, of which nearest plans are made after any change of costs and capacities."""
 
@@ -113,8 +122,7 @@ class Portions:
         self._service, self._programs = service, programs
         self.all = portions_of(service, homes, by_kind)
         self._rows = [it.row for it in self.all]
-        # A round of moves that saves cost passes each server once, so no such round moves as many queries as this.
-        self.weight = 2 * len(service.servers) + 4
+        self.weight = weight_of(service)
         self._regions = dict.fromkeys((service.rows[it.row].region, it.home) for it in self.all)
         self._refuse_too_many()
         self._names = self._named()
