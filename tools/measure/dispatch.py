@@ -11,9 +11,12 @@ The instance has 8,192 rows, 64 regions, 32 sites of 32 servers, 2,048 costs, an
 many (`--times N`). A log draws its rows at random by their counts, and with fronts also a front for each row. So most
 of it is assigned.
 
-The peers are tools/dispatch_peer, in Rust over the crates csv and indexmap, where cargo and these crates of Debian are
-there (librust-csv-dev, librust-indexmap-dev). They are given the answers of each row, which hsplan-stream gives. Their
-answers to the log have to be those of hsplan, octet for octet.
+The peers are tools/measure/dispatch_peer, in Rust over the crates csv and indexmap, where cargo and these crates of
+Debian are there (librust-csv-dev, librust-indexmap-dev). They are given the answers of each row, which hsplan-stream
+gives. Their answers to the log have to be those of hsplan, octet for octet. The log with fronts is also given to the
+fast peer, which passes over the front, and shares nothing out.
+
+Factors are printed by the fastest runs, and by the median of the turns. On a busy machine these differ.
 
 Seconds are processor seconds, and memory is its peak. A run on a log of only a header measures what is spent before
 the first row. All runs are on one processor, where the machine lets one be chosen.
@@ -38,6 +41,7 @@ sys.path.insert(0, str(Path(__file__).resolve().parents[1]))
 from lib import instances, programs
 
 FRONTS = 64
+FAST_PEER, PEER_AT_FRONTS = "peer, fast", "peer, fast, fronts passed over"
 # A name, the words for an empty log, and the words for a log.
 Way = tuple[str, list[str], list[str]]
 
@@ -116,13 +120,20 @@ def measure(kinds: list[Way], many: int, turns: int) -> dict[str, list[float]]:
     return spent
 
 
+def beside_peer(name: str, spent: dict[str, list[float]]) -> str:
+    """A kind against the fast peer over the same log, by the fastest runs and by the median of the turns."""
+    peer = spent.get(PEER_AT_FRONTS if "fronts" in name else FAST_PEER)
+    if not peer:
+        return ""
+    by_turns = statistics.median(own / other for own, other in zip(spent[name], peer))
+    return f", {min(spent[name]) / min(peer):.2f} times the fast peer, {by_turns:.2f} by the median of the turns"
+
+
 def compare(spent: dict[str, list[float]], turns: int) -> None:
-    """Prints each kind against the fastest peer, and fronts against none."""
+    """Prints each kind against the fast peer, and fronts against none."""
     least = {name: min(seconds) for name, seconds in spent.items()}
-    peers = [seconds for name, seconds in least.items() if name.startswith("peer")]
     for name, seconds in least.items():
-        beside = f", {seconds / min(peers):.2f} times the fastest peer" if peers else ""
-        print(f"{name}: {seconds:.3f} s behind the first row at best{beside}")
+        print(f"{name}: {seconds:.3f} s behind the first row at best{beside_peer(name, spent)}")
     pairs = [a / b for a, b in zip(spent["none"], spent[f"{FRONTS} fronts"])]
     print(
         f"of the rows a second without fronts: {least['none'] / least[f'{FRONTS} fronts']:.3f} by the fastest runs, "
@@ -150,7 +161,11 @@ def ways_of(chosen: argparse.Namespace, peer: str | None, folder: str, draw: ran
     ]
     if peer:
         table = table_for(folder, chosen.stream, (rows, counts, files), plan)
-        ways += [(f"peer, {it}", [peer, it, table, empty], [peer, it, table, full]) for it in ("plain", "fast")]
+        ways += [
+            ("peer, plain", [peer, "plain", table, empty], [peer, "plain", table, full]),
+            (FAST_PEER, [peer, "fast", table, empty], [peer, "fast", table, full]),
+            (PEER_AT_FRONTS, [peer, "fast", table, no_events], [peer, "fast", table, all_events]),
+        ]
     return ways
 
 
@@ -170,7 +185,7 @@ def main() -> int:
         if hasattr(os, "sched_setaffinity"):
             os.sched_setaffinity(0, {max(os.sched_getaffinity(0))})
         ways = ways_of(chosen, peer, folder, random.Random(1))
-        answers = {name: answers_of(words) for name, _, words in ways if peer and name != f"{FRONTS} fronts"}
+        answers = {name: answers_of(words) for name, _, words in ways if peer and "fronts" not in name}
         if len(set(answers.values())) > 1:
             sys.exit(f"answers differ: {answers}")
         compare(measure(ways, chosen.rows, chosen.turns), chosen.turns)

@@ -2,6 +2,7 @@
 """Measures whole runs of `hsplan plan` beside LEMON's network simplex on the same networks, by turns.
 
     tools/measure/peers.py [--turns N] [--program FILE] [FACTOR..]
+    tools/measure/peers.py --parts [--turns N] [--program FILE] [FACTOR..]
 
 It measures processor seconds. Of hsplan the whole run counts: reading the files, hashing, solving, and printing the
 certificate. Of LEMON only making its graph and solving count: the network is given to it as numbers. Both costs have
@@ -9,6 +10,10 @@ to be the same.
 
 The instances have 8,192 rows of 64 regions, 32 sites of 16 to 47 servers, 2,048 costs up to 1,000,000, and capacities
 that are the factor times the demand. The script needs a C++ compiler and LEMON (Debian's liblemon-dev).
+
+With `--parts` it needs neither. It measures `hsplan check` of a plan, and of three texts that `check` refuses. The
+first is refused once instance and certificate are read, the second once all arcs are listed, and the third once the
+flows are added up.
 """
 from __future__ import annotations
 
@@ -21,6 +26,7 @@ import subprocess
 import sys
 import tempfile
 from pathlib import Path
+from typing import NamedTuple
 
 sys.path.insert(0, str(Path(__file__).resolve().parents[1]))
 
@@ -147,30 +153,91 @@ def turn(folder: str, program: str, words: list[str], peer: list[str]) -> tuple[
     return took, cost_in(own), cost_in(other)
 
 
-def main() -> int:
-    arguments = argparse.ArgumentParser(description="Measures hsplan beside LEMON.")
-    arguments.add_argument("--turns", type=int, default=5)
-    arguments.add_argument("--program", default=programs.tested("hsplan"))
-    arguments.add_argument("factors", type=float, nargs="*", default=FACTORS)
-    chosen = arguments.parse_args()
+class Text(NamedTuple):
+    """A text for `check`: the last that `check` does with it, what `check` says of it, and its lines."""
+
+    last: str
+    verdict: str
+    lines: list[str]
+
+
+def texts_of(plan: list[str]) -> list[Text]:
+    """Three texts that `check` refuses, each a step later, and the plan, whose lines these are."""
+    first = next(at for at, line in enumerate(plan) if line.startswith("use "))
+    row, site, count = plan[first].split()[1:]
+    more = f"use {row} {site} {int(count) + 1}"
+    return [
+        Text("reading", f"hsplan: certificate: BadLine line {len(plan)}", [*plan[:-1], "none"]),
+        Text("arcs", "no 1 Shape", [*plan[:-2], plan[-1]]),
+        Text("sums", "no 3 RowSum", [*plan[:first], more, *plan[first + 1 :]]),
+        Text("conditions", "yes", plan),
+    ]
+
+
+def checked(folder: str, words: list[str], text: Text) -> float:
+    """The seconds in which `check`, called by these words, says of a text what it has to say."""
+    verdict = os.path.join(folder, "verdict.txt")
+    seconds, _, reported = run([*words, "--plan", instances.write(folder, "text.txt", text.lines)], verdict)
+    said = Path(verdict).read_text(encoding="utf-8") + reported
+    if said.strip() != text.verdict:
+        sys.exit(f"check says {said.strip()}, and not {text.verdict}")
+    return seconds
+
+
+def parts(folder: str, chosen: argparse.Namespace, factor: float) -> None:
+    """Prints what `check` takes of a plan and of the texts that it refuses, each in a row of the table."""
+    instance, own = Instance(folder, factor), os.path.join(folder, "own.txt")
+    run([chosen.program, "plan", *instance.words], own)
+    texts = texts_of(Path(own).read_text(encoding="utf-8").splitlines())
+    words = [chosen.program, "check", *instance.words]
+    turns = [[checked(folder, words, text) for text in texts] for _ in range(chosen.turns)]
+    took = dict(zip((text.last for text in texts), zip(*turns)))
+    whole = statistics.median(took["conditions"])
+    for last, seconds in took.items():
+        middle = statistics.median(seconds)
+        print(f"| {factor:.2f} | {last} | {min(seconds):.4f} | {middle:.4f} | {middle / whole:.2f} |", flush=True)
+
+
+def arguments() -> argparse.Namespace:
+    """The words of the command line."""
+    words = argparse.ArgumentParser(description="Measures hsplan beside LEMON, or the parts of its check.")
+    words.add_argument("--turns", type=int, default=5)
+    words.add_argument("--program", default=programs.tested("hsplan"))
+    words.add_argument("--parts", action="store_true")
+    words.add_argument("factors", type=float, nargs="*", default=FACTORS)
+    return words.parse_args()
+
+
+def beside_lemon(folder: str, chosen: argparse.Namespace) -> int:
+    """Prints a row for each factor. Returns 1 where hsplan and LEMON state other costs, and otherwise 0."""
     heads = "Capacity over demand|Cost|`plan`|LEMON|`plan` over LEMON|LEMON, solving only|Memory of both|`check`"
     print(f"| {heads.replace('|', ' | ')} |\n|{'---|' * 8}")
+    peer = built_peer(folder)
+    for factor in chosen.factors:
+        instance = Instance(folder, factor)
+        words = [peer, instance.network(chosen.program, folder)]
+        turns = [turn(folder, chosen.program, instance.words, words) for _ in range(chosen.turns)]
+        if any(own != other for _, own, other in turns):
+            print(f"at factor {factor} the costs differ: {turns}", file=sys.stderr)
+            return 1
+        mid = {kind: statistics.median(took[kind] for took, _, _ in turns) for kind in turns[0][0]}
+        print(
+            f"| {factor:.2f} | {int(turns[0][1]):,} | {mid['plan']:.3f} | {mid['LEMON']:.3f} "
+            f"| {mid['plan'] / mid['LEMON']:.2f} | {mid['solving']:.3f} "
+            f"| {mid['memory']:.1f}, {mid['held']:.1f} MB | {mid['check']:.3f} |",
+            flush=True,
+        )
+    return 0
+
+
+def main() -> int:
+    chosen = arguments()
     with tempfile.TemporaryDirectory() as folder:
-        peer = built_peer(folder)
+        if not chosen.parts:
+            return beside_lemon(folder, chosen)
+        print("| Capacity over demand | `check` up to | Least | Middle | Of the whole |\n|---|---|---|---|---|")
         for factor in chosen.factors:
-            instance = Instance(folder, factor)
-            words = [peer, instance.network(chosen.program, folder)]
-            turns = [turn(folder, chosen.program, instance.words, words) for _ in range(chosen.turns)]
-            if any(own != other for _, own, other in turns):
-                print(f"at factor {factor} the costs differ: {turns}", file=sys.stderr)
-                return 1
-            mid = {kind: statistics.median(took[kind] for took, _, _ in turns) for kind in turns[0][0]}
-            print(
-                f"| {factor:.2f} | {int(turns[0][1]):,} | {mid['plan']:.3f} | {mid['LEMON']:.3f} "
-                f"| {mid['plan'] / mid['LEMON']:.2f} | {mid['solving']:.3f} "
-                f"| {mid['memory']:.1f}, {mid['held']:.1f} MB | {mid['check']:.3f} |",
-                flush=True,
-            )
+            parts(folder, chosen, factor)
     return 0
 
 

@@ -4,6 +4,8 @@
 //!
 //! Each row of TABLE is a region, a handle, and its answers in their order, each as a number and a line. `plain` keeps
 //! the rows in indexmap. `fast` keeps the keys in one run of octets, and finds a row by 32 bits of a hash.
+//!
+//! Where the log's header has a front before the region, fronts are passed over: there is one front.
 
 use csv::{ByteRecord, Reader, ReaderBuilder};
 use indexmap::IndexMap;
@@ -172,8 +174,9 @@ fn answer<R: Rows + Default>(table: &str, log: &str) -> Fallible<()> {
     let mut log = reader(log)?;
     let mut record = ByteRecord::new();
     log.read_byte_record(&mut record)?;
+    let region = record.len() - 2;
     while log.read_byte_record(&mut record)? {
-        match rows.find(&record[0], &record[1]) {
+        match rows.find(&record[region], &record[region + 1]) {
             Some(row) => out.write_all(left.take(row))?,
             None => out.write_all(b"unknown\n")?,
         }
