@@ -127,12 +127,12 @@ class Lines(NamedTuple):
     text: bytes
 
 
-def pieces_of(path: str, size: int = PIECE) -> list[Piece]:
+def pieces_of(path: str) -> list[Piece]:
     """The pieces of a log: several only of a plain file. What can't be looked at is one, and faults when it is read."""
     whole = [Piece(path)]
     try:
         found = os.stat(path)
-        if path == "-" or not stat.S_ISREG(found.st_mode) or found.st_size <= size:
+        if path == "-" or not stat.S_ISREG(found.st_mode) or found.st_size <= PIECE:
             return whole
         with open(path, "rb") as file:
             head = file.read(8)
@@ -140,8 +140,8 @@ def pieces_of(path: str, size: int = PIECE) -> list[Piece]:
         return whole
     if head.startswith((*PACKED, *UTF_16)):
         return whole
-    begins = range(0, found.st_size, size)
-    return [Piece(path, begin, begin + size if begin != begins[-1] else None) for begin in begins]
+    begins = range(0, found.st_size, PIECE)
+    return [Piece(path, begin, begin + PIECE if begin != begins[-1] else None) for begin in begins]
 
 
 def _behind_a_line_end(file: io.BufferedReader, piece: Piece, size: int) -> bytes | None:
@@ -197,14 +197,15 @@ def lines_of(piece: Piece, skip: Skip, watch: Watch = unwatched) -> Iterator[Lin
 
     The last block has no lines, and the number behind all.
     """
-    numbers, rest, is_long = [1], b"", False
-    for at, block in enumerate(_blocks(piece, numbers, watch, BLOCK)):
-        block = block.removeprefix(UTF_8_MARK) if not at and not piece.begin else block
+    numbers, rest, is_long, is_begun = [1], b"", False, piece.begin > 0
+    for block in _blocks(piece, numbers, watch, BLOCK):
         if is_long:
             _, end, block = block.partition(b"\n")
             is_long = not end
             numbers[0] += len(end)
         text = rest + block
+        if not is_begun and len(text) >= len(UTF_8_MARK):
+            text, is_begun = text.removeprefix(UTF_8_MARK), True
         whole = text.rfind(b"\n") + 1
         rest = text[whole:]
         for part in _parts(text, whole):
