@@ -171,8 +171,9 @@ def tried(room: str, begun: float) -> tuple[list[str], str]:
     faults += judged(path)
     fresh = Fresh(room, begun)
     try:
-        unmet = fresh.make(deb.field("Depends"))
-        return faults + (unmet or installed(fresh, path)), f"installed and removed in a fresh {SUITE}"
+        if unmet := fresh.make(deb.field("Depends")):
+            return faults + unmet, "made twice"
+        return faults + installed(fresh, path), f"installed and removed in a fresh {SUITE}"
     except NotTried as why:
         print(f"NOT TRIED: the package in a fresh Debian: {why}")
         return faults, "made twice"
