@@ -17,7 +17,7 @@ import sys
 NEEDED = (
     "bzip2 chromium chromium-driver curl fonts-dejavu-core graphviz haproxy mypy openssl parallel procps "
     "python3-click python3-distributed python3-hypothesis python3-jinja2 python3-maxminddb python3-pil "
-    "python3-pytest python3-pytest-xdist python3-selenium xz-utils"
+    "python3-pytest python3-pytest-xdist python3-scipy python3-selenium xz-utils"
 ).split()
 WANTED = "dash debootstrap fish lintian mandoc zsh".split()
 
