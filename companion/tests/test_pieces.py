@@ -1,4 +1,4 @@
-"""hsp demand over logs in pieces and by several processes: what was written into them, in any pieces, octet for octet."""
+"""hsp demand over logs in pieces, and by several processes: it finds what was written into them, octet for octet."""
 
 from __future__ import annotations
 
@@ -114,7 +114,8 @@ def written(draw: random.Random, form: str, number: int, longest: int) -> tuple[
     for _ in range(number):
         rows.append(LINES[form](draw))
         if draw.random() < 0.05:
-            rows.append(draw.choice([Written("", None, ""), Written("junk", None, ODD), Written("\x16\x03", None, ODD)]))
+            junk = [Written("junk", None, ODD), Written("\x16\x03", None, ODD)]
+            rows.append(draw.choice([Written("", None, ""), *junk]))
         if draw.random() < 0.01:
             rows.append(Written("y" * (LONGEST + draw.randint(1, longest)), None, TOO_LONG))
     ends = [draw.choice(("\n", "\n", "\r\n")) for _ in rows]
@@ -205,3 +206,236 @@ def test_pieces_of_any_length_give_what_was_written(
         monkeypatch.setattr(reader, "BATCH_OCTETS", draw.choice((1, 500, 1 << 22)))
         monkeypatch.setattr(reader, "MOST_AT_ONCE", draw.choice((0, 5, 1 << 16)))
         assert found(paths, form, hour, 1) == own
+
+
+def many(tmp_path: Path, form: str, number: int, seed: int) -> tuple[list[Path], list[list[Written]]]:
+    """Logs of one form: two that are plain, and two that are packed."""
+    draw, rows_of = random.Random(seed), []
+    paths = [tmp_path / name for name in ("a", "b.gz", "c", "d.bz2")]
+    for path, pack in zip(paths, (bytes, gzip.compress, bytes, bz2.compress)):
+        rows, octets = written(draw, form, number, 100_000)
+        rows_of.append(rows)
+        path.write_bytes(pack(octets))
+    return paths, rows_of
+
+
+@pytest.fixture
+def small(monkeypatch: pytest.MonkeyPatch) -> None:
+    """Pieces are short, and any number of octets is worth a process."""
+    monkeypatch.setattr(logs, "PIECE", 5000)
+    monkeypatch.setattr(side_by_side, "LEAST", 1)
+
+
+@pytest.mark.parametrize("form", LINES)
+@pytest.mark.parametrize("jobs", [2, 5])
+def test_any_number_of_processes_finds_the_same(tmp_path: Path, small: None, form: str, jobs: int) -> None:
+    paths, rows_of = many(tmp_path, form, 300, jobs)
+    assert len([piece for path in paths for piece in pieces_of(str(path))]) > 20
+    assert found(paths, form, None, jobs) == wanted(paths, rows_of, None)
+    assert found(paths, form, 10, jobs) == wanted(paths, rows_of, 10)
+
+
+def test_processes_that_are_far_ahead_wait(tmp_path: Path, monkeypatch: pytest.MonkeyPatch, small: None) -> None:
+    """With many parts of a piece, and few of them held."""
+    monkeypatch.setattr(reader, "MOST_AT_ONCE", 3)
+    monkeypatch.setattr(logs, "TOGETHER", 100)
+    monkeypatch.setattr(side_by_side, "AHEAD", 1)
+    paths, rows_of = many(tmp_path, "proxy", 200, 9)
+    assert found(paths, "proxy", None, 3) == wanted(paths, rows_of, None)
+
+
+@pytest.mark.parametrize("words", [[], ["--by", "hour"], ["--by", "weekday-hour", "--from", "2026-11-26T10:00"]])
+def test_any_number_of_processes_writes_the_same(tmp_path: Path, small: None, words: list[str]) -> None:
+    paths, _ = many(tmp_path, "proxy", 200, 3)
+    (tmp_path / "networks.csv").write_bytes(NETWORKS)
+    texts = []
+    for jobs in ("1", "2", "4"):
+        (tmp_path / jobs).mkdir()
+        kept = [] if words else ["--log", tmp_path / jobs / "log.csv"]
+        given = ["--regions", tmp_path / "networks.csv", "--into", tmp_path / jobs, "--jobs", jobs, *words, *kept]
+        said = invoke("demand", *paths, *given).stdout.replace(f"{tmp_path}/{jobs}", "DIR")
+        files = sorted((tmp_path / jobs).rglob("*.csv"))
+        texts.append([said, *((str(it.relative_to(tmp_path / jobs)), it.read_bytes()) for it in files)])
+    assert len(texts[0]) == {0: 3, 2: 26, 4: 170}[len(words)] and texts[0] == texts[1] == texts[2]
+
+
+def test_a_line_that_fills_many_pieces_is_read_once(tmp_path: Path, monkeypatch: pytest.MonkeyPatch) -> None:
+    """Each piece looks for the end of a line only within itself."""
+    path = tmp_path / "log"
+    path.write_bytes(b"a\n" + b"x" * 1_000_000 + b"\nb\nc")
+    monkeypatch.setattr(logs, "PIECE", 1000)
+    monkeypatch.setattr(logs, "BLOCK", 1000)
+    read = 0
+    real = logs.opened
+
+    class File:
+        """A file that notes how many octets are read of it."""
+
+        def __init__(self, own: object) -> None:
+            self.own = own
+
+        def __getattr__(self, name: str) -> object:
+            return getattr(self.own, name)
+
+        def __enter__(self) -> "File":
+            return self
+
+        def __exit__(self, *_: object) -> None:
+            self.own.close()  # type: ignore[attr-defined]
+
+        def read1(self, size: int) -> bytes:
+            nonlocal read
+            octets: bytes = self.own.read1(size)  # type: ignore[attr-defined]
+            read += len(octets)
+            return octets
+
+    monkeypatch.setattr(logs, "opened", lambda path, watch: File(real(path, watch)))
+    passed: list[tuple[str, int, bytes]] = []
+    lines, before = [], 0
+    for piece in pieces_of(str(path)):
+        blocks = list(lines_of(piece, lambda why, number, line: passed.append((why, before + number, line[:1]))))
+        lines += [(before + number, line) for number, line in nonempty(blocks)]
+        before += blocks[-1].number - 1
+    assert lines == [(1, b"a"), (3, b"b"), (4, b"c")] and passed == [(TOO_LONG, 2, b"x")]
+    assert read < 2.1 * path.stat().st_size
+
+
+def test_logs_that_are_no_plain_files_are_one_piece(tmp_path: Path, monkeypatch: pytest.MonkeyPatch) -> None:
+    monkeypatch.setattr(logs, "PIECE", 10)
+    os.mkfifo(tmp_path / "pipe")
+    (tmp_path / "packed").write_bytes(gzip.compress(bytes(range(256))))
+    (tmp_path / "wide").write_bytes("a line of UTF-16".encode("utf-16"))
+    (tmp_path / "plain").write_bytes(b"x" * 25)
+    for name in ("pipe", "packed", "wide", "absent", "."):
+        assert pieces_of(str(tmp_path / name)) == [Piece(str(tmp_path / name))]
+    assert pieces_of("-") == [Piece("-")]
+    path = str(tmp_path / "plain")
+    assert pieces_of(path) == [Piece(path, 0, 10), Piece(path, 10, 20), Piece(path, 20, None)]
+
+
+LOST = OSError(5, "Input/output error", "log")
+FAULTS = [Unfit("log: odd"), Refused(3, "no plan"), Missing("a", "b"), LOST, MemoryError()]
+
+
+def failing(at: int, fault: BaseException | int) -> Callable[[Piece, Reading, bool], object]:
+    """Parts of pieces, of which one has a fault, or gets a signal in a process of its own."""
+    own, real = os.getpid(), reader.parts
+
+    def parts(piece: Piece, reading: Reading, keeps: bool) -> object:
+        if piece.begin == at and isinstance(fault, BaseException):
+            raise fault
+        if piece.begin == at and os.getpid() != own:
+            os.kill(os.getpid(), fault)  # type: ignore[arg-type]
+        return real(piece, reading, keeps)
+
+    return parts
+
+
+def counts_until(path: Path, jobs: int) -> list[Part]:
+    """The parts that come before a fault, which is raised behind them."""
+    seek = Networks("networks.csv", NETWORKS, None).seek
+    parts = []
+    for part in parts_of([str(path)], Reading(Form("server"), seek, judge(), jobs=jobs)):
+        parts.append(part)
+        LAST[:] = parts
+    return parts
+
+
+LAST: list[Part] = []
+
+
+@pytest.mark.parametrize("jobs", [1, 3])
+@pytest.mark.parametrize("fault", FAULTS, ids=lambda it: type(it).__name__)
+def test_a_fault_of_a_process_is_raised_at_its_place(
+    tmp_path: Path, small: None, monkeypatch: pytest.MonkeyPatch, jobs: int, fault: BaseException
+) -> None:
+    """What comes before it is counted."""
+    paths, _ = many(tmp_path, "server", 300, 4)
+    monkeypatch.setattr(side_by_side, "parts", failing(15_000, fault))
+    with pytest.raises(type(fault)) as caught:
+        counts_until(paths[0], jobs)
+    assert str(caught.value) == str(fault) and caught.value.__dict__ == fault.__dict__
+    assert len([part for part in LAST if part.is_last]) == 3
+
+
+@pytest.mark.parametrize("number", [signal.SIGKILL, signal.SIGTERM])
+def test_a_process_that_is_killed_ends_the_command(
+    tmp_path: Path, small: None, monkeypatch: pytest.MonkeyPatch, number: int
+) -> None:
+    paths, _ = many(tmp_path, "server", 300, 4)
+    (tmp_path / "networks.csv").write_bytes(NETWORKS)
+    (tmp_path / "out").write_text("as before")
+    monkeypatch.setattr(side_by_side, "parts", failing(15_000, number))
+    words = ["demand", *paths, "--regions", tmp_path / "networks.csv", "-o", tmp_path / "out", "--jobs", "3"]
+    said = invoke(*words, status=5).stderr
+    assert said == f"hsp: a process that counts was ended by signal {number:d}; --jobs 1 takes the least memory\n"
+    assert (tmp_path / "out").read_text() == "as before" and not children(os.getpid())
+
+
+def test_a_fault_in_the_code_is_shown_with_its_place(
+    tmp_path: Path, small: None, monkeypatch: pytest.MonkeyPatch
+) -> None:
+    paths, _ = many(tmp_path, "server", 300, 4)
+    monkeypatch.setattr(side_by_side, "parts", failing(15_000, ZeroDivisionError("by nothing")))
+    with pytest.raises(RuntimeError, match=r'(?s)Traceback.*in parts.*ZeroDivisionError: by nothing'):
+        counts_until(paths[0], 3)
+
+
+def test_damaged_and_absent_logs_end_as_before(tmp_path: Path, small: None) -> None:
+    """With the same line by any number of processes: that of the first one."""
+    (tmp_path / "networks.csv").write_bytes(NETWORKS)
+    paths, _ = many(tmp_path, "proxy", 300, 5)
+    paths[1].write_bytes(paths[1].read_bytes()[:-900])
+    words = ["demand", *paths, tmp_path / "absent", "--regions", tmp_path / "networks.csv", "-o", tmp_path / "out"]
+    said = {invoke(*words, "--jobs", jobs, status=1).stderr for jobs in ("1", "3")}
+    assert len(said) == 1 and f"{paths[1]}: line " in said.pop()
+    paths[1].unlink()
+    said = {invoke(*words, "--jobs", jobs, status=5).stderr for jobs in ("1", "3")}
+    assert said == {f"hsp: {paths[1]}: No such file or directory\n"}
+    assert not (tmp_path / "out").exists()
+
+
+def started(tmp_path: Path) -> "subprocess.Popen[str]":
+    """A run of four processes over a pipe that nobody writes, and a log."""
+    os.mkfifo(tmp_path / "pipe")
+    (tmp_path / "networks.csv").write_bytes(NETWORKS)
+    line = server_line(random.Random(1)).line + "\n"
+    (tmp_path / "log").write_text(line * (1 + (1 << 25) // len(line)))
+    words = [tmp_path / "pipe", tmp_path / "log", "--regions", tmp_path / "networks.csv", "--jobs", "4"]
+    command = [*WITH_SIGNALS, sys.executable, "-m", "hsp", "demand", *map(str, words), "-o", str(tmp_path / "out")]
+    run = subprocess.Popen(command, env=variables(), stderr=subprocess.PIPE, text=True, start_new_session=True)
+    until(lambda: len(children(run.pid)) >= 4)
+    return run
+
+
+def until(is_so: Callable[[], bool]) -> None:
+    end = time.monotonic() + 60
+    while not is_so():
+        assert time.monotonic() < end
+        time.sleep(0.05)
+
+
+def are_gone(processes: list[int]) -> bool:
+    states = [Path(f"/proc/{it}/stat") for it in processes]
+    return not any(it.exists() and it.read_text().rpartition(")")[2].split()[0] != "Z" for it in states)
+
+
+def test_an_interrupt_ends_all_processes(tmp_path: Path) -> None:
+    """As a terminal sends it, to all of them."""
+    run = started(tmp_path)
+    helpers = children(run.pid)
+    os.killpg(run.pid, signal.SIGINT)
+    assert run.communicate(timeout=60)[1] == "hsp: interrupted\n" and run.returncode == 130
+    until(lambda: are_gone(helpers))
+    assert sorted(path.name for path in tmp_path.iterdir()) == ["log", "networks.csv", "pipe"]
+
+
+def test_no_process_outlives_a_command_that_is_killed(tmp_path: Path) -> None:
+    """The one that waits for a pipe ends when that does."""
+    run = started(tmp_path)
+    helpers = children(run.pid)
+    run.kill()
+    run.wait(timeout=60)
+    with open(tmp_path / "pipe", "wb"):
+        pass
+    until(lambda: are_gone(helpers))

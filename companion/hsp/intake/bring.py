@@ -434,8 +434,8 @@ def demand(logs: tuple[str, ...], regions: str, into: str | None, kept: str | No
     A LOG may be packed by gzip, bzip2 or xz; - is standard input. Its form is that of a handle server (server), of an
     HTTP proxy (proxy), JSON lines (json) or a table (csv). Without --into and -o the table is printed.
 
-    With --by hour or --by weekday-hour each hour has a table, as DIR/h09/demand.csv or DIR/mon-h09/demand.csv. It has the
-    counts of the day with most queries in this hour. All have the same rows, with 0 where nothing came. Hours are
+    With --by hour or --by weekday-hour each hour has a table, as DIR/h09/demand.csv or DIR/mon-h09/demand.csv. It has
+    the counts of the day with most queries in this hour. All have the same rows, with 0 where nothing came. Hours are
     those of one clock: that of the first time in the logs. DIR/demand.csv has the busiest hour.
     """
     programs, by = Programs(), given["by"]

@@ -18,8 +18,8 @@ SERVER_WIDTH, PROXY_WIDTH = 8, 3
 
 
 class Columns(NamedTuple):
-    """The clients' addresses, each behind a line end; the handles, or the requests that have them, or reasons why there
-    are none; and what the times are read of, where these are wanted."""
+    """The clients' addresses, each behind a line end; the handles, or the requests that have them, or reasons why
+    there are none; and what the times are read of, where these are wanted."""
 
     addresses: Sequence[bytes]
     asked: Sequence[bytes | str]

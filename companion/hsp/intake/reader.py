@@ -1,6 +1,7 @@
 """The queries of a log: which region asks for which handle, and how often.
 
-A line that gives no query is passed over and counted, with the reason. Lines of a usual form are looked at many at once.
+A line that gives no query is passed over and counted, with the reason. Lines of a usual form are looked at many at
+once.
 """
 
 from __future__ import annotations
@@ -257,7 +258,8 @@ class _Counting:
         if _has_reason(handles) or _has_reason(regions) or not faults.keys().isdisjoint(handles):
             regions, handles = self._queries(looked, faults)
         self._part.lines += len(regions)
-        rows: Iterable[Query] = zip(regions, itertools.repeat(b"") if self._reading.are_tags else handles)  # type: ignore
+        own = itertools.repeat(b"") if self._reading.are_tags else handles
+        rows: Iterable[Query] = zip(regions, own)  # type: ignore[arg-type]
         if self._keeps:
             rows = list(rows)
             kept = b"".join([b"%b,%b\n" % (field_of(region), field_of(handle)) for region, handle in rows])

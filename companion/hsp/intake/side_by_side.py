@@ -1,12 +1,14 @@
 """Logs that are counted in pieces, by several processes side by side. The parts come in the order of the logs.
 
-A process takes the next piece as soon as it has passed on the last one. It waits where it is far ahead of what is wanted.
+A process takes the next piece as soon as it has passed on the last one. It waits where it is far ahead of what is
+wanted.
 """
 
 from __future__ import annotations
 
 import contextlib
 import gc
+import itertools
 import multiprocessing
 import os
 import signal
@@ -27,7 +29,7 @@ from hsp.intake.reader import Part, parts
 # Fewer octets for each process are counted sooner by fewer processes.
 LEAST = 1 << 22
 MOST_JOBS = 64
-# So many pieces are begun before the first of them has ended, for each process; and of a piece so many parts are held.
+# So many pieces are begun before the first of them has ended, for each process. Of a piece so many parts are held.
 AHEAD, MOST_HELD = 4, 2
 Work = Callable[[Piece], Iterable[Part]]
 
@@ -97,7 +99,7 @@ def _serve(pipe: Connection, away: Sequence[Connection], work: Work, pieces: Seq
     gc.freeze()  # what is there isn't looked through any more, so all processes share its memory
     with contextlib.suppress(EOFError, ConnectionError):
         while True:
-            own = iter(work(pieces[pipe.recv()]))
+            own = itertools.chain.from_iterable(map(work, [pieces[pipe.recv()]]))
             is_last = False
             while not is_last:
                 found = _next(own)

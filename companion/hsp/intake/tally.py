@@ -88,7 +88,7 @@ class Tally:
             yield chunk
 
     def count(self, counts: Mapping[Query, int]) -> None:
-        """Counts queries that were counted in a part of the logs. The pairs come in the order in which they first do."""
+        """Counts queries that were counted in a part of the logs, in the order in which pairs first come."""
         own, before = self._counts, len(self._counts)
         for pair, number in counts.items():
             own[pair] = own.get(pair, 0) + number
