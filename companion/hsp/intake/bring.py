@@ -347,6 +347,7 @@ def by_of(_: click.Context, __: click.Parameter, words: tuple[str, ...]) -> By:
 
 
 BY_FIELD = "continent.code"
+JOBS = "processes side by side; by default one a processor"
 OF_DATABASE = click.option("--by", metavar="FIELD", default=BY_FIELD, show_default=True, help="of a MaxMind database")
 BY_HOURS = click.option(
     "--by",
@@ -426,7 +427,7 @@ def output_of(given: dict[str, Any], into: str | None) -> str | None:
 @click.option("--into", metavar="DIR", type=FOLDER, help="the folder whose demand.csv is written")
 @click.option("-o", "--output", metavar="FILE", help="the table, in place of DIR/demand.csv")
 @click.option("--log", "kept", metavar="FILE", help="also the queries, as a log for hsplan dispatch")
-@click.option("--jobs", metavar="N", type=click.IntRange(1, MOST_JOBS), help="processes side by side; one a processor")
+@click.option("--jobs", type=click.IntRange(1, MOST_JOBS), metavar="N", help=JOBS)
 @with_hours
 def demand(logs: tuple[str, ...], regions: str, into: str | None, kept: str | None, **given: Any) -> None:
     """Counts the queries of access logs by region and handle.

@@ -48,8 +48,8 @@ CYCLES = {own.word: own for own in (Cycle("hour", OF_DAY), Cycle("weekday-hour",
 class Chosen:
     """The hours that count, by the clock of a zone, and what all hours have.
 
-    `zone` is the zone's seconds before UTC, and `days` are those with a query, by their numbers since 1970. `hours` has
-    the number of the hour since 1970 by its place in the cycle. `queries` has the queries of each such hour, and
+    `zone` is the zone's seconds before UTC, and `days` are those with a query, by their numbers since 1970. `hours`
+    has the number of the hour since 1970 by its place in the cycle. `queries` has the queries of each such hour, and
     `zones` those of each zone that lines have.
     """
 
@@ -85,7 +85,8 @@ class Chosen:
         if others:
             moved = all_of - self.zones[self.zone]
             of_these = f"{moved:,} of {some(all_of, 'query', 'queries')} {'has' if moved == 1 else 'have'}"
-            zone += f", the zone of the first time; {of_these} times of {listed(map(shown_zone, others))}, moved to it"
+            names = listed(map(shown_zone, others))
+            zone += f", the zone of the first time; {of_these} times of {names}, moved to it"
         hour = self.hours[self.busiest]
         return [
             zone,

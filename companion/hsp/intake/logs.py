@@ -128,7 +128,7 @@ class Lines(NamedTuple):
 
 
 def pieces_of(path: str) -> list[Piece]:
-    """The pieces of a log: several only of a plain file. What can't be looked at is one, and faults when it is read."""
+    """The pieces of a log: several only of a plain file. What can't be looked at is one piece, and faults later."""
     whole = [Piece(path)]
     try:
         found = os.stat(path)

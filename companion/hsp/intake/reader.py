@@ -320,5 +320,5 @@ def _without_header(blocks: list[Lines]) -> list[Lines]:
 
 
 def parts(piece: Piece, reading: Reading, keeps: bool = False) -> Iterator[Part]:
-    """The queries of a piece in parts, of which the last one is marked. Where they are kept, each is a row of a log."""
+    """The queries of a piece in parts, of which the last one is marked. Those that are kept are rows of a log."""
     return _Counting(piece, reading, keeps).parts()

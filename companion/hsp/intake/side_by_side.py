@@ -90,7 +90,7 @@ class _Helper:
 
 
 def _serve(pipe: Connection, away: Sequence[Connection], work: Work, pieces: Sequence[Piece]) -> None:
-    """Counts pieces by their numbers until nobody asks for more. Only the command that asks is told of an interrupt."""
+    """Counts pieces by their numbers until nobody asks for more. An interrupt is for the command that asks."""
     for other in away:
         other.close()
     signal.signal(signal.SIGINT, signal.SIG_IGN)
