@@ -97,25 +97,46 @@ def test_what_is_kept_shows_both(hsp: Hsp, twelve: Path, tmp_path: Path) -> None
     assert f"check yes: {now}/near/plan.txt shows" in printed
 
 
-def test_a_plan_of_other_rows_is_no_plan_in_force(hsp: Hsp, example: Example) -> None:
+@pytest.mark.parametrize(
+    "wrong, why",
+    [
+        (("row 35 ", "server 35 "), "a plan of 35 rows"),
+        (("use 0 0 475\n", "use 1 0 475\n"), "another demand"),
+        (("use 0 0 475\n", "use 99 0 475\n"), "other files"),
+        (("use 0 0 475\n", "use 0 2 475\n"), "other files"),
+        (("PLAN", "SHORTAGE"), "no plan of hsplan"),
+        (("cost 3", "cost x"), "no plan of hsplan"),
+        (("use 0 0 475\n", "use x\n"), "no plan of hsplan"),
+        (("use 0 0 475\n", "use 0 0 -5\nuse 0 1 480\n"), "no plan of hsplan"),
+        (("use 0 0 475\n", "use -36 0 475\n"), "no plan of hsplan"),
+        (("use 0 0 475\n", "use 0 -2 475\n"), "no plan of hsplan"),
+        (("use 0 0 475\n", "use 0 0 +475\n"), "no plan of hsplan"),
+        (("use 0 0 475\n", "use 0 0 4_75\n"), "no plan of hsplan"),
+        (("use 0 0 475\n", "use 0 0 \u0664\u0667\u0665\n"), "no plan of hsplan"),
+        (("use 0 0 475\n", f"use 0 0 {'9' * 5000}\n"), "no plan of hsplan"),
+        (("use 0 0 475\n", "use 0 0 475 use 0 1 0\n"), "no plan of hsplan"),
+        (("use 0 0 475\n", "use 0 0 475\nsite 0 1 2\n"), "no plan of hsplan"),
+        (("END\n", "END"), "no plan of hsplan"),
+        (("END\n", "END\nEND\n"), "no plan of hsplan"),
+        (("HSPLAN 1\nPLAN\n", "HSPLAN PRICES 1\nPLAN\n"), "by prices"),
+    ],
+)
+def test_a_wrong_certificate_is_no_plan_in_force(
+    hsp: Hsp, example: Example, wrong: tuple[str, str], why: str
+) -> None:
+    """Other rows than those of the demand, and what isn't a certificate by rows, octet for octet."""
     folder = example("two-sites")
     hsp("plan", str(folder))
     service = read_service(str(folder), Programs(), {})
-    for text, why in (
-        ((folder / "plan.txt").read_text().replace("row 35 ", "row 34 ", 1), ""),
-        ("HSPLAN 1\nPLAN\ncost 0\nEND\n", "a plan of 0 rows"),
-        ("HSPLAN 1\nSHORTAGE\ndemand 1\ncapacity 0\nEND\n", "no plan of hsplan"),
-        ("HSPLAN PRICES 1\nPLAN\ncost 0\nEND\n", "by prices"),
-        ("HSPLAN 1\nPLAN\ncost 0\nuse x\nrow 0 0\nEND\n", "no plan of hsplan"),
-        ((folder / "plan.txt").read_text().replace("use 0 0 ", "use 0 1 ", 1).replace("END", "END"), ""),
-        ((folder / "plan.txt").read_text().replace("use 0 ", "use 1 ", 1), "another demand"),
-        ((folder / "plan.txt").read_text().replace("use 0 ", "use 99 ", 1), "other files"),
-    ):
-        (folder / "old.txt").write_text(text)
-        if not why:
-            continue
-        with pytest.raises(Unfit, match=why):
-            in_force(str(folder / "old.txt"), service, Judged())
+    text = (folder / "plan.txt").read_text()
+    assert wrong[0] in text
+    (folder / "old.txt").write_text(text.replace(*wrong, 1), encoding="utf-8")
+    with pytest.raises(Unfit, match=why):
+        in_force(str(folder / "old.txt"), service, Judged())
+
+
+def test_an_absent_certificate_is_named(hsp: Hsp, example: Example) -> None:
+    folder = example("two-sites")
     ended = hsp("plan", str(folder), "--near", str(folder / "absent.txt"), status=5)
     assert ended.stderr == f"hsp: {folder}/absent.txt: no such file; give a certificate, or a folder with plan.txt\n"
 

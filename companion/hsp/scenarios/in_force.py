@@ -13,10 +13,17 @@ from hsp.base.programs import Certificate, Missing, Programs
 from hsp.base.unfit import Unfit
 from hsp.plans.marks import TITLES, mark_in
 from hsp.plans.service import NAMES, VALUES, Service, service_of
-from hsp.scenarios.nearest import Homes, homes_of
+from hsp.scenarios.nearest import PRICED, Homes, homes_of
 
 PLAN = "plan.txt"
-HEAD, PRICED = re.compile(r"HSPLAN [0-9]+\nPLAN\n"), "HSPLAN PRICES 1\n"
+BY_PRICES = "HSPLAN PRICES 1\n"
+# A number, and a certificate by rows. No part of it gives back what it has taken, so a large one takes little memory.
+NUMBER = r"[0-9]{1,19}"
+FORM = re.compile(
+    rf"HSPLAN [0-9]+\nPLAN\ncost {NUMBER}\n(?:use {NUMBER} {NUMBER} {NUMBER}\n)*+"
+    + "".join(rf"(?:{of} {NUMBER} {NUMBER}\n)*+" for of in PRICED)
+    + r"END\n"
+)
 
 
 @dataclass(frozen=True)
@@ -39,9 +46,9 @@ def plan_named(words: str) -> str:
 def text_of(path: str) -> str:
     """The text of a certificate by rows."""
     text = whole(path).decode("utf-8", "replace")
-    if text.startswith(PRICED):
+    if text.startswith(BY_PRICES):
         raise Unfit(f"{path}: a certificate by prices names no row, so no plan is near it")
-    if not HEAD.match(text) or not text.endswith("END\n"):
+    if not FORM.fullmatch(text):
         raise Unfit(f"{path}: no plan of hsplan")
     return text
 
@@ -50,15 +57,12 @@ def _of_rows(service: Service, text: str, path: str) -> Certificate:
     """The certificate, where its uses are those of the service's rows."""
     remedy = "keep a plan in one folder with the demand for which it was made"
     certificate = Certificate(text, service.unit)
-    try:
-        numbers, uses = len(certificate.prices("row")), certificate.uses
-    except (ValueError, IndexError, TypeError):
-        raise Unfit(f"{path}: no plan of hsplan") from None
+    numbers = len(certificate.prices("row"))
     if numbers != len(service.rows):
         own = some(len(service.rows), "row")
         raise Unfit(f"{path}: a plan of {some(numbers, 'row')}, and {service.inputs.demand} has {own}; {remedy}")
     sums = [0] * len(service.rows)
-    for row, site, queries in uses:
+    for row, site, queries in certificate.uses:
         if row >= len(sums) or site >= len(service.sites):
             raise Unfit(f"{path}: a plan of other files than those beside it; {remedy}")
         sums[row] += queries
