@@ -4,6 +4,7 @@ from __future__ import annotations
 
 import json
 import random
+import re
 import shutil
 from pathlib import Path
 
@@ -156,8 +157,9 @@ def test_beyond_the_tables_a_line_says_so(hsp: Hsp, example: Example, monkeypatc
         Portions(service, homes_of(service, service.certificate, False), Judged())
 
 
-def test_a_server_of_another_site_record_is_another_home(hsp: Hsp, example: Example) -> None:
-    """A site whose number of servers changed has other servers for its handles: what they had is new, not moved."""
+def test_what_had_a_server_that_is_gone_is_moved(hsp: Hsp, example: Example) -> None:
+    """A site whose number of servers changed has other servers for its handles. Every plan moves what they had, so it
+    counts as moved, and no portion is at home."""
     folder = example("two-sites")
     service = read_service(str(folder), Programs(), {})
     homes = homes_of(service, service.certificate, False)
@@ -165,7 +167,31 @@ def test_a_server_of_another_site_record_is_another_home(hsp: Hsp, example: Exam
         key: {(site, server + 10): number for (site, server), number in own.items()} for key, own in homes.items()
     }
     assert all(it.home is None for it in portions_of(service, renamed, False))
-    assert moved_between(service, renamed, service.certificate) == 0
+    assert moved_between(service, renamed, service.certificate) == service.asked == 6_282
+    programs = Judged()
+    portions = Portions(service, renamed, programs)
+    near = portions.nearest(service, service.certificate)
+    assert near and near.moved == 6_282 and portions.forced(()) == 6_282
+
+
+def test_a_site_that_is_gone_has_moved_its_queries(hsp: Hsp, example: Example) -> None:
+    """What yesterday's plan sent to reston is moved today, as reston is gone; nothing else is, as paris has room for all."""
+    folder = example("two-sites")
+    rooms = re.sub(r",(\d+)$", r",\g<1>0", (folder / "capacity.csv").read_text(), flags=re.M)
+    (folder / "capacity.csv").write_text(rooms)
+    old = Path(shutil.copytree(folder, folder.parent / "old"))
+    shares = hsp("plan", str(old), "--csv").stdout
+    of_reston = sum(int(line.split(",")[2]) for line in shares.splitlines()[1:] if line.split(",")[1] == "reston")
+    assert 0 < of_reston < 6_282
+    for name in ("costs.csv", "capacity.csv"):
+        lines = (folder / name).read_text().splitlines(keepends=True)
+        (folder / name).write_text("".join(line for line in lines if "reston" not in line))
+    settings = (folder / "settings.toml").read_text()
+    (folder / "settings.toml").write_text(settings[: settings.index("[[site]]", 1)])
+    printed = hsp("plan", str(folder), "--near", str(old)).stdout
+    share = f"{of_reston:,} ({100 * of_reston / 6_282:.0f}%)"
+    assert f"near  moves {share} of 6,282 queries from {old}/plan.txt, the fewest of all cheapest plans" in printed
+    assert f"plain {share}" in printed
 
 
 def test_json_has_what_moves_and_what_lies_ahead(hsp: Hsp, example: Example) -> None:

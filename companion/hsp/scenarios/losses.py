@@ -95,7 +95,7 @@ def after(service: Service, loss: Loss, programs: Judged, portions: Portions | N
     if not near or not portions:
         return After(loss, lost, lost.certificate.cost)
     programs.put_away(near.portions.costs, near.portions_plan)
-    forced = portions.homes_at(loss.servers)
+    forced = portions.forced(loss.servers)
     found = replace(lost, certificate=near.certificate, plan_file=near.plan_file)
     return After(loss, found, near.certificate.cost, near.moved, forced)
 

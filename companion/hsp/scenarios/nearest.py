@@ -8,7 +8,7 @@ is a cheapest plan of the rows and moves the fewest queries, and a certificate o
 from __future__ import annotations
 
 from collections import Counter
-from collections.abc import Callable, Iterable, Mapping
+from collections.abc import Callable, Iterable, Iterator, Mapping
 from dataclasses import dataclass
 from typing import NamedTuple
 
@@ -87,23 +87,34 @@ def shared(whole: int, parts: Mapping[int | None, int]) -> dict[int | None, int]
     return {key: part for key, part in own.items() if part}
 
 
-def portions_of(service: Service, homes: Homes, by_kind: bool) -> list[Portion]:
-    """The portions of all rows. What had a server that is no longer there is moved by every plan, so it's new."""
-    key_of, found = keys_of(service, by_kind), []
+def _shares(service: Service, homes: Homes, by_kind: bool) -> Iterator[dict[int | None, int]]:
+    """The units of each row that the plan in force has at each site; below None those at a server that is gone."""
+    key_of = keys_of(service, by_kind)
     numbers = {site.name: at for at, site in enumerate(service.sites)}
-    for at, row in enumerate(service.rows):
-        units, parts = row.count // service.unit, dict[int | None, int]()
+    for row in service.rows:
+        parts = dict[int | None, int]()
         for (site, server), queries in homes.get(key_of(row), {}).items():
             number = numbers.get(site)
             is_there = number is not None and service.server(number, row.handle).id == server
             home = number if is_there else None
             parts[home] = parts.get(home, 0) + queries
-        own = shared(units, parts)
-        rest = units - sum(own.values()) + own.pop(None, 0)
+        yield shared(row.count // service.unit, parts)
+
+
+def portions_of(service: Service, homes: Homes, by_kind: bool) -> list[Portion]:
+    """The portions of all rows. What had a server that is gone is moved by every plan, so it's new."""
+    found = []
+    for at, (row, own) in enumerate(zip(service.rows, _shares(service, homes, by_kind))):
+        rest = row.count // service.unit - sum(own.values()) + own.pop(None, 0)
         found += [Portion(at, home, part) for home, part in own.items()]
         if rest or not own:
             found.append(Portion(at, None, rest))
     return found
+
+
+def gone_of(service: Service, homes: Homes, by_kind: bool) -> int:
+    """How many queries of the plan in force, in the present counts, had a server that is gone. Every plan moves them."""
+    return service.unit * sum(own.get(None, 0) for own in _shares(service, homes, by_kind))
 
 
 def weight_of(service: Service) -> int:
@@ -133,6 +144,7 @@ class Portions:
                 self._at_home[server.number] += service.unit * it.units
         rows = ((self._names[self._region(it)], service.rows[it.row].handle, it.units) for it in self.all)
         self.demand = programs.put_table(HEADERS["demand"], rows)
+        self._gone = gone_of(service, homes, by_kind)
 
     def _region(self, portion: Portion) -> tuple[str, int | None]:
         return self._service.rows[portion.row].region, portion.home
@@ -158,9 +170,9 @@ class Portions:
             return names
         return {key: f"r{at}" for at, key in enumerate(names)}
 
-    def homes_at(self, servers: Iterable[Server]) -> int:
-        """How many queries are at home at some servers."""
-        return sum(self._at_home[server.number] for server in servers)
+    def forced(self, servers: Iterable[Server]) -> int:
+        """How many queries every plan moves without some servers: those at home there, and at servers that are gone."""
+        return self._gone + sum(self._at_home[server.number] for server in servers)
 
     def inputs(self, service: Service) -> Inputs:
         """The tables of the portions for a service of the same rows, which may have other costs and capacities."""
@@ -188,7 +200,7 @@ class Portions:
         own = self._programs.put(text)
         if not self._programs.says_yes(service.inputs, own):
             return None
-        moved = found.cost - self.weight * cost
+        moved = self._gone + found.cost - self.weight * cost
         return Nearest(Certificate(text, service.unit), own, moved, inputs, path)
 
     def _joined(self, found: Certificate, unit: int) -> Uses:
@@ -223,14 +235,15 @@ def text_of(head: str, cost: int, uses: Uses, prices: Mapping[str, list[int]]) -
 
 
 def moved_between(service: Service, homes: Homes, certificate: Certificate, by_kind: bool = False) -> int:
-    """How many queries of the plan in force, in the present counts, a plan doesn't send to the same server."""
+    """How many queries of the plan in force, in the present counts, a plan doesn't send to the same server: those at a
+    server that is gone, too."""
     at_home = {
         (it.row, it.home): service.unit * it.units
         for it in portions_of(service, homes, by_kind)
         if it.home is not None
     }
     kept = sum(min(queries, at_home.get((row, site), 0)) for row, site, queries in zip(*certificate.use_columns))
-    return sum(at_home.values()) - kept
+    return gone_of(service, homes, by_kind) + sum(at_home.values()) - kept
 
 
 __all__ = [
@@ -238,6 +251,7 @@ __all__ = [
     "Nearest",
     "Portions",
     "TooMany",
+    "gone_of",
     "homes_of",
     "keys_of",
     "moved_between",
