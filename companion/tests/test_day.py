@@ -240,6 +240,57 @@ def test_a_link_is_not_written_through(hsp: Hsp, day: Path, tmp_path: Path) -> N
     assert list((tmp_path / "other").iterdir()) == []
 
 
+def test_a_link_among_blocks_is_not_written_through(hsp: Hsp, day: Path, tmp_path: Path) -> None:
+    hsp("day", str(day))
+    first = min((day / "blocks").iterdir())
+    first.rename(tmp_path / "other")
+    (tmp_path / "other/plan.txt").write_text("mine")
+    first.symlink_to(tmp_path / "other")
+    ended = hsp("day", str(day), status=1)
+    assert ended.stderr == f"hsp: {first}: no folder of its own; plans are written there\n"
+    assert (tmp_path / "other/plan.txt").read_text() == "mine"
+
+
+def test_a_plan_is_not_written_over_a_demand(hsp: Hsp, day: Path) -> None:
+    before = (day / "h06/demand.csv").read_bytes()
+    (day / "h05/plan.txt").symlink_to("../h06/demand.csv")
+    ended = hsp("day", str(day), status=1)
+    assert ended.stderr == f"hsp: {day}/h05/plan.txt: it would be read and written\n"
+    assert (day / "h06/demand.csv").read_bytes() == before and not (day / "blocks").exists()
+
+
+def test_folders_that_are_no_blocks_stay(hsp: Hsp, example: Example, tmp_path: Path) -> None:
+    """A path may have the words of a block's name. A block that is none any more leaves no folder, unless somebody
+    keeps a file there."""
+    day = with_hours(Path(example("two-sites").rename(tmp_path / "from-a-to-b")))
+    (day / "blocks/mine").mkdir(parents=True)
+    for name in ("h00-to-h99", "h00-to-mon-h01", "h01-to-h02", "h02-to-h03"):
+        (day / "blocks" / name).mkdir()
+    for own in (day / "blocks").iterdir():
+        (own / "plan.txt").write_text("mine")
+        (own / "demand.csv").write_text("mine")
+    (day / "blocks/h02-to-h03/note.txt").write_text("mine")
+    hsp("day", str(day))
+    for name in ("mine", "h00-to-h99", "h00-to-mon-h01"):
+        assert (day / "blocks" / name / "plan.txt").read_text() == "mine"
+    assert not (day / "blocks/h01-to-h02").exists()
+    assert [it.name for it in (day / "blocks/h02-to-h03").iterdir()] == ["note.txt"]
+
+
+def test_no_block_goes_over_an_hour_without_a_demand(hsp: Hsp, day: Path) -> None:
+    """All hours ask for little, so that one plan serves all that stand in a row."""
+    rooms = re.sub(r",(\d+)$", r",\g<1>0", (day / "capacity.csv").read_text(), flags=re.M)
+    (day / "capacity.csv").write_text(rooms)
+    assert "block 1 plan serves 24 hours as it stands: 00-23; " in hsp("day", str(day)).stdout
+    (day / "h05/demand.csv").unlink()
+    lines = hsp("day", str(day)).stdout.splitlines()
+    assert "none  1 hour has no demand: 05" in lines
+    block = next(line for line in lines if line.startswith("block"))
+    assert block.startswith("block 2 plans serve 23 hours, each as it stands: 00-04 and 06-23; ")
+    assert block.endswith(" above 23 plans; fewer blocks of hours in a row don't serve them")
+    assert sorted(it.name for it in (day / "blocks").iterdir()) == ["h00-to-h04", "h06-to-h23"]
+
+
 @pytest.fixture(scope="module")
 def page_of_day(hsp: Hsp, tmp_path_factory: pytest.TempPathFactory) -> Path:
     import shutil

@@ -3,6 +3,7 @@
 from __future__ import annotations
 
 import csv
+import fcntl
 import io
 import os
 import random
@@ -328,3 +329,35 @@ def test_files_that_are_read_are_not_written(hsp: Hsp, tmp_path: Path) -> None:
     (folder / "losses.csv").symlink_to(folder / "demand.csv")
     with pytest.raises(Unfit, match="read and written"):
         kept.refuse([])
+    (folder / "losses.csv").unlink()
+    (folder / "site-b").mkdir()
+    (folder / "site-b/costs.csv").symlink_to(folder / "costs.csv")
+    with pytest.raises(Unfit, match="site-b/costs.csv: it would be read and written"):
+        kept.refuse(["site-a", "site-b"])
+
+
+def test_one_run_at_a_time_writes_fallbacks(hsp: Hsp, tmp_path: Path, monkeypatch: pytest.MonkeyPatch) -> None:
+    """Another run has the folder. Its table stays, and with it what it says of the plans."""
+    folder = three_sites(tmp_path, 300)
+    hsp("survive", str(folder))
+    monkeypatch.setattr("hsp.base.files.PATIENCE", 0)
+    descriptor = os.open(folder / "fallback", os.O_RDONLY)
+    try:
+        fcntl.flock(descriptor, fcntl.LOCK_EX)
+        ended = hsp("survive", str(folder), status=5)
+    finally:
+        os.close(descriptor)
+    assert "fallback: another run has it locked" in ended.stderr and (folder / "fallback/losses.csv").exists()
+
+
+def test_where_nothing_is_asked_for_nothing_lies_ahead(hsp: Hsp, tmp_path: Path) -> None:
+    """No demand grows, and none is moved since the plan before."""
+    folder = three_sites(tmp_path, 300)
+    (folder / "demand.csv").write_bytes(demand_of([("x", "20.1/0", 0)]))
+    hsp("plan", str(folder))
+    lines = hsp("plan", str(folder), "--more").stdout.splitlines()
+    assert "moves 0% of the queries since the plan before" in lines
+    assert not [line for line in lines if line.startswith(("grow", "loss"))]
+    hsp("view", str(folder), "--more", "--before", str(folder))
+    page = (folder / "plan.html").read_text()
+    assert "<dt>Moves</dt><dd><b>0%</b>" in page and "Fits until" not in page and "When the demand grows" not in page

@@ -22,7 +22,7 @@ from hsp.scenarios.nearest import moved_between
 @dataclass(frozen=True)
 class Ahead:
     """The growths, first that of all demand; the losses, the worst first; and how many queries are moved, if that is
-    known. A service that is short has no losses."""
+    known. A service that is short has no losses, and one that nobody asks has neither growths nor losses."""
 
     service: Service
     growths: Sequence[Growth]
@@ -31,38 +31,38 @@ class Ahead:
 
     def lines(self) -> Iterator[str]:
         """A line for each."""
-        folder, first = shell_word(self.service.folder), self.growths[0]
-        short = f" {grow_lines.then(self.service, first.short)}" if first.short else ""
-        yield f"grow  {grow_lines.span(first)}{short} (hsp grow {folder})"
+        folder = shell_word(self.service.folder)
+        for first in self.growths[:1]:
+            short = f" {grow_lines.then(self.service, first.short)}" if first.short else ""
+            yield f"grow  {grow_lines.span(first)}{short} (hsp grow {folder})"
         if self.losses:
             yield f"loss  {survive_lines.worst(self.service, self.losses)} (hsp survive {folder})"
         if self.moved is not None:
-            yield f"moves {self._moved()} of the queries since the plan before"
+            yield f"moves {_share(self.service, self.moved)} of the queries since the plan before"
 
     def report(self) -> dict[str, object]:
         """The same for other programs. Factors are of the present counts, and what isn't known is null."""
-        first, worst = self.growths[0], self.losses[0] if self.losses else None
+        fits, short_from = next(((it.fits, it.short_from) for it in self.growths), (None, None))
+        worst = self.losses[0] if self.losses else None
         loss = (
             {"kind": worst.loss.kind, "what": worst.loss.name, "cost": worst.cost, "lack": worst.lack}
             if worst
             else None
         )
         return {
-            "fits_until": None if first.fits is None else first.fits / STEP,
-            "short_from": None if first.short_from is None else first.short_from / STEP,
+            "fits_until": None if fits is None else fits / STEP,
+            "short_from": None if short_from is None else short_from / STEP,
             "worst_loss": loss,
             "moved_since_before": self.moved,
         }
 
-    def _moved(self) -> str:
-        return part((self.moved or 0) / self.service.asked)
-
     def facts(self) -> list[Fact]:
         """The same as tiles of a page."""
-        first = self.growths[0]
-        short = f"short from {percent_of(first.short_from)} on" if first.short_from is not None else ""
-        fits = percent_of(first.fits) if first.fits is not None else "short"
-        found = [Fact("Fits until", fits, short)]
+        found = []
+        for first in self.growths[:1]:
+            short = f"short from {percent_of(first.short_from)} on" if first.short_from is not None else ""
+            fits = percent_of(first.fits) if first.fits is not None else "short"
+            found.append(Fact("Fits until", fits, short))
         if self.losses:
             worst = self.losses[0]
             after = survive_lines.change(self.service, worst)
@@ -73,13 +73,18 @@ class Ahead:
 
     def tables(self) -> list[FactTable]:
         """The same as tables of a page."""
-        found = [growth_table(self.service, self.growths)]
+        found = [growth_table(self.service, self.growths)] if self.growths else []
         return [*found, loss_table(self.service, self.losses)] if self.losses else found
+
+
+def _share(service: Service, moved: int) -> str:
+    """Which part of all queries is moved; of nothing 0."""
+    return part(moved / service.asked if service.asked else 0.0)
 
 
 def moved_fact(service: Service, moved: int) -> Fact:
     """How many queries are moved, as a tile of a page."""
-    return Fact("Moves", part(moved / service.asked), f"{queries_of(moved)} since the plan before")
+    return Fact("Moves", _share(service, moved), f"{queries_of(moved)} since the plan before")
 
 
 def growth_table(service: Service, growths: Sequence[Growth]) -> FactTable:
@@ -112,6 +117,8 @@ def loss_table(service: Service, losses: Sequence[After]) -> FactTable:
 
 def ahead_of(service: Service, programs: Judged) -> Ahead:
     """What lies ahead of a service's plan."""
+    if not service.asked:
+        return Ahead(service, [], [])
     growths = grown(service, programs)
     if not service.certificate.is_plan:
         return Ahead(service, growths, [])

@@ -1,4 +1,4 @@
-"""The fewest blocks of hours that one plan serves each.
+"""The fewest blocks of hours in a row that one plan serves each.
 
 The table of each row's greatest count in some hours has a plan: it serves each of these hours. A part of such a block
 is one too, so the longest blocks, one after the other, are the fewest.
@@ -14,7 +14,7 @@ from functools import partial
 
 from hsp.base.grammar import HEADERS
 from hsp.base.programs import Certificate, Inputs
-from hsp.plans.service import Service
+from hsp.plans.service import OF_DAY, OF_WEEK, Service
 from hsp.scenarios.hours import Hour, HourPlan
 from hsp.scenarios.judged import Judged, side_by_side
 
@@ -51,6 +51,12 @@ class Block:
             if most and spent[row]:
                 whole += Fraction(spent[row] * sum(hour.counts[row] for hour in self.hours), most)
         return whole
+
+
+def is_block(name: str) -> bool:
+    """Whether a folder has the name of a block."""
+    first, _, last = name.partition("-to-")
+    return any(form.fullmatch(first) and form.fullmatch(last) for form in (OF_DAY, OF_WEEK))
 
 
 def block_of(service: Service, hours: Sequence[Hour], programs: Judged) -> Block | None:
@@ -127,11 +133,12 @@ def _up_to(at: int, size: int) -> tuple[int, int]:
 
 
 def fewest(service: Service, plans: Sequence[HourPlan], programs: Judged) -> list[Block]:
-    """The fewest blocks that serve all hours that have a plan."""
+    """The fewest blocks that serve all hours that have a plan. None goes over an hour that has no demand."""
     blocks: list[Block] = []
-    for is_plan, group in itertools.groupby(plans, lambda plan: plan.is_plan):
+    placed = enumerate(plans)
+    for (is_plan, _), group in itertools.groupby(placed, lambda it: (it[1].is_plan, it[1].hour.place - it[0])):
         if is_plan:
-            blocks += _Search(service, [plan.hour for plan in group], programs).fewest()
+            blocks += _Search(service, [plan.hour for _, plan in group], programs).fewest()
     return blocks
 
 
@@ -142,4 +149,4 @@ def price(service: Service, plans: Sequence[HourPlan], blocks: Sequence[Block]) 
     return (whole - least) / least if least else Fraction(0)
 
 
-__all__ = ["Block", "block_of", "fewest", "price"]
+__all__ = ["Block", "block_of", "fewest", "is_block", "price"]

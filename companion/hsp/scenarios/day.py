@@ -2,6 +2,7 @@
 
 from __future__ import annotations
 
+import contextlib
 import os
 import sys
 from collections.abc import Callable, Sequence
@@ -20,7 +21,7 @@ from hsp.plans.answering import in_units
 from hsp.plans.service import NAMES, VALUES, Service, titles_in
 from hsp.plans.terminal import head
 from hsp.scenarios import day_lines
-from hsp.scenarios.blocks import Block, fewest, price
+from hsp.scenarios.blocks import Block, fewest, is_block, price
 from hsp.scenarios.day_lines import Day
 from hsp.scenarios.day_page import command_of, render_day
 from hsp.scenarios.day_table import csv_of
@@ -93,20 +94,33 @@ def _kept(day: Day, folder: str, programs: Judged) -> dict[str, bytes]:
 
 
 def _forget(day: Day, folder: str) -> None:
-    """Takes away the plans of hours that are short now, and of blocks that are none any more."""
+    """Takes away the plans of hours that are short now, and of blocks that are none any more. All else stays."""
+    names = {block.name for block in day.blocks}
+    old = [own for own in _blocks_in(folder) if os.path.basename(own) not in names]
     short = [path_in(plan.hour.folder, PLAN) for plan in day.plans if not plan.is_plan]
-    within, names = path_in(folder, BLOCKS), {block.name for block in day.blocks}
-    others = [name for name in (os.listdir(within) if os.path.isdir(within) else []) if name not in names]
-    old = [path_in(within, os.path.join(name, it)) for name in others for it in (PLAN, NAMES["demand"])]
-    for path in [*short, *(it for it in old if "-to-" in it)]:
-        if os.path.isfile(path) and not os.path.islink(os.path.dirname(path)):
+    for path in [*short, *(path_in(own, name) for own in old for name in (PLAN, NAMES["demand"]))]:
+        with contextlib.suppress(FileNotFoundError):
             os.unlink(path)
+    for own in old:
+        with contextlib.suppress(OSError):
+            os.rmdir(own)
+
+
+def _blocks_in(folder: str) -> list[str]:
+    """The folders of blocks that are there."""
+    within = path_in(folder, BLOCKS)
+    names = os.listdir(within) if os.path.isdir(within) else []
+    return [path_in(within, name) for name in names if is_block(name)]
 
 
 def _refuse_links(folder: str, names: Sequence[str]) -> None:
-    for path in [path_in(folder, name) for name in (*names, BLOCKS)]:
+    for path in [*(path_in(folder, name) for name in (*names, BLOCKS)), *_blocks_in(folder)]:
         if os.path.islink(path) or os.path.lexists(path) and not os.path.isdir(path):
             raise Unfit(f"{path}: no folder of its own; plans are written there")
+
+
+def _refuse_clashes(service: Service, hours: Sequence[Hour], outputs: Sequence[str]) -> None:
+    refuse_clashes({*service.own_inputs.files(), *(hour.demand for hour in hours)}, outputs)
 
 
 def _day(service: Service, hours: Sequence[Hour], is_near: bool, programs: Judged) -> Day:
@@ -138,8 +152,8 @@ def day(folder: str, **given: Any) -> None:
     """Plans each hour of a day or of a week.
 
     hsp demand --by hour writes the demand of each hour into DIR/h00 to DIR/h23. Each gets its cheapest plan beside it.
-    DIR/blocks has the fewest plans that serve several hours each, and DIR/day.html shows all. Status 3 means that some
-    hour is short.
+    DIR/blocks has a plan for each of the fewest blocks of hours in a row, and DIR/day.html shows all. Status 3 means
+    that some hour is short.
     """
     programs = Judged()
     names = names_in(folder, given["is_week"])
@@ -148,7 +162,7 @@ def day(folder: str, **given: Any) -> None:
         _refuse_links(folder, names)
     service = _first_service(folder, names[0], programs, given)
     hours = [read_hour(service, path_in(folder, name), name) for name in names]
-    refuse_clashes([*service.inputs.files(), *(hour.demand for hour in hours)], [page])
+    _refuse_clashes(service, hours, [page])
     found = _day(reserved(service, given["reserve"], programs), hours, given["is_near"], programs)
     if not given["no_save"]:
         _save(found, folder, page, programs)
@@ -190,6 +204,7 @@ def _save(found: Day, folder: str, page: str, programs: Judged) -> None:
     commands = {plan.hour.name: command_of(inputs, found.service.unit, plan) for plan in found.plans}
     paths = {block.name: path_in(folder, os.path.join(BLOCKS, block.name, PLAN)) for block in found.blocks}
     text = render_day(found, folder, commands, paths, programs.judged_so_far)
+    _refuse_clashes(found.service, [plan.hour for plan in found.plans], [*contents, page])
     for path in contents:
         os.makedirs(os.path.dirname(path) or ".", exist_ok=True)
     replace_all({**contents, page: text.encode()})

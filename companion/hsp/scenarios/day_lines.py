@@ -9,10 +9,11 @@ from fractions import Fraction
 
 from hsp.base.numbers import listed, part, queries_of, some
 from hsp.base.text import bold, colored, dim
+from hsp.intake.hours import CYCLES
 from hsp.plans.service import Service
 from hsp.plans.whatif import bar
 from hsp.scenarios.blocks import Block
-from hsp.scenarios.hours import HourPlan
+from hsp.scenarios.hours import HourPlan, label_of
 
 # So many servers are shown by the hours in which room there has a price.
 SHOWN = 6
@@ -103,15 +104,29 @@ def verdicts(day: Day) -> Iterator[str]:
     short = [plan.hour.label for plan in day.plans if not plan.is_plan]
     if short:
         yield f"short {some(len(short), 'hour')}: {listed(short, NAMED)}"
+    absent = _absent(day)
+    if absent:
+        yield f"none  {some(len(absent), 'hour has', 'hours have')} no demand: {listed(absent, NAMED)}"
     if day.blocks:
-        served = sum(len(block.hours) for block in day.blocks)
-        names = listed((block.label for block in day.blocks), NAMED)
-        one = len(day.blocks) == 1
-        yield (
-            f"block {some(len(day.blocks), 'plan')} {'serves' if one else 'serve'} {some(served, 'hour')}, "
-            f"{'it' if one else 'each'} as it stands: {names}; {part(float(day.price))} above "
-            f"{some(served, 'plan')}, and fewer don't serve them"
-        )
+        yield _blocks(day)
+
+
+def _absent(day: Day) -> list[str]:
+    """The hours of the day, or of the week, that have no demand."""
+    there = {plan.hour.name for plan in day.plans}
+    own = next(cycle for cycle in CYCLES.values() if there <= set(cycle.names))
+    return [label_of(name) for name in own.names if name not in there]
+
+
+def _blocks(day: Day) -> str:
+    """What the blocks serve, and at which price. A block is of hours in a row, and none goes over the end."""
+    number, served = len(day.blocks), sum(len(block.hours) for block in day.blocks)
+    names = listed((block.label for block in day.blocks), NAMED)
+    above = f"{part(float(day.price))} above {some(served, 'plan')}"
+    if number == 1:
+        return f"block 1 plan serves {some(served, 'hour')} as it stands: {names}; {above}"
+    serve = f"{number:,} plans serve {some(served, 'hour')}, each as it stands"
+    return f"block {serve}: {names}; {above}; fewer blocks of hours in a row don't serve them"
 
 
 __all__ = ["Day", "lines", "verdicts"]

@@ -9,7 +9,7 @@ import os
 from collections.abc import Sequence
 from dataclasses import dataclass
 
-from hsp.base.files import refuse_clashes, replace_all
+from hsp.base.files import locked, refuse_clashes, replace_all
 from hsp.base.paths import path_in
 from hsp.base.unfit import Unfit
 from hsp.plans.answering import CAPACITY, LESS_CAPACITY, LESS_SETTINGS, SETTINGS, in_units
@@ -45,22 +45,22 @@ class Fallbacks:
         for path in (self.folder, *(path_in(self.folder, name) for name in all_losses)):
             if os.path.islink(path) or os.path.lexists(path) and not os.path.isdir(path):
                 raise Unfit(f"{path}: no folder of its own; fallback plans are written there")
-        refuse_clashes(self.service.own_inputs.files(), [self.table])
+        kept = (path_in(self.folder, os.path.join(loss, name)) for loss in all_losses for name in OWN)
+        refuse_clashes(self.service.own_inputs.files(), [self.table, *kept])
 
     def keep(self, all_found: Sequence[After]) -> int:
         """Writes the fallback plans, and takes away those of losses that have none. Returns how many plans there are."""
         os.makedirs(self.folder, exist_ok=True)
-        _remove(self.table)
-        kept = 0
-        for found in all_found:
-            if found.cost is None:
-                self._forget(found)
-                continue
-            os.makedirs(self.path(found), exist_ok=True)
-            replace_all(self._contents(found))
-            kept += 1
-        replace_all({self.table: self._text(all_found).encode()})
-        return kept
+        with locked([self.folder]):
+            _remove(self.table)
+            for found in all_found:
+                if found.cost is None:
+                    self._forget(found)
+                    continue
+                os.makedirs(self.path(found), exist_ok=True)
+                replace_all(self._contents(found))
+            replace_all({self.table: self._text(all_found).encode()})
+        return sum(found.cost is not None for found in all_found)
 
     def _contents(self, found: After) -> dict[str, bytes]:
         """The plan, the table that the loss changes, and what is needed to answer in units."""

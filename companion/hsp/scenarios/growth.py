@@ -17,7 +17,7 @@ from hsp.plans.service import Row, Server, Service
 from hsp.plans.whatif import demand_times
 from hsp.scenarios.judged import Judged, side_by_side
 
-# Factors are tried in steps of a thousandth: a tenth of a percent.
+# Factors are tried in steps of a hundredth of a percent.
 STEP = 10000
 
 
@@ -37,7 +37,7 @@ class Short:
 
 @dataclass(frozen=True)
 class Growth:
-    """How far the queries of a region, or of all, can grow. A factor is a number of thousandths.
+    """How far the queries of a region, or of all, can grow. A factor is a number of steps, of which STEP are 1.
 
     Up to `fits` a plan serves them, None where none does however few they are. From `short_from` on the rows of `short`
     are short, None where no table holds so much.

@@ -16,6 +16,11 @@ from hsp.scenarios.judged import Judged, side_by_side
 DAYS = ("mon", "tue", "wed", "thu", "fri", "sat", "sun")
 
 
+def label_of(name: str) -> str:
+    """An hour by the name of its folder as people write it: `09`, or `mon 09`."""
+    return name.replace("-h", " ").removeprefix("h")
+
+
 @dataclass(frozen=True)
 class Hour:
     """An hour by the name of its folder, with the counts of its rows in units; a log's rows are not read."""
@@ -27,13 +32,19 @@ class Hour:
 
     @property
     def label(self) -> str:
-        """The hour as people write it: `09`, or `mon 09`."""
-        return self.name.replace("-h", " ").removeprefix("h")
+        """The hour as people write it."""
+        return label_of(self.name)
 
     @property
     def clock(self) -> str:
         """When it begins: `09:00`, or `mon 09:00`."""
         return f"{self.label}:00"
+
+    @property
+    def place(self) -> int:
+        """How many hours after the first one of the day, or of the week, it begins."""
+        day, hour = _order(self.name)
+        return 24 * day + int(hour)
 
     @property
     def demand(self) -> str:
@@ -149,4 +160,4 @@ def all_planned(
     return side_by_side(tasks, done)
 
 
-__all__ = ["Hour", "HourPlan", "all_planned", "names_in", "of_hour", "planned", "read_hour"]
+__all__ = ["Hour", "HourPlan", "all_planned", "label_of", "names_in", "of_hour", "planned", "read_hour"]
