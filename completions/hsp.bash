@@ -2,7 +2,7 @@
 
 _hsp_commands() {
     case $1 in
-        "") echo "demand doctor export fleet new plan sites steer view whatif where --help --version" ;;
+        "") echo "day demand doctor export fleet grow new plan sites steer survive view whatif where --help --version" ;;
         export) echo "haproxy --help" ;;
         fleet) echo "demand dispatch --help" ;;
         "doctor --") echo "locate site plan check dispatch report kinds places answer interfaces faults" ;;
@@ -11,16 +11,19 @@ _hsp_commands() {
 
 _hsp_options() {
     case $1 in
-        "demand") echo "--regions --into --output --log --format --regex --client --handle --path --from --to --busiest-hour --time --prefix --elsewhere --by --unit --settings --values --costs --help" ;;
+        "day") echo "--settings --costs --capacity --values --week --reserve --near --unit --all --output --no-save --csv --help" ;;
+        "demand") echo "--regions --into --output --log --jobs --format --regex --client --handle --path --from --to --busiest-hour --time --prefix --elsewhere --by --unit --settings --values --costs --help" ;;
         "doctor") echo "--settings --demand --costs --capacity --values --strict --json --help" ;;
         "export haproxy") echo "--settings --demand --costs --capacity --values --into --regions --elsewhere --listen --certificate --trusted --watch --socket --proxy --help" ;;
         "fleet demand") echo "--regions --into --output --keep --format --regex --client --handle --path --from --to --busiest-hour --time --prefix --elsewhere --by --unit --settings --values --costs --workers --scheduler --tls-ca --tls-cert --tls-key --installed --patience --help" ;;
         "fleet dispatch") echo "--fronts --plan --any-handle --unit --workers --scheduler --tls-ca --tls-cert --tls-key --installed --patience --help" ;;
+        "grow") echo "--settings --demand --costs --capacity --values --percent --unit --json --help" ;;
         "new") echo "--example --help" ;;
-        "plan") echo "--settings --demand --costs --capacity --values --unit --all --output --no-save --csv --json --help" ;;
+        "plan") echo "--settings --demand --costs --capacity --values --unit --reserve --near --more --all --output --no-save --csv --json --help" ;;
         "sites") echo "--into --name --capacity --help" ;;
         "steer") echo "--settings --demand --costs --capacity --values --into --every --period --metrics --once --status --help" ;;
-        "view") echo "--settings --demand --costs --capacity --values --before --unit --title --output --help" ;;
+        "survive") echo "--settings --demand --costs --capacity --values --reserve --near --buy --into --no-save --unit --all --csv --help" ;;
+        "view") echo "--settings --demand --costs --capacity --values --before --reserve --more --unit --title --output --help" ;;
         "whatif") echo "--settings --demand --costs --capacity --values --server --from --to --points --step --unit --csv --chart --help" ;;
         "where") echo "--json --help" ;;
         "doctor -- locate") echo "--option --servers --settings --values" ;;
@@ -41,10 +44,10 @@ _hsp_options() {
 _hsp_values() {
     case $1 in
         "sites --capacity") echo - ;;
-        *" --regions" | *" --output" | *" -o" | *" --log" | *" --settings" | *" --values" | *" --costs" | *" --demand" | *" --capacity" | *" --certificate" | *" --socket" | *" --tls-ca" | *" --tls-cert" | *" --tls-key" | *" --plan" | *" --metrics" | *" --chart" | *" --prices") echo -f ;;
+        *" --settings" | *" --costs" | *" --capacity" | *" --values" | *" --output" | *" -o" | *" --regions" | *" --log" | *" --demand" | *" --certificate" | *" --socket" | *" --tls-ca" | *" --tls-cert" | *" --tls-key" | *" --plan" | *" --metrics" | *" --chart" | *" --prices") echo -f ;;
+        *" --reserve" | *" --unit" | *" --jobs" | *" --regex" | *" --client" | *" --handle" | *" --path" | *" --from" | *" --to" | *" --time" | *" --prefix" | *" --elsewhere" | *" --by" | *" --listen" | *" --trusted" | *" --watch" | *" --keep" | *" --workers" | *" --scheduler" | *" --patience" | *" --fronts" | *" --percent" | *" --near" | *" --name" | *" --every" | *" --period" | *" --title" | *" --server" | *" --points" | *" --step" | *" --servers" | *" --index" | *" --front") echo - ;;
         *" --into" | *" --before") echo -d ;;
         *" --format") echo "-W auto server proxy json csv" ;;
-        *" --regex" | *" --client" | *" --handle" | *" --path" | *" --from" | *" --to" | *" --time" | *" --prefix" | *" --elsewhere" | *" --by" | *" --unit" | *" --listen" | *" --trusted" | *" --watch" | *" --keep" | *" --workers" | *" --scheduler" | *" --patience" | *" --fronts" | *" --name" | *" --every" | *" --period" | *" --title" | *" --server" | *" --points" | *" --step" | *" --servers" | *" --index" | *" --front") echo - ;;
         *" --option") echo "-W na local handle" ;;
         *" --kind") echo "-W load region shortage" ;;
     esac
@@ -53,11 +56,14 @@ _hsp_values() {
 # The words of a command that belong to no option.
 _hsp_words() {
     case $1 in
+        "day") echo -d ;;
         "doctor") echo -d ;;
         "export haproxy") echo -d ;;
+        "grow") echo -d ;;
         "new") echo -d ;;
         "plan") echo -d ;;
         "steer") echo -d ;;
+        "survive") echo -d ;;
         "view") echo -d ;;
         "whatif") echo -d ;;
         *) echo -f ;;

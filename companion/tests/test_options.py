@@ -42,7 +42,7 @@ OPTIONS = {
     "grow": {"--percent": ((10, 20, 50), 1, 100_000)},
     "survive": RESERVE,
     "day": RESERVE,
-    "demand": {**LOG, "--by": (["continent.code"], None, None)},
+    "demand": {**LOG, "--by": (["continent.code"], None, None), "--jobs": (None, 1, 64)},
     "fleet demand": {**LOG, **FLEET},
     "fleet dispatch": {"--fronts": (None, 1, 64), "--unit": (None, 1, 1_000_000), **FLEET},
 }
