@@ -348,6 +348,33 @@ def test_the_grid_has_each_hour(browser: Any, page_of_day: Path) -> None:
     assert priced == wanted > 0
 
 
+def test_each_block_is_seen_with_its_plan(browser: Any, page_of_day: Path) -> None:
+    """On a narrow window, too."""
+    for width in WIDTHS:
+        text = Page(browser, page_of_day, width, "light").text()
+        blocks = sorted((page_of_day.parent / "blocks").iterdir())
+        assert blocks and all(f"{own}/plan.txt" in re.sub(r"\s", "", text) for own in blocks)
+
+
+def test_only_what_is_shown_is_called_the_fewest(
+    browser: Any, hsp: Hsp, day: Path, monkeypatch: pytest.MonkeyPatch
+) -> None:
+    """Where an hour has more portions than a table holds, its plan is a plain one, and nothing shows the fewest."""
+    sums = "return document.getElementById('sums').innerText"
+    press = "document.querySelectorAll('#columns button')[1].click()"
+    assert "near  no" not in hsp("day", str(day), "--near").stdout
+    page = Page(browser, day / "day.html", 1200, "light")
+    page.run(press)
+    assert page.run(sums).endswith("from the hour before, the fewest.")
+    monkeypatch.setattr("hsp.scenarios.nearest.MOST_DEMAND_ROWS", 35)
+    lines = hsp("day", str(day), "--near").stdout.splitlines()
+    said = [line for line in lines if line.startswith("near  no: nothing shows the fewest moves at 01, 02, ")]
+    assert len(said) == 1 and said[0].endswith("; plain plans are there")
+    page = Page(browser, day / "day.html", 1200, "light")
+    page.run(press)
+    assert page.run(sums).endswith("from the hour before.") and "servers are full" in page.run(sums)
+
+
 def test_a_page_without_scripts_has_its_hours(browser: Any, page_of_day: Path, tmp_path: Path) -> None:
     text = re.sub(r"<script.*?</script>", "", page_of_day.read_text(encoding="utf-8"), flags=re.S)
     plain = tmp_path / "plain.html"
@@ -366,6 +393,7 @@ def test_hours_and_losses_of_a_log(hsp: Hsp, day: Path, monkeypatch: pytest.Monk
         (it["hour"], it["queries"], it["cost"]) for it in as_table
     ]
     assert (day / "h09/plan.txt").read_text().startswith("HSPLAN PRICES 1\n")
+    assert "near  no: the rows of a log have no portions" in hsp("day", str(day), "--near").stdout
     assert f"--prices {day}/h09/plan.txt" in (day / "day.html").read_text()
     for kept, own in zip(csv_rows(losses), csv_rows(hsp("survive", str(day), "--csv", "--no-save", status=3).stdout)):
         assert (kept["what"], kept["lack"], kept["cost"]) == (own["what"], own["lack"], own["cost"])

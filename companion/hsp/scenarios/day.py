@@ -68,7 +68,7 @@ def _chained(
                 own = replace(own, certificate=near.certificate, plan_file=near.plan_file)
                 loads = programs.loads(own.inputs, near.plan_file)[0]
                 plan = replace(plan, certificate=near.certificate, plan_file=near.plan_file, loads=loads)
-            plan = replace(plan, moved=moved)
+            plan = replace(plan, moved=moved, is_nearest=near is not None)
         found.append(plan)
         done()
         before = own if plan.is_plan else None
@@ -172,6 +172,8 @@ def day(folder: str, **given: Any) -> None:
         say(f"{head(found.service).partition('  ')[0]}  {_sizes(found)}")
         for line in day_lines.lines(found, given["every"]):
             say(line)
+        if given["is_near"] and service.log:
+            say("near  no: the rows of a log have no portions; each hour has its plain plan")
         if not given["no_save"]:
             say(_kept_line(found, folder, page))
         say(yes_line(programs))

@@ -104,6 +104,9 @@ def verdicts(day: Day) -> Iterator[str]:
     short = [plan.hour.label for plan in day.plans if not plan.is_plan]
     if short:
         yield f"short {some(len(short), 'hour')}: {listed(short, NAMED)}"
+    plain = [plan.hour.label for plan in day.plans if plan.moved is not None and not plan.is_nearest]
+    if plain:
+        yield f"near  no: nothing shows the fewest moves at {listed(plain, NAMED)}; plain plans are there"
     absent = _absent(day)
     if absent:
         yield f"none  {some(len(absent), 'hour has', 'hours have')} no demand: {listed(absent, NAMED)}"

@@ -78,6 +78,7 @@ def _hour(service: Service, plan: HourPlan, command: str) -> dict[str, object]:
         "lack": None if plan.is_plan else plan.lack,
         "full": len(plan.full(service)),
         "moved": plan.moved,
+        "is_nearest": plan.is_nearest,
         "loads": [own.load for own in plan.loads],
         "prices": [own.price for own in plan.loads],
         "shares": _shares(service, plan),

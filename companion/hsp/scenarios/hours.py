@@ -53,13 +53,18 @@ class Hour:
 
 @dataclass(frozen=True)
 class HourPlan:
-    """An hour's plan or shortage, its file, and what each server takes by it."""
+    """An hour's plan or shortage, its file, and what each server takes by it.
+
+    `moved` counts the queries that it moves from the hour before, where that is asked; `is_nearest` says that no
+    cheapest plan moves fewer.
+    """
 
     hour: Hour
     certificate: Certificate
     plan_file: str
     loads: list[Load]
     moved: int | None = None
+    is_nearest: bool = False
 
     @property
     def is_plan(self) -> bool:
