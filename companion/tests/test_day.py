@@ -188,10 +188,24 @@ def test_what_is_no_day(hsp: Hsp, day: Path, tmp_path: Path) -> None:
     (day / "h05/hsp.toml").write_text('[demand]\nrows = "kinds"\n')
     assert "its rows or its unit are others" in hsp("day", str(day), status=1).stderr
     (day / "h05/hsp.toml").unlink()
-    (day / "h06/demand.csv").write_text(
-        (day / "h04/demand.csv").read_text().replace("report-2024,", "report-2024,x", 1)
-    )
-    assert "hsplan refuses these files: demand: BadNumber row 0" in hsp("day", str(day), status=1).stderr
+
+
+@pytest.mark.parametrize(
+    "wrong, fault",
+    [
+        (b",x1\n", "BadNumber row 35"),
+        (b"," + b"9" * 5000 + b"\n", "BadNumber row 35"),
+        (b",1\n\xff\n", "Fields row 36"),
+        (b',1\neu,"' + b"x" * 200_000 + b'",1\n', "BadHandle row 36 TooLong"),
+    ],
+)
+def test_a_faulty_hour_is_named_with_its_fault(hsp: Hsp, day: Path, wrong: bytes, fault: str) -> None:
+    """As the doctor shows it. hsplan's line by itself has no file, and there may be 168 of them."""
+    path = day / "h06/demand.csv"
+    path.write_bytes(path.read_bytes().rpartition(b",")[0] + wrong)
+    ended = hsp("day", str(day), status=1)
+    assert f"hsplan says demand: {fault}" in ended.stderr and f" --> {path}:3" in ended.stderr
+    assert not (day / "h05/plan.txt").exists()
 
 
 def test_a_week_has_its_own_hours(hsp: Hsp, day: Path) -> None:

@@ -175,7 +175,7 @@ def test_what_had_a_server_that_is_gone_is_moved(hsp: Hsp, example: Example) -> 
 
 
 def test_a_site_that_is_gone_has_moved_its_queries(hsp: Hsp, example: Example) -> None:
-    """What yesterday's plan sent to reston is moved today, as reston is gone; nothing else is, as paris has room for all."""
+    """What yesterday's plan sent to reston is moved today, since reston is gone. Paris has room for all of it."""
     folder = example("two-sites")
     rooms = re.sub(r",(\d+)$", r",\g<1>0", (folder / "capacity.csv").read_text(), flags=re.M)
     (folder / "capacity.csv").write_text(rooms)

@@ -25,7 +25,7 @@ from hsp.scenarios.blocks import Block, fewest, is_block, price
 from hsp.scenarios.day_lines import Day
 from hsp.scenarios.day_page import command_of, render_day
 from hsp.scenarios.day_table import csv_of
-from hsp.scenarios.hours import Hour, HourPlan, all_planned, names_in, of_hour, read_hour
+from hsp.scenarios.hours import Faulty, Hour, HourPlan, all_planned, names_in, of_hour, read_hour
 from hsp.scenarios.in_force import PLAN
 from hsp.scenarios.judged import Judged, Progress, yes_line
 from hsp.scenarios.nearest import Portions, TooMany, homes_of, moved_between
@@ -39,12 +39,17 @@ SHARED = ("settings", "costs", "capacity")
 
 def _first_service(folder: str, name: str, programs: Judged, given: dict[str, str | None]) -> Service:
     """The service at its first hour: that hour's demand, with the other files of the folder."""
-    own = {role: given.get(role) or path_in(folder, NAMES[role]) for role in SHARED}
-    values = given.get("values") or (path_in(folder, VALUES) if os.path.isfile(path_in(folder, VALUES)) else None)
-    service = sound(path_in(folder, name), programs, {**own, "values": values})
+    service = _at(folder, name, programs, given)
     if not service.sites:
         raise Unfit(f"{service.inputs.settings}: no site, so nobody can answer")
     return replace(service, folder=folder, titles=titles_in(folder, None, given.get("unit")))
+
+
+def _at(folder: str, name: str, programs: Judged, given: dict[str, str | None]) -> Service:
+    """The service at an hour. Where hsplan refuses it, this prints the faults, and ends."""
+    own = {role: given.get(role) or path_in(folder, NAMES[role]) for role in SHARED}
+    values = given.get("values") or (path_in(folder, VALUES) if os.path.isfile(path_in(folder, VALUES)) else None)
+    return sound(path_in(folder, name), programs, {**own, "values": values})
 
 
 def _chained(
@@ -161,9 +166,13 @@ def day(folder: str, **given: Any) -> None:
     if not given["no_save"]:
         _refuse_links(folder, names)
     service = _first_service(folder, names[0], programs, given)
-    hours = [read_hour(service, path_in(folder, name), name) for name in names]
-    _refuse_clashes(service, hours, [page])
-    found = _day(reserved(service, given["reserve"], programs), hours, given["is_near"], programs)
+    try:
+        hours = [read_hour(service, path_in(folder, name), name) for name in names]
+        _refuse_clashes(service, hours, [page])
+        found = _day(reserved(service, given["reserve"], programs), hours, given["is_near"], programs)
+    except Faulty as fault:
+        own = _at(folder, fault.name, programs, given)
+        raise Unfit(f"{own.inputs.demand}: hsplan refused it") from None
     if not given["no_save"]:
         _save(found, folder, page, programs)
     if given["as_csv"]:

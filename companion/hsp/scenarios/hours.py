@@ -2,18 +2,27 @@
 
 from __future__ import annotations
 
+import csv
 import os
 from collections.abc import Callable, Sequence
 from dataclasses import dataclass, replace
 
 from hsp.base.paths import path_in
-from hsp.base.programs import Certificate, Load, Missing
+from hsp.base.programs import Certificate, Load, Missing, Refused
 from hsp.base.unfit import Unfit
 from hsp.plans.marks import mark_in
 from hsp.plans.service import NAMES, OF_DAY, OF_WEEK, Row, Service, table
 from hsp.scenarios.judged import Judged, side_by_side
 
 DAYS = ("mon", "tue", "wed", "thu", "fri", "sat", "sun")
+
+
+class Faulty(Exception):
+    """An hour whose files hsplan refuses, by the name of its folder."""
+
+    def __init__(self, name: str) -> None:
+        super().__init__(name)
+        self.name = name
 
 
 def label_of(name: str) -> str:
@@ -121,12 +130,15 @@ def _same_mark(first: Service, folder: str) -> None:
 
 
 def read_hour(first: Service, folder: str, name: str) -> Hour:
-    """An hour whose rows are those of the first one."""
+    """An hour whose rows are those of the first one. Faulty where its demand is no table."""
     _same_mark(first, folder)
     path = path_in(folder, NAMES["demand"])
     if first.log:
         return Hour(name, folder, 0, [])
-    rows = table(path)
+    try:
+        rows = table(path)
+    except (ValueError, csv.Error):
+        raise Faulty(name) from None
     if len(rows) != len(first.rows) or any(
         len(row) != 3 or row[0] != own.region or row[1] != own.handle for row, own in zip(rows, first.rows)
     ):
@@ -134,7 +146,10 @@ def read_hour(first: Service, folder: str, name: str) -> Hour:
             f"{path}: its rows are others than those of {first.inputs.demand}; all hours have the same rows, with a "
             "count of 0 where nothing is asked for: hsp demand --by hour writes them so"
         )
-    counts = [int(count) if count.isascii() and count.isdigit() else 0 for *_, count in rows]
+    try:
+        counts = [int(count) for *_, count in rows]
+    except ValueError:
+        raise Faulty(name) from None
     return Hour(name, folder, first.unit * sum(counts), counts)
 
 
@@ -145,9 +160,12 @@ def of_hour(service: Service, hour: Hour) -> Service:
 
 
 def planned(service: Service, hour: Hour, programs: Judged) -> HourPlan:
-    """The plan of an hour."""
+    """The plan of an hour. Faulty where hsplan refuses it."""
     inputs = service.inputs.but(demand=hour.demand)
-    certificate, path = programs.plan(inputs)
+    try:
+        certificate, path = programs.plan(inputs)
+    except Refused:
+        raise Faulty(hour.name) from None
     loads = programs.loads(inputs, path)[0] if certificate.is_plan else []
     if service.log:
         regions = programs.regions(inputs, path) if certificate.is_plan else {}
@@ -165,4 +183,4 @@ def all_planned(
     return side_by_side(tasks, done)
 
 
-__all__ = ["Hour", "HourPlan", "all_planned", "label_of", "names_in", "of_hour", "planned", "read_hour"]
+__all__ = ["Faulty", "Hour", "HourPlan", "all_planned", "label_of", "names_in", "of_hour", "planned", "read_hour"]

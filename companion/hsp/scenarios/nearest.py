@@ -113,7 +113,7 @@ def portions_of(service: Service, homes: Homes, by_kind: bool) -> list[Portion]:
 
 
 def gone_of(service: Service, homes: Homes, by_kind: bool) -> int:
-    """How many queries of the plan in force, in the present counts, had a server that is gone. Every plan moves them."""
+    """How many queries of the plan in force, in the present counts, had a server that is gone. They have to move."""
     return service.unit * sum(own.get(None, 0) for own in _shares(service, homes, by_kind))
 
 
