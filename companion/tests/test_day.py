@@ -198,6 +198,7 @@ def test_what_is_no_day(hsp: Hsp, day: Path, tmp_path: Path) -> None:
         (b",1\n\xff\n", "Fields row 36"),
         (b',1\neu,"' + b"x" * 200_000 + b'",1\n', "BadHandle row 36 TooLong"),
     ],
+    ids=["letters", "digits", "octets", "field"],
 )
 def test_a_faulty_hour_is_named_with_its_fault(hsp: Hsp, day: Path, wrong: bytes, fault: str) -> None:
     """As the doctor shows it. hsplan's line by itself has no file, and there may be 168 of them."""
