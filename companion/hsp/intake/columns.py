@@ -27,13 +27,17 @@ class Columns(NamedTuple):
 
 
 class _Fields:
-    """The fields of lines between two signs, as many in each line. Each first one has a line end before it."""
+    """The fields of so many lines between two signs, as many in each line. Each first one has a line end before it.
 
-    def __init__(self, text: bytes, sign: bytes) -> None:
-        self._sign, self.number = sign, text.count(b"\n")
+    A line end stands at the beginning of a field. So where the first fields have as many as there are, each has one.
+    """
+
+    def __init__(self, text: bytes, number: int, sign: bytes) -> None:
+        self._sign, self.number = sign, number
         self.width = text.count(sign, 0, text.find(b"\n")) + 1
         self._all = (b"\n" + text[:-1]).replace(b"\n", sign + b"\n").split(sign)
-        self.are_alike = len(self._all) == self.width * self.number + 1 and self.all_begin(0, b"\n")
+        self.first = self._joined(0)
+        self.are_alike = len(self._all) == self.width * number + 1 and self.first.count(b"\n") == number
 
     def column(self, at: int) -> list[bytes]:
         return self._all[1 + at :: self.width]
@@ -49,10 +53,10 @@ class _Fields:
         return self._sign.join([b"", *self.column(at), b""])
 
 
-def of_proxy(text: bytes, is_timed: bool) -> Columns | None:
+def of_proxy(text: bytes, number: int, is_timed: bool) -> Columns | None:
     """Of the common or the combined log of an HTTP server."""
-    fields = _Fields(text, b'"')
-    if not fields.are_alike or fields.width < PROXY_WIDTH or not fields.all_end(0, b"] "):
+    fields = _Fields(text, number, b'"')
+    if not fields.are_alike or fields.width < PROXY_WIDTH or fields.first.count(b'] "') != number:
         return None
     heads, asked = fields.column(0), fields.column(1)
     if not is_timed:
@@ -61,15 +65,15 @@ def of_proxy(text: bytes, is_timed: bool) -> Columns | None:
     return Columns([part[0] for part in parts], asked, [part[2] for part in parts])
 
 
-def of_server(text: bytes, is_timed: bool) -> Columns | None:
+def of_server(text: bytes, number: int, is_timed: bool) -> Columns | None:
     """Of a handle server's own log."""
-    fields = _Fields(text, b" ")
+    fields = _Fields(text, number, b" ")
     if not fields.are_alike or fields.width != SERVER_WIDTH:
         return None
     is_form = fields.all_begin(2, b'"') and fields.all_end(3, b'"') and fields.all_end(6, b"ms")
     operations, handles = fields.column(4), fields.column(7)
     kinds = set(operations)
-    if not is_form or not all(map(bytes.isdigit, kinds)) or is_timed and text.count(b'"') != 2 * fields.number:
+    if not is_form or not all(map(bytes.isdigit, kinds)) or is_timed and text.count(b'"') != 2 * number:
         return None
     asked: Sequence[bytes | str] = handles
     if kinds != {RESOLUTION}:
@@ -88,10 +92,10 @@ def _of_quoted(octets: bytes) -> Time | None:
 
 
 class Usual(NamedTuple):
-    """A usual form: the sign between its fields, its columns, and how a time is read of them."""
+    """A usual form: the sign between its fields, the columns of so many lines, and how a time is read of them."""
 
     sign: bytes
-    columns: Callable[[bytes, bool], Columns | None]
+    columns: Callable[[bytes, int, bool], Columns | None]
     time: Callable[[bytes], Time | None]
 
 

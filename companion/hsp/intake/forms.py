@@ -44,15 +44,15 @@ class Odd(Exception):
     """A line that isn't of the form."""
 
 
-class Remembered(dict[bytes, "bytes | str"]):
-    """What a function gives for octets, asked once while it is remembered."""
+class Remembered(dict["bytes | str", "bytes | str"]):
+    """What a function gives for octets, asked once while it is remembered. A reason stays what it is."""
 
     def __init__(self, function: Callable[[bytes], bytes | str]) -> None:
         super().__init__()
         self._function, self._octets = function, 0
 
-    def __missing__(self, key: bytes) -> bytes | str:
-        found = self._function(key)
+    def __missing__(self, key: bytes | str) -> bytes | str:
+        found = self._function(key) if isinstance(key, bytes) else key
         if self._octets > MOST_REMEMBERED:
             self.clear()
             self._octets = 0

@@ -121,10 +121,11 @@ class Piece(NamedTuple):
 
 
 class Lines(NamedTuple):
-    """Whole lines, each with its end, and the number of the first one."""
+    """Whole lines, each with its end; the number of the first one, and how many they are."""
 
     number: int
     text: bytes
+    total: int
 
 
 def pieces_of(path: str) -> list[Piece]:
@@ -209,15 +210,16 @@ def lines_of(piece: Piece, skip: Skip, watch: Watch = unwatched) -> Iterator[Lin
         whole = text.rfind(b"\n") + 1
         rest = text[whole:]
         for part in _parts(text, whole):
-            yield Lines(numbers[0], _tidy(part, numbers[0], skip))
-            numbers[0] += part.count(b"\n")
+            count = part.count(b"\n")
+            yield Lines(numbers[0], _tidy(part, numbers[0], skip), count)
+            numbers[0] += count
         if len(rest) > LONGEST:
             skip(TOO_LONG, numbers[0], rest[:99])
             rest, is_long = b"", True
     if rest:
-        yield Lines(numbers[0], _tidy(rest + b"\n", numbers[0], skip))
+        yield Lines(numbers[0], _tidy(rest + b"\n", numbers[0], skip), 1)
         numbers[0] += 1
-    yield Lines(numbers[0], b"")
+    yield Lines(numbers[0], b"", 0)
 
 
 def _parts(text: bytes, whole: int) -> Iterator[bytes]:
@@ -256,7 +258,7 @@ def numbered(path: str, skipped: Skipped) -> Iterator[tuple[int, bytes]]:
 
 def nonempty(blocks: Iterable[Lines]) -> Iterator[tuple[int, bytes]]:
     """The lines of blocks that aren't empty, with their numbers."""
-    for number, text in blocks:
+    for number, text, _ in blocks:
         for at, line in enumerate(text.split(b"\n"), number):
             if line:
                 yield at, line

@@ -67,7 +67,7 @@ class Handles(Remembered):
         # Of those that were judged and are remembered, the ones that are none, with the reason.
         self._faults: dict[bytes, str] = {}
 
-    def __missing__(self, key: bytes) -> bytes | str:
+    def __missing__(self, key: bytes | str) -> bytes | str:
         found = super().__missing__(key)
         if isinstance(found, bytes):
             self.fresh.add(found)

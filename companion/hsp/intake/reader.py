@@ -70,6 +70,7 @@ class Looked(NamedTuple):
     lines: Lines
     regions: Sequence[Region]
     handles: Sequence[Handle]
+    has_reasons: bool = True
 
 
 def _has_reason(fields: Iterable[bytes | str]) -> bool:
@@ -111,7 +112,7 @@ class Reader:
     def look(self, lines: Lines) -> Looked:
         if not self._usual:
             return Looked(lines, *self._one_by_one(lines.text.split(b"\n")[:-1]))
-        columns = self._usual.columns(lines.text, self._clock is not None)
+        columns = self._usual.columns(lines.text, lines.total, self._clock is not None)
         return self._resolved(lines, *self._of_columns(columns)) if columns else self._of_most(lines)
 
     def _of_most(self, lines: Lines) -> Looked:
@@ -123,7 +124,7 @@ class Reader:
         most = Counter(signs).most_common(1)[0][0]
         alike = [number == most for number in signs]
         text = b"\n".join(itertools.compress(texts, alike)) + b"\n"
-        columns = None if all(alike) else self._usual.columns(text, self._clock is not None)
+        columns = None if all(alike) else self._usual.columns(text, sum(alike), self._clock is not None)
         if not columns:
             return Looked(lines, *self._one_by_one(texts))
         own = zip(*self._of_columns(columns))
@@ -134,22 +135,19 @@ class Reader:
         asked, tags = columns.asked, list(map(self._tags.__getitem__, columns.times))
         if _has_reason(tags):
             asked = [own if tag.__class__ is bytes else tag for own, tag in zip(asked, tags)]
-        if _has_reason(asked):
-            remembered = self.handles
-            handles = [own if isinstance(own, str) else remembered[own] for own in asked]
-        else:
-            handles = list(map(self.handles.__getitem__, asked))  # type: ignore[arg-type]
+        handles = list(map(self.handles.__getitem__, asked))
         regions = list(map(self._regions.__getitem__, columns.addresses))
         return ([self._with_tag(*own) for own in zip(tags, regions)] if tags else regions), handles
 
     def _resolved(self, lines: Lines, regions: list[Region], handles: list[Handle]) -> Looked:
         """Has lines looked at by themselves that have to be."""
-        if _has_reason(handles) or _has_reason(regions):
-            own = enumerate(zip(regions, handles))
-            alone = [at for at, (a, b) in own if b is ALONE or a is ALONE and b.__class__ is bytes]
-            texts = lines.text.split(b"\n") if alone else []
-            for at in alone:
-                regions[at], handles[at] = self._by_itself(texts[at])
+        if not _has_reason(handles) and not _has_reason(regions):
+            return Looked(lines, regions, handles, False)
+        own = enumerate(zip(regions, handles))
+        alone = [at for at, (a, b) in own if b is ALONE or a is ALONE and b.__class__ is bytes]
+        texts = lines.text.split(b"\n") if alone else []
+        for at in alone:
+            regions[at], handles[at] = self._by_itself(texts[at])
         return Looked(lines, regions, handles)
 
     def _one_by_one(self, texts: list[bytes]) -> tuple[list[Region], list[Handle]]:
@@ -237,7 +235,7 @@ class _Counting:
         return Reader(self._reading, form, take, clock), form.name == "csv" and not form.pattern
 
     def _look(self, reader: Reader, lines: Lines) -> None:
-        self._part.numbers = lines.number + lines.text.count(b"\n") - 1
+        self._part.numbers = lines.number + lines.total - 1
         if lines.text:
             self._waiting.append(reader.look(lines))
             self._octets += len(lines.text)
@@ -254,8 +252,8 @@ class _Counting:
         self._waiting, self._octets = [], 0
 
     def _count(self, looked: Looked, faults: dict[bytes, str]) -> None:
-        _, regions, handles = looked
-        if _has_reason(handles) or _has_reason(regions) or not faults.keys().isdisjoint(handles):
+        _, regions, handles, has_reasons = looked
+        if has_reasons or faults and not faults.keys().isdisjoint(handles):
             regions, handles = self._queries(looked, faults)
         self._part.lines += len(regions)
         own = itertools.repeat(b"") if self._reading.are_tags else handles
@@ -313,10 +311,10 @@ def _first_blocks(blocks: Iterator[Lines]) -> Iterator[Lines]:
 def _without_header(blocks: list[Lines]) -> list[Lines]:
     """Blocks whose first line that isn't empty is an empty one."""
     at = next(at for at, lines in enumerate(blocks) if lines.text.strip(b"\n"))
-    number, text = blocks[at]
+    number, text, total = blocks[at]
     bare = text.lstrip(b"\n")
     above = len(text) - len(bare)
-    return [*blocks[:at], Lines(number, text[:above] + bare[bare.index(b"\n") :]), *blocks[at + 1 :]]
+    return [*blocks[:at], Lines(number, text[:above] + bare[bare.index(b"\n") :], total), *blocks[at + 1 :]]
 
 
 def parts(piece: Piece, reading: Reading, keeps: bool = False) -> Iterator[Part]:
