@@ -114,6 +114,17 @@ def test_what_has_no_end_and_what_has_no_begin(hsp: Hsp, tmp_path: Path) -> None
     assert lines[4].endswith("y  short whatever it asks")
 
 
+def test_what_rounding_adds_is_said(hsp: Hsp, tmp_path: Path) -> None:
+    """By hand: three rows of 1 ask for 6 at 10% more, and rows of 100 and 200 for 330."""
+    folder = one_site(tmp_path / "few", [("x", f"20.1/{at}", 1) for at in range(3)], [5])
+    line = next(it for it in hsp("grow", str(folder), "--percent", "10").stdout.splitlines() if it.startswith("buy"))
+    assert line.startswith("buy   +10%  6 queries, as each row is rounded up: room for 1 query more, the least")
+    assert json.loads(hsp("grow", str(folder), "--json").stdout)["purchases"][0]["queries"] == 6
+    folder = one_site(tmp_path / "many", [("x", "20.1/0", 100), ("x", "20.1/1", 200)], [1000])
+    assert "buy   +10%  no room; " in hsp("grow", str(folder), "--percent", "10").stdout
+    assert json.loads(hsp("grow", str(folder), "--json").stdout)["purchases"][0]["queries"] == 330
+
+
 def test_nothing_asked_is_refused(hsp: Hsp, tmp_path: Path) -> None:
     folder = one_site(tmp_path / "none", [("x", "20.1/0", 0)], [5])
     last = hsp("grow", str(folder), status=1).stderr.splitlines()[-1]
@@ -129,6 +140,7 @@ def test_json_has_the_same(hsp: Hsp, example: Example) -> None:
     assert found["purchases"] == [
         {
             "percent": 20,
+            "queries": 7_553,
             "lack": 163,
             "cost": 407_143,
             "least_purchase": [{"site": "reston", "server_id": 2, "more": 163}],
@@ -161,10 +173,10 @@ def test_more_growth_lacks_no_less() -> None:
     from hsp.scenarios.growth import Purchase, at_least
 
     known = [
-        Purchase(10, 9, None, None),
-        Purchase(20, 4, None, None),
-        Purchase(30, 0, {}, 5),
-        Purchase(50, 12, None, None),
+        Purchase(10, 11, 9, None, None),
+        Purchase(20, 12, 4, None, None),
+        Purchase(30, 13, 0, {}, 5),
+        Purchase(50, 15, 12, None, None),
     ]
     assert [it.lack for it in at_least(known)] == [9, 9, 0, 12]
 

@@ -136,6 +136,16 @@ def test_a_wrong_certificate_is_no_plan_in_force(
         in_force(str(folder / "old.txt"), service, Judged())
 
 
+def test_a_fault_beside_the_plan_in_force_is_said_to_be_there(hsp: Hsp, example: Example) -> None:
+    folder = example("two-sites")
+    hsp("plan", str(folder))
+    old = Path(shutil.copytree(folder, folder.parent / "old"))
+    (old / "demand.csv").write_text("region,handle,count\neu,20.1/x,many\n")
+    ended = hsp("plan", str(folder), "--near", str(old), status=1)
+    why = "hsplan refuses the files beside it: demand: BadNumber row 0"
+    assert ended.stderr == f"hsp: {old}/plan.txt: {why}\n"
+
+
 def test_an_absent_certificate_is_named(hsp: Hsp, example: Example) -> None:
     folder = example("two-sites")
     ended = hsp("plan", str(folder), "--near", str(folder / "absent.txt"), status=5)

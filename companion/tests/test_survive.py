@@ -305,6 +305,16 @@ def test_a_plan_less_a_reserve_is_no_old_plan(hsp: Hsp, example: Example) -> Non
     assert "the plan isn't one of these files" in hsp("doctor", str(folder)).stdout
 
 
+def test_what_is_kept_back_is_said_exactly(hsp: Hsp, example: Example) -> None:
+    """Not as 100% or 12.3457%."""
+    folder = example("two-sites")
+    for part in ("99.9999999", "12.3456789", "0.000000001", "2.5", "10"):
+        words = ("plan", str(folder), "--reserve", part, "--no-save")
+        assert f", {part}% of each capacity kept back" in hsp(*words, status=3 if float(part) > 50 else 0).stdout
+    lines = hsp("plan", str(folder), "--reserve", "1.2345678").stdout
+    assert "the capacities less 1.2345678%, rounded down" in lines
+
+
 def test_many_losses_are_announced(hsp: Hsp, tmp_path: Path, monkeypatch: pytest.MonkeyPatch) -> None:
     monkeypatch.setattr("hsp.scenarios.command.MANY", 2)
     monkeypatch.setattr("hsp.scenarios.judged.SAID", 0)

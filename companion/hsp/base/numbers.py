@@ -3,6 +3,7 @@
 from __future__ import annotations
 
 from collections.abc import Iterable
+from fractions import Fraction
 
 MINUS = "\u2212"
 
@@ -26,6 +27,11 @@ def percent(part: int, whole: int) -> str:
         return "100%"
     share = 100 * part / whole
     return "<1%" if share < 1 else ">99%" if share > 99 else f"{round(share)}%"
+
+
+def percent_exactly(share: Fraction) -> str:
+    """A share that somebody gave in percent, with all of up to nine digits behind the point."""
+    return f"{float(100 * share):.9f}".rstrip("0").rstrip(".") + "%"
 
 
 def part(share: float) -> str:

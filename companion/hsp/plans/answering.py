@@ -6,6 +6,7 @@ import os
 import shlex
 from dataclasses import replace
 
+from hsp.base.numbers import percent_exactly
 from hsp.base.paths import named, path_in
 from hsp.base.programs import Inputs, Programs
 from hsp.plans.service import Service, newer_than
@@ -67,7 +68,7 @@ def answer_lines(service: Service, inputs: Inputs, plan: str) -> list[str]:
         files = [inputs.capacity] + ([inputs.settings] if inputs.settings != own.settings else [])
         what = "capacities" + (" and limits" if len(files) > 1 else "")
         how = [f"in units of {service.unit:,} queries"] if service.unit > 1 else []
-        how += [f"less {float(100 * service.reserve):g}%"] if service.reserve else []
+        how += [f"less {percent_exactly(service.reserve)}"] if service.reserve else []
         head = "units" if service.unit > 1 else "less"
         lines.append(f"{head} {' and '.join(files)}: the {what} {' and '.join(how)}, rounded down")
     return [*lines, f"answer {answer_command(inputs, plan, service.unit)}"]

@@ -16,7 +16,7 @@ from fractions import Fraction
 from typing import Any
 
 from hsp.base.bounds import whole
-from hsp.base.numbers import part, some
+from hsp.base.numbers import part, percent_exactly, some
 from hsp.base.paths import path_in
 from hsp.base.programs import BOUNDLESS, Certificate, Inputs, Missing, Programs, Refused, table_text
 from hsp.base.text import escaped
@@ -109,7 +109,7 @@ class Service:
     @property
     def kept_back(self) -> str:
         """What is kept back, in words."""
-        return f"{float(100 * self.reserve):g}% of each capacity kept back" if self.reserve else ""
+        return f"{percent_exactly(self.reserve)} of each capacity kept back" if self.reserve else ""
 
     @property
     def unit(self) -> int:

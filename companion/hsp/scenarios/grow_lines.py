@@ -12,6 +12,8 @@ from hsp.scenarios.growth import STEP, Growth, Purchase, Short, percent_of
 
 # So many servers, or handles, are named in a line.
 NAMED = 5
+# What rounding adds to the queries is said where it is more than this part of them.
+MUCH_ADDED = 0.01
 
 
 def who(service: Service, short: Short) -> str:
@@ -77,7 +79,7 @@ def lines(service: Service, all_growths: Sequence[Growth], purchases: Sequence[P
 
 
 def _need(service: Service, purchase: Purchase) -> str:
-    head = f"{colored(f'+{purchase.percent}%', 'yellow')}  "
+    head = f"{colored(f'+{purchase.percent}%', 'yellow')}  {_rounded(service, purchase)}"
     cost = f"the cost is then {purchase.cost or 0:,}{' ' if service.titles.cost else ''}{service.titles.cost}"
     if purchase.is_beyond:
         return f"{head}more than a demand can count"
@@ -88,6 +90,14 @@ def _need(service: Service, purchase: Purchase) -> str:
     names = ranked(purchase.bought)
     size = sum(purchase.bought.values())
     return f"{head}room for {queries_of(size)} more, the least that suffices: {names}; {cost}"
+
+
+def _rounded(service: Service, purchase: Purchase) -> str:
+    """How many queries a growth is, where each row rounded up makes it a greater one."""
+    wanted = service.asked * (100 + purchase.percent) / 100
+    if purchase.asked <= (1 + MUCH_ADDED) * wanted:
+        return ""
+    return f"{queries_of(purchase.asked)}, as each row is rounded up: "
 
 
 def ranked(bought: dict[Server, int]) -> str:
@@ -119,6 +129,7 @@ def json_of(service: Service, all_growths: Sequence[Growth], purchases: Sequence
     needs = [
         {
             "percent": purchase.percent,
+            "queries": purchase.asked,
             "lack": purchase.lack,
             "cost": purchase.cost,
             "least_purchase": None

@@ -52,9 +52,10 @@ class Growth:
 @dataclass(frozen=True)
 class Purchase:
     """What so many percent more need: a least purchase, None where only the lack of a short set is known, or where the
-    counts are beyond what a demand can hold."""
+    counts are beyond what a demand can hold. `asked` are the queries, each row rounded up."""
 
     percent: int
+    asked: int
     lack: int
     bought: dict[Server, int] | None
     cost: int | None
@@ -167,16 +168,24 @@ class Growing:
     def purchase(self, percent: int) -> Purchase:
         """The least purchase for so many percent more."""
         factor = STEP * (100 + percent) // 100
+        asked = self._asked(Fraction(factor, STEP))
         if factor > self.most():
-            return Purchase(percent, 0, None, None, is_beyond=True)
+            return Purchase(percent, asked, 0, None, None, is_beyond=True)
         grown = self.planned(factor)
         certificate: Certificate = grown.certificate
         if certificate.is_plan:
-            return Purchase(percent, 0, {}, certificate.cost)
+            return Purchase(percent, asked, 0, {}, certificate.cost)
         lack = certificate.demand - certificate.capacity
         bought = least_purchase(grown, self._programs)
         after = with_purchase(grown, self._programs, bought) if bought else None
-        return Purchase(percent, lack, bought if after else None, after.certificate.cost if after else None)
+        return Purchase(percent, asked, lack, bought if after else None, after.certificate.cost if after else None)
+
+    def _asked(self, factor: Fraction) -> int:
+        """The queries of all rows times a factor, each rounded up as in its table; those of a log all together."""
+        service = self._service
+        if service.log:
+            return times(service.asked, factor)
+        return service.unit * sum(times(row.count // service.unit, factor) for row in service.rows)
 
 
 def at_least(purchases: Sequence[Purchase]) -> list[Purchase]:

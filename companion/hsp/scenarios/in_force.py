@@ -9,7 +9,7 @@ from dataclasses import dataclass, replace
 from hsp.base.bounds import whole
 from hsp.base.numbers import some
 from hsp.base.paths import path_in
-from hsp.base.programs import Certificate, Missing, Programs
+from hsp.base.programs import Certificate, Missing, Programs, Refused
 from hsp.base.unfit import Unfit
 from hsp.plans.marks import TITLES, mark_in
 from hsp.plans.service import NAMES, VALUES, Service, service_of
@@ -82,7 +82,10 @@ def _beside(path: str, now: Service, programs: Programs) -> Service:
     if "demand" in there and os.path.isfile(path_in(folder, TITLES)):
         mark = mark_in(folder)
     inputs = replace(now.inputs, **there, unit=mark.unit, is_log=False)
-    return service_of(folder, programs, inputs, now.titles, mark)
+    try:
+        return service_of(folder, programs, inputs, now.titles, mark)
+    except Refused as fault:
+        raise Unfit(f"{path}: hsplan refuses the files beside it: {fault.line}") from None
 
 
 def in_force(words: str, now: Service, programs: Programs) -> InForce:
