@@ -18,6 +18,7 @@ from hsp.scenarios.judged import Judged
 from hsp.scenarios.nearest import Portions, TooMany, homes_of, moved_between, portions_of, shared
 
 from conftest import Hsp
+from lib import examples
 from scenarios import Example, Flows, demand_of, drawn_service
 
 
@@ -102,6 +103,7 @@ def test_what_is_kept_shows_both(hsp: Hsp, twelve: Path, tmp_path: Path) -> None
     "wrong, why",
     [
         (("row 35 ", "server 35 "), "a plan of 35 rows"),
+        (("server 4 ", "host 4 "), "a plan of 4 servers"),
         (("use 0 0 475\n", "use 1 0 475\n"), "another demand"),
         (("use 0 0 475\n", "use 99 0 475\n"), "other files"),
         (("use 0 0 475\n", "use 0 2 475\n"), "other files"),
@@ -202,6 +204,58 @@ def test_a_site_that_is_gone_has_moved_its_queries(hsp: Hsp, example: Example) -
     share = f"{of_reston:,} ({100 * of_reston / 6_282:.0f}%)"
     assert f"near  moves {share} of 6,282 queries from {old}/plan.txt, the fewest of all cheapest plans" in printed
     assert f"plain {share}" in printed
+
+
+@pytest.fixture
+def kinds(hsp: Hsp, example: Example) -> Path:
+    """A plan whose rows are kinds, and much room."""
+    folder = example("two-sites")
+    (folder / "hsp.toml").write_text('[demand]\nrows = "kinds"\n')
+    rooms = re.sub(r",(\d+)$", r",\g<1>0", (folder / "capacity.csv").read_text(), flags=re.M)
+    (folder / "capacity.csv").write_text(rooms)
+    hsp("plan", str(folder))
+    return folder
+
+
+def with_site(folder: Path, name: str, addresses: list[str], first: bool = False) -> None:
+    """Puts a site beside the others, or before them. Nothing costs anything there, and there is room for all."""
+    octets, own = (folder / "settings.toml").read_bytes(), examples.site_octets(name, 1, addresses)
+    added = examples.settings_text([(name, own)])
+    (folder / "settings.toml").write_bytes(added + octets if first else octets + added)
+    with (folder / "costs.csv").open("a") as file:
+        file.writelines(f"{region},{name},0\n" for region in ("eu", "us", "asia"))
+    with (folder / "capacity.csv").open("a") as file:
+        file.writelines(f"{name},{at + 1},10000\n" for at in range(len(addresses)))
+
+
+def test_kinds_are_told_apart_by_the_sites_of_both(hsp: Hsp, kinds: Path) -> None:
+    """A new site parts the kinds anew. All that goes there has moved."""
+    old = Path(shutil.copytree(kinds, kinds.parent / "old"))
+    assert "near  moves 0 (0%) of 6,282 queries" in hsp("plan", str(kinds), "--near", str(old)).stdout
+    with_site(kinds, "lima", ["203.0.113.1", "203.0.113.2"])
+    printed = hsp("plan", str(kinds), "--near", str(old)).stdout
+    assert "near  moves 6,282 (100%) of 6,282 queries" in printed and "plain 6,282 (100%)" in printed
+    assert "near  moves 6,282 (100%) of 6,282" in hsp("plan", str(old), "--near", str(kinds)).stdout
+
+
+def test_kinds_of_a_site_with_other_servers_are_no_old_plan(hsp: Hsp, kinds: Path) -> None:
+    old = Path(shutil.copytree(kinds, kinds.parent / "old"))
+    with_site(old, "lima", ["203.0.113.1"])
+    hsp("plan", str(old))
+    with_site(kinds, "lima", ["203.0.113.1", "203.0.113.2"])
+    ended = hsp("plan", str(kinds), "--near", str(old), status=1)
+    why = "its rows are kinds, and lima has other servers now, so nobody knows what moves"
+    assert ended.stderr == f"hsp: {old}/plan.txt: {why}\n"
+
+
+def test_a_plan_of_other_settings_is_no_plan_in_force(hsp: Hsp, example: Example) -> None:
+    """Its sites have other numbers, since a site stands before them."""
+    folder = example("two-sites")
+    hsp("plan", str(folder))
+    with_site(folder, "lima", ["203.0.113.1"], first=True)
+    assert "since the plan before" not in hsp("plan", str(folder), "--more", "--no-save").stdout
+    ended = hsp("plan", str(folder), "--near", str(folder), status=1)
+    assert f"{folder}/plan.txt: a plan of 5 servers, and {folder}/settings.toml has 6 servers" in ended.stderr
 
 
 def test_json_has_what_moves_and_what_lies_ahead(hsp: Hsp, example: Example) -> None:

@@ -4,6 +4,7 @@ from __future__ import annotations
 
 import os
 import re
+from collections.abc import Callable
 from dataclasses import dataclass, replace
 
 from hsp.base.bounds import whole
@@ -12,8 +13,8 @@ from hsp.base.paths import path_in
 from hsp.base.programs import Certificate, Missing, Programs, Refused
 from hsp.base.unfit import Unfit
 from hsp.plans.marks import TITLES, mark_in
-from hsp.plans.service import NAMES, VALUES, Service, service_of
-from hsp.scenarios.nearest import PRICED, Homes, homes_of
+from hsp.plans.service import NAMES, VALUES, Row, Service, service_of
+from hsp.scenarios.nearest import PRICED, Homes, Key, homes_by, homes_of, keys_of
 
 PLAN = "plan.txt"
 BY_PRICES = "HSPLAN PRICES 1\n"
@@ -54,20 +55,21 @@ def text_of(path: str) -> str:
 
 
 def _of_rows(service: Service, text: str, path: str) -> Certificate:
-    """The certificate, where its uses are those of the service's rows."""
-    remedy = "keep a plan in one folder with the demand for which it was made"
-    certificate = Certificate(text, service.unit)
-    numbers = len(certificate.prices("row"))
-    if numbers != len(service.rows):
-        own = some(len(service.rows), "row")
-        raise Unfit(f"{path}: a plan of {some(numbers, 'row')}, and {service.inputs.demand} has {own}; {remedy}")
+    """The certificate, where its uses are those of the service's rows, and its servers as many as the service has."""
+    remedy = "keep a plan in one folder with the demand and the settings for which it was made"
+    certificate, inputs = Certificate(text, service.unit), service.inputs
+    counted = (("row", len(service.rows), inputs.demand), ("server", len(service.servers), inputs.settings))
+    for word, own, file in counted:
+        number = len(certificate.prices(word))
+        if number != own:
+            raise Unfit(f"{path}: a plan of {some(number, word)}, and {file} has {some(own, word)}; {remedy}")
     sums = [0] * len(service.rows)
     for row, site, queries in certificate.uses:
         if row >= len(sums) or site >= len(service.sites):
             raise Unfit(f"{path}: a plan of other files than those beside it; {remedy}")
         sums[row] += queries
     if sums != [row.count for row in service.rows]:
-        raise Unfit(f"{path}: a plan of another demand than {service.inputs.demand}; {remedy}")
+        raise Unfit(f"{path}: a plan of another demand than {inputs.demand}; {remedy}")
     return certificate
 
 
@@ -95,7 +97,45 @@ def in_force(words: str, now: Service, programs: Programs) -> InForce:
     old = _beside(path, now, programs)
     certificate = _of_rows(old, text, path)
     by_kind = old.mark.is_joined or now.mark.is_joined
-    return InForce(path, homes_of(old, certificate, by_kind), by_kind)
+    homes = _homes_by_kind(old, certificate, now, path) if by_kind else homes_of(old, certificate, by_kind)
+    return InForce(path, homes, by_kind)
+
+
+def _homes_by_kind(old: Service, certificate: Certificate, now: Service, path: str) -> Homes:
+    """Where a plan in force has the queries of today's kinds.
+
+    The kinds of two tables are of the sites that their regions may use, which may have changed. So rows are told apart
+    by the sites that a region may use in both, and have their part of all that goes together there.
+    """
+    _refuse_changed_sites(old, now, path)
+    before, after = _names_for(old), _names_for(now)
+    common = {region: [name for name in names if name in after.get(region, [])] for region, names in before.items()}
+
+    def told_apart(service: Service) -> Callable[[Row], Key]:
+        numbers = {site.name: at for at, site in enumerate(service.sites)}
+
+        def key_of(row: Row) -> Key:
+            servers = (service.server(numbers[name], row.handle) for name in common.get(row.region, []))
+            return row.region, tuple((server.site, server.id) for server in servers)
+
+        return key_of
+
+    homes, own, key_of = homes_by(old, certificate, told_apart(old)), told_apart(now), keys_of(now, True)
+    return {key_of(row): homes[own(row)] for row in now.rows if own(row) in homes}
+
+
+def _names_for(service: Service) -> dict[str, list[str]]:
+    """The sites that each region may use."""
+    return {region: [service.sites[at].name for at in service.sites_for(region)] for region in service.regions}
+
+
+def _refuse_changed_sites(old: Service, now: Service, path: str) -> None:
+    """Refuses kinds where a site of the same name has other servers, or another hash option, today."""
+    forms = {site.name: (site.option, [server.id for server in site.servers]) for site in old.sites}
+    for site in now.sites:
+        own = site.option, [server.id for server in site.servers]
+        if forms.get(site.name, own) != own:
+            raise Unfit(f"{path}: its rows are kinds, and {site.name} has other servers now, so nobody knows what moves")
 
 
 __all__ = ["InForce", "PLAN", "in_force", "plan_named"]

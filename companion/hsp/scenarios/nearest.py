@@ -62,8 +62,12 @@ def keys_of(service: Service, by_kind: bool) -> Callable[[Row], Key]:
 
 def homes_of(service: Service, certificate: Certificate, by_kind: bool) -> Homes:
     """Where a plan of the service's rows sends their queries."""
+    return homes_by(service, certificate, keys_of(service, by_kind))
+
+
+def homes_by(service: Service, certificate: Certificate, key_of: Callable[[Row], Key]) -> Homes:
+    """The same, where the rows are told apart in another way."""
     found: dict[Key, dict[Named, int]] = {}
-    key_of = keys_of(service, by_kind)
     for row, site, queries in zip(*certificate.use_columns):
         own = service.rows[row]
         server = service.server(site, own.handle)
@@ -252,6 +256,7 @@ __all__ = [
     "Portions",
     "TooMany",
     "gone_of",
+    "homes_by",
     "homes_of",
     "keys_of",
     "moved_between",
