@@ -1,24 +1,31 @@
 #!/usr/bin/env python3
-"""Measures how many lines of an access log `hsp demand` counts in a second.
+"""Measures how many lines of an access log `hsp demand` counts in a second: by one process, and by one a processor.
+GoAccess (Debian: goaccess), where it is installed, reads the logs of usual forms by turns with it.
 
-    tools/measure/demand.py [--lines N] [--program FILE]
+    tools/measure/demand.py [--lines N] [--turns N] [--program FILE]
 
-Logs are of each form, and ask for 20,000 handles, a few of them often. One more asks for a new handle in nearly each
-line. Clients have 100,000 addresses in 65,536 networks. The service is that of examples/two-sites, so that rows are
-joined by kinds. Seconds are processor seconds of `hsp` and of what it runs, on one processor, where the machine lets
-one be chosen.
+Logs are of each form, over a day, and ask for 20,000 handles, a few of them often. One more asks for a new handle in
+nearly each line. Clients have 100,000 addresses in 65,536 networks. The service is that of examples/two-sites, so that
+rows are joined by kinds. GoAccess counts requests and visitors, and no regions. It runs as it comes, on one thread.
+
+Each row has the middle turn by the clock: lines a second, seconds of all processors, and the memory of the largest
+process. Behind them stand the load of the machine before the run, and the share of the processors that others stole
+meanwhile. All runs of `hsp demand` over a log have to write the same octets.
 """
 from __future__ import annotations
 
 import argparse
+import hashlib
 import os
 import random
-import resource
+import shutil
 import subprocess
-import tempfile
-from collections.abc import Callable, Iterator
 import sys
+import tempfile
+import time
+from collections.abc import Callable, Iterator
 from pathlib import Path
+from typing import NamedTuple
 
 sys.path.insert(0, str(Path(__file__).resolve().parents[1]))
 
@@ -28,14 +35,32 @@ from lib import programs, transcripts
 SITES = os.path.join(programs.TOP, "examples", "two-sites")
 REGIONS = ("eu", "us", "asia")
 HANDLES, CLIENTS = 20_000, 100_000
-SERVER = '{0} UDP:HDL "2026-11-26 10:00:00.123+0000" 1 1 3ms {1}\n'
-PROXY = '{0} - - [26/Nov/2026:10:00:00 +0000] "GET /{1}?noredirect HTTP/1.1" 302 - "-" "Mozilla/5.0 (X11; Linux)"\n'
+DAY = 86_400
+SERVER = '{0} UDP:HDL "2026-11-26 {2}.123+0000" 1 1 3ms {1}\n'
+PROXY = '{0} - - [26/Nov/2026:{2} +0000] "GET /{1}?noredirect HTTP/1.1" 302 - "-" "Mozilla/5.0 (X11; Linux)"\n'
 FORMS = {
     "server": ("", SERVER),
     "proxy": ("", PROXY),
-    "csv": ("client,handle\n", "{0},{1}\n"),
-    "json": ("", '{{"time":"2026-11-26T10:00:00Z","client":"{0}","handle":"{1}","status":302}}\n'),
+    "csv": ("time,client,handle\n", "2026-11-26T{2}Z,{0},{1}\n"),
+    "json": ("", '{{"time":"2026-11-26T{2}Z","client":"{0}","handle":"{1}","status":302}}\n'),
 }
+FRESH = "server, a new handle in each line"
+# How GoAccess reads a form.
+GOACCESS = {
+    "server": ["--log-format=%h %^ \"%d %t.%^\" %^ %^ %Lms %U", "--date-format=%Y-%m-%d", "--time-format=%H:%M:%S"],
+    "proxy": ["--log-format=COMBINED"],
+}
+
+
+class Run(NamedTuple):
+    """What a run took: seconds by the clock and of the processors, megabytes of its largest process; the load before
+    it, and the share of the processors that was stolen meanwhile."""
+
+    clock: float
+    processors: float
+    megabytes: float
+    load: float
+    stolen: float
 
 
 def put_networks(path: str) -> None:
@@ -45,10 +70,14 @@ def put_networks(path: str) -> None:
         file.writelines(f"10.{at >> 8}.{at & 255}.0/24,{REGIONS[at * 7 % 3]}\n" for at in range(1 << 16))
 
 
-def queries(lines: int, handle: Callable[[random.Random], int]) -> Iterator[tuple[str, str]]:
+def queries(lines: int, handle: Callable[[random.Random], int]) -> Iterator[tuple[str, str, str]]:
+    """Client, handle and time of each line, in the order of the times."""
     draw = random.Random(1)
     clients = [".".join(map(str, (10, *draw.randbytes(3)))) for _ in range(CLIENTS)]
-    return ((draw.choice(clients), f"20.500.1234/item-{handle(draw)}") for _ in range(lines))
+    for at in range(lines):
+        minutes, second = divmod(at * DAY // lines, 60)
+        clock = f"{minutes // 60:02}:{minutes % 60:02}:{second:02}"
+        yield draw.choice(clients), f"20.500.1234/item-{handle(draw)}", clock
 
 
 def often(draw: random.Random) -> int:
@@ -59,43 +88,82 @@ def fresh(draw: random.Random) -> int:
     return draw.randrange(10**9)
 
 
-def seconds(words: list[str], environment: dict[str, str]) -> float:
-    """The processor seconds of a command and of its children."""
-    before = resource.getrusage(resource.RUSAGE_CHILDREN)
-    subprocess.run(words, env=environment, check=True, stdout=subprocess.DEVNULL)
-    after = resource.getrusage(resource.RUSAGE_CHILDREN)
-    return after.ru_utime + after.ru_stime - before.ru_utime - before.ru_stime
+def jiffies() -> tuple[int, int]:
+    """What all processors spent since the machine began, and what of it was stolen."""
+    with open("/proc/stat", encoding="ascii") as file:
+        spent = list(map(int, file.readline().split()[1:9]))
+    return sum(spent), spent[7]
 
 
-def measure(lines: int, folder: str, environment: dict[str, str]) -> None:
-    networks = os.path.join(folder, "networks.csv")
-    put_networks(networks)
-    cases = [(form, form, often) for form in FORMS] + [("server, a new handle in each line", "server", fresh)]
-    for name, form, handle in cases:
-        head, line = FORMS[form]
-        log = os.path.join(folder, "log")
-        with open(log, "w", encoding="utf-8") as file:
-            file.write(head)
-            file.writelines(line.format(*it) for it in queries(lines, handle))
-        words = ["demand", log, "--regions", networks, "--into", SITES, "-o", os.path.join(folder, "demand.csv")]
-        took = seconds(["/usr/bin/python3", "-m", "hsp", *words], environment)
-        print(f"{name:<36} {took:6.2f} s  {lines / took:>9,.0f} lines a second", flush=True)
+def ran(words: list[str], environment: dict[str, str]) -> Run:
+    load, (all_before, stolen_before), begun = os.getloadavg()[0], jiffies(), time.perf_counter()
+    process = subprocess.Popen(words, env=environment, stdout=subprocess.DEVNULL, stderr=subprocess.DEVNULL)
+    _, status, spent = os.wait4(process.pid, 0)
+    process.returncode = os.waitstatus_to_exitcode(status)
+    clock = time.perf_counter() - begun
+    if status:
+        sys.exit(f"{' '.join(words)}: status {process.returncode}")
+    all_after, stolen_after = jiffies()
+    stolen = (stolen_after - stolen_before) / max(1, all_after - all_before)
+    return Run(clock, spent.ru_utime + spent.ru_stime, spent.ru_maxrss / 1000, load, stolen)
+
+
+def put_log(path: str, form: str, lines: int, handle: Callable[[random.Random], int]) -> None:
+    head, line = FORMS[form]
+    with open(path, "w", encoding="utf-8") as file:
+        file.write(head)
+        file.writelines(line.format(*own) for own in queries(lines, handle))
+
+
+def ways(form: str, log: str, folder: str, is_usual: bool) -> dict[str, list[str]]:
+    """The commands over a log by their names."""
+    networks, out = os.path.join(folder, "networks.csv"), os.path.join(folder, "demand.csv")
+    words = ["/usr/bin/python3", "-m", "hsp", "demand", log, "--regions", networks, "--into", SITES, "-o", out]
+    found = {"hsp demand --jobs 1": [*words, "--jobs", "1"], "hsp demand": words}
+    if is_usual and shutil.which("goaccess"):
+        report = os.path.join(folder, "report.json")
+        found["goaccess"] = ["goaccess", log, *GOACCESS[form], "-o", report, "--no-progress", "--no-global-config"]
+    return found
+
+
+def measure(lines: int, turns: int, folder: str, environment: dict[str, str]) -> None:
+    put_networks(os.path.join(folder, "networks.csv"))
+    log, out = os.path.join(folder, "log"), os.path.join(folder, "demand.csv")
+    print("| Log | By | Lines a second | Seconds | Of the processors | MB | Load | Stolen |", "|---" * 8 + "|", sep="\n")
+    for name, form, handle in [*((form, form, often) for form in FORMS), (FRESH, "server", fresh)]:
+        put_log(log, form, lines, handle)
+        commands = ways(form, log, folder, name in GOACCESS)
+        runs: dict[str, list[Run]] = {way: [] for way in commands}
+        sums = set()
+        for _ in range(turns):
+            for way, words in commands.items():
+                runs[way].append(ran(words, environment))
+                if words[0] != "goaccess":
+                    sums.add(hashlib.sha256(Path(out).read_bytes()).hexdigest())
+                    os.unlink(out)
+        if len(sums) > 1:
+            sys.exit(f"{name}: runs of hsp demand have written different octets")
+        for way, own in runs.items():
+            middle = sorted(own)[len(own) // 2]
+            fields = [name, way, f"{lines / middle.clock:,.0f}", f"{middle.clock:.2f}", f"{middle.processors:.2f}"]
+            fields += [f"{middle.megabytes:.0f}", f"{middle.load:.1f}", f"{middle.stolen:.0%}"]
+            print(f"| {' | '.join(fields)} |", flush=True)
 
 
 def main() -> int:
     arguments = argparse.ArgumentParser(description="Measures how fast access logs are counted.")
-    arguments.add_argument("--lines", type=int, default=1_000_000)
+    arguments.add_argument("--lines", type=int, default=2_000_000)
+    arguments.add_argument("--turns", type=int, default=3)
     arguments.add_argument(
         "--program", default=transcripts.PROGRAM, help="the hsplan that is run, if not the built one"
     )
     chosen = arguments.parse_args()
-    if hasattr(os, "sched_setaffinity"):
-        os.sched_setaffinity(0, {min(os.sched_getaffinity(0))})
     stream = transcripts.stream_beside(chosen.program)
     path = os.path.join(programs.TOP, "companion")
     environment = {**os.environ, "PYTHONPATH": path, "HSPLAN": chosen.program, "HSPLAN_STREAM": stream}
     with tempfile.TemporaryDirectory() as folder:
-        measure(chosen.lines, folder, {**environment, "PYTHONDONTWRITEBYTECODE": "1"})
+        environment["PYTHONPYCACHEPREFIX"] = os.path.join(folder, "compiled")
+        measure(chosen.lines, chosen.turns, folder, environment)
     return 0
 
 

@@ -35,12 +35,13 @@ class _Fields:
     def __init__(self, text: bytes, number: int, sign: bytes) -> None:
         self._sign, self.number = sign, number
         self.width = text.count(sign, 0, text.find(b"\n")) + 1
-        self._all = (b"\n" + text[:-1]).replace(b"\n", sign + b"\n").split(sign)
+        *self._all, _ = text.replace(b"\n", sign + b"\n").split(sign)
+        self._all[0] = b"\n" + self._all[0]
         self.first = self._joined(0)
-        self.are_alike = len(self._all) == self.width * number + 1 and self.first.count(b"\n") == number
+        self.are_alike = len(self._all) == self.width * number and self.first.count(b"\n") == number
 
     def column(self, at: int) -> list[bytes]:
-        return self._all[1 + at :: self.width]
+        return self._all[at :: self.width]
 
     def all_begin(self, at: int, octets: bytes) -> bool:
         return self._joined(at).count(self._sign + octets) == self.number

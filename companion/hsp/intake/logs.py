@@ -17,7 +17,7 @@ from typing import IO, Any, NamedTuple, cast
 from hsp.base.unfit import Unfit, shown
 
 
-BLOCK = 1 << 20
+BLOCK = 1 << 16
 # So many octets of lines are looked at together: as many as stay near a processor.
 TOGETHER = 1 << 16
 # A plain log is read in pieces of so many octets, each of which any process can read.

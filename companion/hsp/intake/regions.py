@@ -100,10 +100,11 @@ class Networks:
                 raise Unfit(f"{path}: line {line}: {network} has two regions, {both}; take one of the lines out")
         # The regions by family, first address and prefix, as the table has them.
         self.found = found
-        self._ranges = {
-            family: ranges(((*key, region) for key, region in networks.items()), BITS[family])
-            for family, networks in found.items()
-        }
+        # Where ranges begin, and what is said of their addresses, by the octets that an address has.
+        self._ranges: dict[int, tuple[list[int], list[bytes | str]]] = {}
+        for family, networks in found.items():
+            starts, regions = ranges(((*key, region) for key, region in networks.items()), BITS[family])
+            self._ranges[BITS[family] // 8] = starts, [region or elsewhere or NO_REGION for region in regions]
 
     @staticmethod
     def _rows(path: str, octets: bytes) -> Iterable[tuple[int, str, bytes]]:
@@ -128,9 +129,8 @@ class Networks:
         octets = packed(address)
         if octets is None:
             return NO_ADDRESS
-        starts, regions = self._ranges[4 if len(octets) == 4 else 6]
-        found = regions[bisect_right(starts, int.from_bytes(octets, "big")) - 1] or self.elsewhere
-        return NO_REGION if found is None else found
+        starts, regions = self._ranges[len(octets)]
+        return regions[bisect_right(starts, int.from_bytes(octets, "big")) - 1]
 
 
 def _text(path: str, octets: bytes) -> str:
