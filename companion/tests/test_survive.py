@@ -315,6 +315,31 @@ def test_what_is_kept_back_is_said_exactly(hsp: Hsp, example: Example) -> None:
     assert "the capacities less 1.2345678%, rounded down" in lines
 
 
+def bought_by(text: str, folder: Path) -> None:
+    """Buys what a line says has to be bought where a part of it is kept back."""
+    line = next(line for line in text.splitlines() if "of new room is kept back too, buy " in line)
+    found = re.findall(r"(\w+) (\d) ([\d,]+)(?= and |, |$)", line.partition("too, buy ")[2])
+    assert found
+    for site, number, more in found:
+        rooms = (folder / "capacity.csv").read_text()
+        own = re.search(rf"(?m)^{site},{number},(\d+)$", rooms)
+        assert own
+        room = int(own[1]) + int(more.replace(",", ""))
+        (folder / "capacity.csv").write_text(rooms.replace(own[0], f"{site},{number},{room}"))
+
+
+@pytest.mark.parametrize("part", ["20", "33.3", "7"])
+def test_a_purchase_serves_where_a_part_of_it_is_kept_back(hsp: Hsp, example: Example, part: str) -> None:
+    """What is bought is more than what has to remain of it."""
+    folder = example("two-sites")
+    if part != "7":
+        bought_by(hsp("plan", str(folder), "--reserve", part, "--no-save", status=3).stdout, folder)
+    hsp("plan", str(folder), "--reserve", part, "--no-save")
+    bought_by(hsp("survive", str(folder), "--reserve", part, "--buy", "--no-save", status=3).stdout, folder)
+    assert "8 fallback plans" in hsp("survive", str(folder), "--reserve", part).stdout
+    assert "kept back too" not in hsp("survive", str(folder), "--buy").stdout
+
+
 def test_many_losses_are_announced(hsp: Hsp, tmp_path: Path, monkeypatch: pytest.MonkeyPatch) -> None:
     monkeypatch.setattr("hsp.scenarios.command.MANY", 2)
     monkeypatch.setattr("hsp.scenarios.judged.SAID", 0)

@@ -8,6 +8,7 @@ from collections import Counter
 from collections.abc import Callable, Iterable, Mapping, Sequence
 from dataclasses import dataclass, field, replace
 from fractions import Fraction
+from math import ceil
 from typing import Any
 
 from hsp.base.grammar import GREATEST_COST, HEADERS, MOST_SERVERS, MOST_SITES
@@ -309,6 +310,11 @@ def with_purchase(service: Service, programs: Programs, bought: dict[Server, int
     if not certificate.is_plan:
         return None
     return replace(service, inputs=inputs, capacities=room, certificate=certificate, plan_file=path)
+
+
+def to_buy(service: Service, bought: Mapping[Server, int]) -> dict[Server, int]:
+    """How much has to be bought so that so much of it remains after the part that is kept back."""
+    return {server: ceil(more / (1 - service.reserve)) for server, more in bought.items()}
 
 
 def above(service: Service, loads: Iterable[int | Fraction]) -> tuple[int, int]:

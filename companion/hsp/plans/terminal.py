@@ -3,11 +3,11 @@
 from __future__ import annotations
 
 from collections import Counter
-from collections.abc import Iterator
+from collections.abc import Iterator, Mapping
 
-from hsp.base.numbers import average, listed, percent, queries_of, signed, some
+from hsp.base.numbers import average, listed, percent, percent_exactly, queries_of, signed, some
 from hsp.base.text import bold, colored, dim, escaped
-from hsp.plans.plans import Gain, Planned, Reference, Shortage, above, above_limits, by_shares, too_full
+from hsp.plans.plans import Gain, Planned, Reference, Shortage, above, above_limits, by_shares, to_buy, too_full
 from hsp.plans.service import Server, Service
 
 SHOWN = 5
@@ -144,6 +144,15 @@ def _who(service: Service, short: Shortage) -> str:
     return f"{some(len(short.rows), 'row')} of {some(len(asked), 'handle')}: {names}"
 
 
+def reserve_lines(service: Service, bought: Mapping[Server, int]) -> Iterator[str]:
+    """What has to be bought where a part of new room is kept back, too; nothing where nothing is kept back."""
+    if service.reserve:
+        most = sorted(to_buy(service, bought).items(), key=lambda pair: -pair[1])
+        names = listed((f"{server.label} {more:,}" for server, more in most), SHOWN)
+        part = percent_exactly(service.reserve)
+        yield f"      so much has to remain: as {part} of new room is kept back too, buy {names}"
+
+
 def purchase_lines(
     service: Service, short: Shortage, bought: dict[Server, int] | None, after: Service | None
 ) -> Iterator[str]:
@@ -160,6 +169,7 @@ def purchase_lines(
     for server, more in sorted(bought.items(), key=lambda pair: -pair[1]):
         before = service.capacity(server)
         yield f"      {colored(server.label.ljust(wide), 'yellow')}  {more:>9,} more: {before:,} to {before + more:,}"
+    yield from reserve_lines(service, bought)
 
 
 __all__ = ["Gain", "head", "plan_lines", "shortage_lines"]

@@ -147,7 +147,7 @@ def survive(folder: str, **given: Any) -> None:
         kept.refuse([loss.folder for loss in losses_of(service)])
     _first(service, programs, portions)
     found = survived(service, programs, portions, Progress(len(losses_of(service))))
-    bought = list(survive_lines.purchase_lines(Purchases(service, programs).search())) if own["buy"] else []
+    bought = list(survive_lines.purchase_lines(service, Purchases(service, programs).search())) if own["buy"] else []
     number = 0 if own["no_save"] else kept.keep(found)
     if own["as_csv"]:
         give(csv_of(service, found, None if own["no_save"] else kept))

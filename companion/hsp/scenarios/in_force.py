@@ -104,7 +104,7 @@ def in_force(words: str, now: Service, programs: Programs) -> InForce:
 def _homes_by_kind(old: Service, certificate: Certificate, now: Service, path: str) -> Homes:
     """Where a plan in force has the queries of today's kinds.
 
-    The kinds of two tables are of the sites that their regions may use, which may have changed. So rows are told apart
+    The kinds of two tables are of the sites that their regions may use, which may be others. So rows are told apart
     by the sites that a region may use in both, and have their part of all that goes together there.
     """
     _refuse_changed_sites(old, now, path)
@@ -135,7 +135,8 @@ def _refuse_changed_sites(old: Service, now: Service, path: str) -> None:
     for site in now.sites:
         own = site.option, [server.id for server in site.servers]
         if forms.get(site.name, own) != own:
-            raise Unfit(f"{path}: its rows are kinds, and {site.name} has other servers now, so nobody knows what moves")
+            why = f"its rows are kinds, and {site.name} has other servers now, so nobody knows what moves"
+            raise Unfit(f"{path}: {why}")
 
 
 __all__ = ["InForce", "PLAN", "in_force", "plan_named"]
