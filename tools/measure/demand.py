@@ -4,8 +4,8 @@ GoAccess (Debian: goaccess), where it is installed, reads the logs of usual form
 
     tools/measure/demand.py [--lines N] [--turns N] [--program FILE]
 
-Logs are of each form, over a day, and ask for 20,000 handles, a few of them often. One more asks for a new handle in
-nearly each line. Clients have 100,000 addresses in 65,536 networks. The service is that of examples/two-sites, so that
+Logs are of each form, over a day, and ask for 20,000 handles, a few of them often. One more asks for a new handle
+in nearly each line. Clients have 100,000 addresses in 65,536 networks. The service is that of examples/two-sites, so that
 rows are joined by kinds. GoAccess counts requests and visitors, and no regions. It runs as it comes, on one thread.
 
 Each row has the middle turn by the clock: lines a second, seconds of all processors, and the memory of the largest
@@ -129,7 +129,8 @@ def ways(form: str, log: str, folder: str, is_usual: bool) -> dict[str, list[str
 def measure(lines: int, turns: int, folder: str, environment: dict[str, str]) -> None:
     put_networks(os.path.join(folder, "networks.csv"))
     log, out = os.path.join(folder, "log"), os.path.join(folder, "demand.csv")
-    print("| Log | By | Lines a second | Seconds | Of the processors | MB | Load | Stolen |", "|---" * 8 + "|", sep="\n")
+    heads = ("Log", "By", "Lines a second", "Seconds", "Of the processors", "MB", "Load", "Stolen")
+    print(f"| {' | '.join(heads)} |\n{'|---' * len(heads)}|")
     for name, form, handle in [*((form, form, often) for form in FORMS), (FRESH, "server", fresh)]:
         put_log(log, form, lines, handle)
         commands = ways(form, log, folder, name in GOACCESS)

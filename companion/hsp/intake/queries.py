@@ -10,6 +10,7 @@ from dataclasses import dataclass, field, replace
 from hsp.base.grammar import LOG_HEAD
 from hsp.base.programs import Programs
 from hsp.base.unfit import Unfit
+from hsp.intake import forms
 from hsp.intake.forms import LONGEST_REMEMBERED, NAMES, Clock, Form, Odd, Remembered, Tag, Take, likeliest
 from hsp.intake.logs import Skipped, numbered
 from hsp.intake.regions import Seek
@@ -33,7 +34,7 @@ def field_of(octets: bytes) -> bytes:
 class Judge:
     """What hsplan says of handles. It is asked once for each while that is remembered."""
 
-    def __init__(self, programs: Programs, most: int = 1 << 26) -> None:
+    def __init__(self, programs: Programs, most: int | None = None) -> None:
         self._programs, self._most, self._octets = programs, most, 0
         self._known: set[bytes] = set()
         self._faults: dict[bytes, str] = {}
@@ -41,7 +42,7 @@ class Judge:
     def faults(self, handles: Iterable[bytes]) -> dict[bytes, str]:
         """Of these handles those that are none, with the reason."""
         asked = set(handles)
-        if self._octets > self._most:
+        if self._octets > (forms.MOST_REMEMBERED if self._most is None else self._most):
             self._known.clear()
             self._faults.clear()
             self._octets = 0

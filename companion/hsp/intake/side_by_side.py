@@ -22,6 +22,7 @@ from typing import Any, NamedTuple
 from hsp.base.programs import Missing, Refused
 from hsp.base.signals import uncut
 from hsp.base.unfit import Unfit
+from hsp.intake import forms
 from hsp.intake.logs import Piece, pieces_of
 from hsp.intake.queries import Reading
 from hsp.intake.reader import Part, parts
@@ -58,11 +59,11 @@ def _fault_of(error: Exception) -> Fault:
 class _Helper:
     """A process that counts pieces, and the pipe to it. `piece` is the number of the one that it has."""
 
-    def __init__(self, work: Work, pieces: Sequence[Piece], others: Sequence["_Helper"]) -> None:
+    def __init__(self, work: Work, pieces: Sequence[Piece], jobs: int, others: Sequence["_Helper"]) -> None:
         context = multiprocessing.get_context("fork")
         self.pipe, its = context.Pipe()
         away = [self.pipe, *(other.pipe for other in others)]
-        self.process = context.Process(target=_serve, args=(its, away, work, pieces), daemon=True)
+        self.process = context.Process(target=_serve, args=(its, away, work, pieces, jobs), daemon=True)
         self.piece: int | None = None
         with uncut():  # the process has no handlers of signals of its own yet
             self.process.start()
@@ -89,10 +90,11 @@ class _Helper:
             return Fault(Missing, (f"a process that counts was {why}; --jobs 1 takes the least memory",))
 
 
-def _serve(pipe: Connection, away: Sequence[Connection], work: Work, pieces: Sequence[Piece]) -> None:
+def _serve(pipe: Connection, away: Sequence[Connection], work: Work, pieces: Sequence[Piece], jobs: int) -> None:
     """Counts pieces by their numbers until nobody asks for more. An interrupt is for the command that asks."""
     for other in away:
         other.close()
+    forms.MOST_REMEMBERED //= jobs  # all of these processes together remember as much as one does
     signal.signal(signal.SIGINT, signal.SIG_IGN)
     for number in (signal.SIGTERM, signal.SIGHUP):
         signal.signal(number, signal.SIG_DFL)
@@ -127,7 +129,7 @@ class _Crew:
         self._ahead = AHEAD * jobs
         try:
             for _ in range(jobs):
-                self._helpers.append(_Helper(work, pieces, self._helpers))
+                self._helpers.append(_Helper(work, pieces, jobs, self._helpers))
         except BaseException:
             self.end()
             raise
