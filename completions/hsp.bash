@@ -44,8 +44,8 @@ _hsp_options() {
 _hsp_values() {
     case $1 in
         "sites --capacity") echo - ;;
-        *" --settings" | *" --costs" | *" --capacity" | *" --values" | *" --output" | *" -o" | *" --regions" | *" --log" | *" --demand" | *" --certificate" | *" --socket" | *" --tls-ca" | *" --tls-cert" | *" --tls-key" | *" --plan" | *" --metrics" | *" --chart" | *" --prices") echo -f ;;
-        *" --reserve" | *" --unit" | *" --jobs" | *" --regex" | *" --client" | *" --handle" | *" --path" | *" --from" | *" --to" | *" --time" | *" --prefix" | *" --elsewhere" | *" --by" | *" --listen" | *" --trusted" | *" --watch" | *" --keep" | *" --workers" | *" --scheduler" | *" --patience" | *" --fronts" | *" --percent" | *" --near" | *" --name" | *" --every" | *" --period" | *" --title" | *" --server" | *" --points" | *" --step" | *" --servers" | *" --index" | *" --front") echo - ;;
+        *" --settings" | *" --costs" | *" --capacity" | *" --values" | *" --output" | *" -o" | *" --regions" | *" --log" | *" --demand" | *" --certificate" | *" --socket" | *" --tls-ca" | *" --tls-cert" | *" --tls-key" | *" --plan" | *" --near" | *" --metrics" | *" --chart" | *" --prices") echo -f ;;
+        *" --reserve" | *" --unit" | *" --jobs" | *" --regex" | *" --client" | *" --handle" | *" --path" | *" --from" | *" --to" | *" --time" | *" --prefix" | *" --elsewhere" | *" --by" | *" --listen" | *" --trusted" | *" --watch" | *" --keep" | *" --workers" | *" --scheduler" | *" --patience" | *" --fronts" | *" --percent" | *" --name" | *" --every" | *" --period" | *" --title" | *" --server" | *" --points" | *" --step" | *" --servers" | *" --index" | *" --front") echo - ;;
         *" --into" | *" --before") echo -d ;;
         *" --format") echo "-W auto server proxy json csv" ;;
         *" --option") echo "-W na local handle" ;;

@@ -308,7 +308,12 @@ def ahead(service: Service, before: str) -> Ahead:
 @with_files
 @click.option("--unit", help="of costs, such as ms")
 @RESERVE
-@click.option("--near", metavar="OLD", help="of the cheapest plans one that moves the fewest queries from this one")
+@click.option(
+    "--near",
+    metavar="OLD",
+    type=click.Path(),
+    help="of the cheapest plans one that moves the fewest queries from this one",
+)
 @click.option("--more", is_flag=True, help="how far the demand can grow, the worst loss, and what was moved")
 @click.option("--all", "every", is_flag=True, help="all full servers and all regions")
 @click.option("-o", "--output", metavar="FILE", type=OUTPUT, help="the certificate, in place of DIR/plan.txt")

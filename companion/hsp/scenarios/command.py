@@ -121,7 +121,9 @@ def _first(service: Service, programs: Judged, portions: Portions | None) -> Non
 @click.command()
 @with_files
 @RESERVE
-@click.option("--near", metavar="OLD", help="a certificate or its folder, in place of DIR/plan.txt")
+@click.option(
+    "--near", metavar="OLD", type=click.Path(), help="a certificate or its folder, in place of DIR/plan.txt"
+)
 @click.option("--buy", is_flag=True, help="one purchase of room that serves every loss; needs python3-scipy")
 @click.option("--into", metavar="FOLDER", type=click.Path(file_okay=False), help="in place of DIR/fallback")
 @click.option("--no-save", is_flag=True, help="keep no fallback plan")

@@ -152,7 +152,7 @@ class Growing:
         """The same with the first step at which a set is short whatever is rounded. A certificate of its own shows it."""
         short = found.short
         while short is not None:
-            factor = int(STEP * short.above) + 1
+            factor = min(int(STEP * short.above) + 1, self.most(found.region))
             tried = self.planned(factor, found.region)
             shown = self._short(tried, found.region)
             self._put_away(tried)
