@@ -3,6 +3,7 @@
 from __future__ import annotations
 
 import bz2
+import csv
 import functools
 import gzip
 import os
@@ -439,3 +440,26 @@ def test_no_process_outlives_a_command_that_is_killed(tmp_path: Path) -> None:
     with open(tmp_path / "pipe", "wb"):
         pass
     until(lambda: are_gone(helpers))
+
+
+def test_standard_input_is_a_log_beside_others(tmp_path: Path) -> None:
+    """By its sign and by its path, once in a process of its own."""
+    draw = random.Random(6)
+    rows, _ = written(draw, "server", 50, 9)
+    given = "\n".join(row.line for row in rows)
+    (tmp_path / "networks.csv").write_bytes(NETWORKS)
+    line = '10.1.2.3 UDP:HDL "2026-11-26 09:00:00.000+0000" 1 1 3ms 20.1/a\n'
+    (tmp_path / "log").write_text(line * 200_000)
+    tables = []
+    for path, jobs in (("-", "1"), ("-", "3"), ("/dev/stdin", "3")):
+        words = ["demand", "log", path, "--regions", "networks.csv", "--format", "server", "--jobs", jobs]
+        command = [sys.executable, "-m", "hsp", *words]
+        done = subprocess.run(command, cwd=tmp_path, env=variables(), input=given.encode(), capture_output=True)
+        assert done.returncode == 0, done.stderr
+        tables.append(done.stdout)
+    assert tables[0] == tables[1] == tables[2]
+    counts = Counter(row.gives for row in rows if isinstance(row.gives, tuple))
+    assert tables[0].count(b"\n") == 2 + len(counts) and b"eu,20.1/a,200000\n" in tables[0]
+    table = list(csv.reader(tables[0].decode().splitlines()))[1:]
+    own = {(region, handle): int(count) for region, handle, count in table}
+    assert own == {**counts, ("eu", "20.1/a"): 200_000}

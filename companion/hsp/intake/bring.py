@@ -414,6 +414,17 @@ def output_of(given: dict[str, Any], into: str | None) -> str | None:
     return given["output"] or (path_in(into, NAMES["demand"]) if into else None)
 
 
+def reading_of(logs: tuple[str, ...], regions: str, given: dict[str, Any], programs: Programs) -> Reading:
+    """How the logs are read, and shown to be at a terminal."""
+    seek = regions_in(regions, given["by"].field, given["elsewhere"], programs)
+    jobs = given["jobs"] or min(MOST_JOBS, len(os.sched_getaffinity(0)))
+    reading = Reading(form_of(given), seek, Judge(programs), jobs=jobs)
+    if sys.stderr.isatty():
+        is_twice = given["busiest_hour"] or given["by"].cycle
+        reading.progress = Progress(Gauge(logs, 2 if is_twice else 1)).show
+    return reading
+
+
 @click.command()
 @click.argument(
     "logs",
@@ -445,11 +456,7 @@ def demand(logs: tuple[str, ...], regions: str, into: str | None, kept: str | No
     output, folders = output_of(given, into), folders_of(into, by.cycle)
     refuse_own(logs, regions, into, [own for own in (output, kept, *tables_in(folders)) if own], given)
     refuse_clashes([path_in(into, NAMES["demand"])] if into else [], [kept] if kept else [])
-    reading = Reading(form_of(given), regions_in(regions, by.field, given["elsewhere"], programs), Judge(programs))
-    reading.jobs = given["jobs"] or min(MOST_JOBS, len(os.sched_getaffinity(0)))
-    if sys.stderr.isatty():
-        gauge = Gauge(logs, 2 if given["busiest_hour"] or by.cycle else 1)
-        reading.progress = Progress(gauge).show
+    reading = reading_of(logs, regions, given, programs)
     expect(twice(logs))
     inputs = foreseen(regions, into, given, any(map(may_be_long, logs)), programs)
     found = by_hours(logs, reading, given, by.cycle) if by.cycle else None

@@ -13,6 +13,7 @@ import multiprocessing
 import os
 import signal
 import stat
+import sys
 import traceback
 from collections import defaultdict, deque
 from collections.abc import Callable, Generator, Iterable, Iterator, Sequence
@@ -59,13 +60,13 @@ def _fault_of(error: Exception) -> Fault:
 class _Helper:
     """A process that counts pieces, and the pipe to it. `piece` is the number of the one that it has."""
 
-    def __init__(self, work: Work, pieces: Sequence[Piece], jobs: int, others: Sequence["_Helper"]) -> None:
+    def __init__(self, work: Callable[[int], Iterable[Part]], jobs: int, others: Sequence["_Helper"]) -> None:
         context = multiprocessing.get_context("fork")
         self.pipe, its = context.Pipe()
         away = [self.pipe, *(other.pipe for other in others)]
-        self.process = context.Process(target=_serve, args=(its, away, work, pieces, jobs), daemon=True)
+        self.process = context.Process(target=_serve, args=(its, away, work, jobs, sys.stdin), daemon=True)
         self.piece: int | None = None
-        with uncut():  # the process has no handlers of signals of its own yet
+        with uncut(), _without_stdin():  # the process has no handlers of signals of its own yet
             self.process.start()
         its.close()
 
@@ -90,10 +91,23 @@ class _Helper:
             return Fault(Missing, (f"a process that counts was {why}; --jobs 1 takes the least memory",))
 
 
-def _serve(pipe: Connection, away: Sequence[Connection], work: Work, pieces: Sequence[Piece], jobs: int) -> None:
+@contextlib.contextmanager
+def _without_stdin() -> Iterator[None]:
+    """Hides standard input, which a process would close at its start: one of the logs may come from there."""
+    own, sys.stdin = sys.stdin, None  # type: ignore[assignment]
+    try:
+        yield
+    finally:
+        sys.stdin = own
+
+
+def _serve(
+    pipe: Connection, away: Sequence[Connection], work: Callable[[int], Iterable[Part]], jobs: int, stdin: Any
+) -> None:
     """Counts pieces by their numbers until nobody asks for more. An interrupt is for the command that asks."""
     for other in away:
         other.close()
+    sys.stdin = stdin
     forms.MOST_REMEMBERED //= jobs  # all of these processes together remember as much as one does
     signal.signal(signal.SIGINT, signal.SIG_IGN)
     for number in (signal.SIGTERM, signal.SIGHUP):
@@ -101,7 +115,7 @@ def _serve(pipe: Connection, away: Sequence[Connection], work: Work, pieces: Seq
     gc.freeze()  # what is there isn't looked through any more, so all processes share its memory
     with contextlib.suppress(EOFError, ConnectionError):
         while True:
-            own = itertools.chain.from_iterable(map(work, [pieces[pipe.recv()]]))
+            own = itertools.chain.from_iterable(map(work, [pipe.recv()]))
             is_last = False
             while not is_last:
                 found = _next(own)
@@ -129,7 +143,7 @@ class _Crew:
         self._ahead = AHEAD * jobs
         try:
             for _ in range(jobs):
-                self._helpers.append(_Helper(work, pieces, jobs, self._helpers))
+                self._helpers.append(_Helper(lambda at: work(pieces[at]), jobs, self._helpers))
         except BaseException:
             self.end()
             raise
