@@ -329,11 +329,11 @@ def plan(folder: str, **given: Any) -> None:
     said = SimpleNamespace(**{key: given.pop(key) for key in PLAN_WORDS})
     path = said.output or path_in(folder, "plan.txt")
     refuse_clashes(read_in(folder, given), [] if said.no_save else [path])
-    programs = Judged() if said.near else Programs()
+    programs, judged = Programs(), Judged() if said.near else None
     service = reserved(sound(folder, programs, given, cost=said.unit), said.reserve, programs)
     if not service.certificate.is_plan:
         show_shortage(service, programs, said.as_json)
-    near = near_plan(said.near, service, programs) if said.near and isinstance(programs, Judged) else None
+    near = near_plan(said.near, service, judged) if judged else None
     service = near.service if near else service
     found = planned(service, programs)
     reference = cheapest(service, programs)

@@ -113,6 +113,13 @@ def test_fallbacks_move_the_fewest(tmp_path: Path, seed: int) -> None:
         assert found.moved == gone + flows.fewest_moved(found.cost, {k: n for k, n in old.items() if k in flows.arcs})
 
 
+def test_a_plan_of_other_rows_is_said_to_be_none(hsp: Hsp, tmp_path: Path) -> None:
+    folder = three_sites(tmp_path / "three", 300)
+    (folder / "plan.txt").write_text("HSPLAN 1\nPLAN\ncost 0\nEND\n")
+    line = hsp("survive", str(folder)).stdout.splitlines()[-2]
+    assert line.endswith(f"near the plan that hsp plan makes, as {folder}/plan.txt is none of these rows")
+
+
 def test_stale_plans_are_taken_away(hsp: Hsp, tmp_path: Path) -> None:
     """A loss that had a fallback and has none any more keeps none; other files stay."""
     folder = three_sites(tmp_path / "three", 300)
