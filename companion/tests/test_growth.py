@@ -11,7 +11,7 @@ import pytest
 
 from hsp.base.programs import Programs
 from hsp.plans.counted import times
-from hsp.plans.service import read_service
+from hsp.plans.service import Service, read_service
 from hsp.scenarios.growth import STEP, Growing, Growth, grown, percent_of
 from hsp.scenarios.judged import Judged
 
@@ -163,7 +163,7 @@ def test_a_log_grows_as_its_table(example: Example, monkeypatch: pytest.MonkeyPa
         assert own.short and other.short and set(own.short.servers) == set(other.short.servers)
 
 
-def as_table(folder: Path, monkeypatch: pytest.MonkeyPatch):  # type: ignore[no-untyped-def]
+def as_table(folder: Path, monkeypatch: pytest.MonkeyPatch) -> Service:
     monkeypatch.undo()
     return read_service(str(folder), Programs(), {})
 
