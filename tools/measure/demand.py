@@ -5,8 +5,8 @@ GoAccess (Debian: goaccess), where it is installed, reads the logs of usual form
     tools/measure/demand.py [--lines N] [--turns N] [--program FILE]
 
 Logs are of each form, over a day, and ask for 20,000 handles, a few of them often. One more asks for a new handle
-in nearly each line. Clients have 100,000 addresses in 65,536 networks. The service is that of examples/two-sites, so
-that rows are joined by kinds. GoAccess counts requests and visitors, and no regions. It runs as it comes, on one thread.
+in nearly each line. Clients have 100,000 addresses in 65,536 networks. The service is that of examples/two-sites,
+so that rows are joined by kinds. GoAccess counts requests and visitors, and no regions. It runs as it comes, on one thread.
 
 Each row has the middle turn by the clock: lines a second, seconds of all processors, and the memory of the largest
 process. Behind them stand the load of the machine before the run, and the share of the processors that others stole
@@ -165,7 +165,8 @@ def main() -> int:
     with tempfile.TemporaryDirectory() as folder:
         environment["PYTHONPYCACHEPREFIX"] = os.path.join(folder, "compiled")
         environment.pop("PYTHONDONTWRITEBYTECODE", None)
-        ran(["/usr/bin/python3", "-m", "hsp", "--version"], environment)  # hsp is compiled once, as where it is installed
+        # So hsp is compiled before, as it is where it is installed.
+        ran(["/usr/bin/python3", "-m", "hsp", "--version"], environment)
         measure(chosen.lines, chosen.turns, folder, environment)
     return 0
 
