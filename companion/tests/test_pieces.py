@@ -231,7 +231,7 @@ def small(monkeypatch: pytest.MonkeyPatch) -> None:
 @pytest.mark.parametrize("jobs", [2, 5])
 def test_any_number_of_processes_finds_the_same(tmp_path: Path, small: None, form: str, jobs: int) -> None:
     paths, rows_of = many(tmp_path, form, 300, jobs)
-    assert len([piece for path in paths for piece in pieces_of(str(path))]) > 20
+    assert len([piece for path in paths for piece in pieces_of(str(path), 5000)]) > 20
     assert found(paths, form, None, jobs) == wanted(paths, rows_of, None)
     assert found(paths, form, 10, jobs) == wanted(paths, rows_of, 10)
 
@@ -264,7 +264,6 @@ def test_a_line_that_fills_many_pieces_is_read_once(tmp_path: Path, monkeypatch:
     """Each piece looks for the end of a line only within itself."""
     path = tmp_path / "log"
     path.write_bytes(b"a\n" + b"x" * 1_000_000 + b"\nb\nc")
-    monkeypatch.setattr(logs, "PIECE", 1000)
     monkeypatch.setattr(logs, "BLOCK", 1000)
     read = 0
     real = logs.opened
@@ -293,7 +292,7 @@ def test_a_line_that_fills_many_pieces_is_read_once(tmp_path: Path, monkeypatch:
     monkeypatch.setattr(logs, "opened", lambda path, watch: File(real(path, watch)))
     passed: list[tuple[str, int, bytes]] = []
     lines, before = [], 0
-    for piece in pieces_of(str(path)):
+    for piece in pieces_of(str(path), 1000):
         blocks = list(lines_of(piece, lambda why, number, line: passed.append((why, before + number, line[:1]))))
         lines += [(before + number, line) for number, line in nonempty(blocks)]
         before += blocks[-1].number - 1
@@ -301,17 +300,16 @@ def test_a_line_that_fills_many_pieces_is_read_once(tmp_path: Path, monkeypatch:
     assert read < 2.1 * path.stat().st_size
 
 
-def test_logs_that_are_no_plain_files_are_one_piece(tmp_path: Path, monkeypatch: pytest.MonkeyPatch) -> None:
-    monkeypatch.setattr(logs, "PIECE", 10)
+def test_logs_that_are_no_plain_files_are_one_piece(tmp_path: Path) -> None:
     os.mkfifo(tmp_path / "pipe")
     (tmp_path / "packed").write_bytes(gzip.compress(bytes(range(256))))
     (tmp_path / "wide").write_bytes("a line of UTF-16".encode("utf-16"))
     (tmp_path / "plain").write_bytes(b"x" * 25)
     for name in ("pipe", "packed", "wide", "absent", "."):
-        assert pieces_of(str(tmp_path / name)) == [Piece(str(tmp_path / name))]
-    assert pieces_of("-") == [Piece("-")]
+        assert pieces_of(str(tmp_path / name), 10) == [Piece(str(tmp_path / name))]
+    assert pieces_of("-", 10) == [Piece("-")]
     path = str(tmp_path / "plain")
-    assert pieces_of(path) == [Piece(path, 0, 10), Piece(path, 10, 20), Piece(path, 20, None)]
+    assert pieces_of(path, 10) == [Piece(path, 0, 10), Piece(path, 10, 20), Piece(path, 20, None)]
 
 
 LOST = OSError(5, "Input/output error", "log")

@@ -20,8 +20,8 @@ from hsp.base.unfit import Unfit, shown
 BLOCK = 1 << 16
 # So many octets of lines are looked at together: as many as stay near a processor.
 TOGETHER = 1 << 16
-# A plain log is read in pieces of so many octets, each of which any process can read.
-PIECE = 1 << 23
+# A plain log is read in pieces of at most so many octets, each of which any process can read.
+PIECE = 1 << 25
 # A longer line is no query: a handle has at most 4,096 octets, and servers take no longer requests.
 LONGEST = 1 << 15
 # No more octets of a line are held, and the memory that an xz file may ask for.
@@ -128,12 +128,13 @@ class Lines(NamedTuple):
     total: int
 
 
-def pieces_of(path: str) -> list[Piece]:
-    """The pieces of a log: several only of a plain file. What can't be looked at is one piece, and faults later."""
+def pieces_of(path: str, length: int) -> list[Piece]:
+    """The pieces of a log, each of so many octets: several only of a plain file. What can't be looked at is one piece,
+    and faults later."""
     whole = [Piece(path)]
     try:
         found = os.stat(path)
-        if path == "-" or not stat.S_ISREG(found.st_mode) or found.st_size <= PIECE:
+        if path == "-" or not stat.S_ISREG(found.st_mode) or found.st_size <= length:
             return whole
         with open(path, "rb") as file:
             head = file.read(8)
@@ -141,8 +142,8 @@ def pieces_of(path: str) -> list[Piece]:
         return whole
     if head.startswith((*PACKED, *UTF_16)):
         return whole
-    begins = range(0, found.st_size, PIECE)
-    return [Piece(path, begin, begin + PIECE if begin != begins[-1] else None) for begin in begins]
+    begins = range(0, found.st_size, length)
+    return [Piece(path, begin, begin + length if begin != begins[-1] else None) for begin in begins]
 
 
 def _behind_a_line_end(file: io.BufferedReader, piece: Piece, size: int) -> bytes | None:

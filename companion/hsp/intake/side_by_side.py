@@ -23,13 +23,15 @@ from typing import Any, NamedTuple
 from hsp.base.programs import Missing, Refused
 from hsp.base.signals import uncut
 from hsp.base.unfit import Unfit
-from hsp.intake import forms
+from hsp.intake import logs as plain
 from hsp.intake.logs import Piece, pieces_of
 from hsp.intake.queries import Reading
 from hsp.intake.reader import Part, parts
 
-# Fewer octets for each process are counted sooner by fewer processes.
+# Fewer octets for each process, or in a piece, are counted sooner by fewer processes, or in fewer pieces.
 LEAST = 1 << 22
+# So many pieces a process counts of logs that aren't long. So all end at about the same time.
+EACH = 4
 MOST_JOBS = 64
 # So many pieces are begun before the first of them has ended, for each process. Of a piece so many parts are held.
 AHEAD, MOST_HELD = 4, 2
@@ -60,11 +62,11 @@ def _fault_of(error: Exception) -> Fault:
 class _Helper:
     """A process that counts pieces, and the pipe to it. `piece` is the number of the one that it has."""
 
-    def __init__(self, work: Callable[[int], Iterable[Part]], jobs: int, others: Sequence["_Helper"]) -> None:
+    def __init__(self, work: Callable[[int], Iterable[Part]], others: Sequence["_Helper"]) -> None:
         context = multiprocessing.get_context("fork")
         self.pipe, its = context.Pipe()
         away = [self.pipe, *(other.pipe for other in others)]
-        self.process = context.Process(target=_serve, args=(its, away, work, jobs, sys.stdin), daemon=True)
+        self.process = context.Process(target=_serve, args=(its, away, work, sys.stdin), daemon=True)
         self.piece: int | None = None
         with uncut(), _without_stdin():  # the process has no handlers of signals of its own yet
             self.process.start()
@@ -101,14 +103,11 @@ def _without_stdin() -> Iterator[None]:
         sys.stdin = own
 
 
-def _serve(
-    pipe: Connection, away: Sequence[Connection], work: Callable[[int], Iterable[Part]], jobs: int, stdin: Any
-) -> None:
+def _serve(pipe: Connection, away: Sequence[Connection], work: Callable[[int], Iterable[Part]], stdin: Any) -> None:
     """Counts pieces by their numbers until nobody asks for more. An interrupt is for the command that asks."""
     for other in away:
         other.close()
     sys.stdin = stdin
-    forms.MOST_REMEMBERED //= jobs  # all of these processes together remember as much as one does
     signal.signal(signal.SIGINT, signal.SIG_IGN)
     for number in (signal.SIGTERM, signal.SIGHUP):
         signal.signal(number, signal.SIG_DFL)
@@ -143,7 +142,7 @@ class _Crew:
         self._ahead = AHEAD * jobs
         try:
             for _ in range(jobs):
-                self._helpers.append(_Helper(lambda at: work(pieces[at]), jobs, self._helpers))
+                self._helpers.append(_Helper(lambda at: work(pieces[at]), self._helpers))
         except BaseException:
             self.end()
             raise
@@ -211,10 +210,19 @@ def _ran(pieces: Sequence[Piece], work: Work, jobs: int) -> Generator[tuple[Piec
         crew.end()
 
 
+def _shared_out(logs: Sequence[str], most: int) -> tuple[list[Piece], int]:
+    """The pieces of all logs, and how many processes count them."""
+    octets = sum(map(_size, logs))
+    jobs = max(1, min(most, octets // LEAST))
+    length = min(plain.PIECE, max(LEAST, octets // (jobs * EACH)))
+    pieces = [piece for path in logs for piece in pieces_of(path, length)]
+    return pieces, min(jobs, len(pieces))
+
+
 def parts_of(logs: Sequence[str], reading: Reading, keeps: bool = False) -> Generator[Part, None, None]:
     """The parts of all logs in their order. What is passed over is noted in `reading`."""
-    pieces, before = [piece for path in logs for piece in pieces_of(path)], 0
-    jobs = max(1, min(reading.jobs, len(pieces), sum(map(_size, logs)) // LEAST))
+    pieces, jobs = _shared_out(logs, reading.jobs)
+    before = 0
     with contextlib.closing(_ran(pieces, lambda piece: parts(piece, reading, keeps), jobs)) as found:
         for piece, part in found:
             before = before if piece.begin else 0
