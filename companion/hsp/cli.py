@@ -32,8 +32,6 @@ from hsp.doctor.next_step import next_lines, next_step
 from hsp.doctor.printing import json_of as findings_json
 from hsp.doctor.printing import lines as finding_lines
 from hsp.doctor.service_folder import Folder, read_in, sound, with_files
-from hsp.fleet.command import fleet
-from hsp.intake import bring
 from hsp.plans.answering import answer_lines, in_units
 from hsp.plans.charts import drawn
 from hsp.plans.page import Fact, View, changes_between, render
@@ -57,11 +55,7 @@ from hsp.plans.whatif import lines as case_lines
 from hsp.plans.where import json_of as where_json
 from hsp.plans.where import lines as where_lines
 from hsp.plans.where import where as where_goes
-from hsp.proxy.command import export
-from hsp.proxy.steer import steer
 from hsp.scenarios.ahead import Ahead, ahead_of, moved_fact, moved_since
-from hsp.scenarios.command import grow, survive
-from hsp.scenarios.day import day
 from hsp.scenarios.judged import Judged
 from hsp.scenarios.near_plan import Near, near_plan
 from hsp.scenarios.reserve import RESERVE, reserved
@@ -70,6 +64,18 @@ OUTPUT = click.Path(dir_okay=False, readable=False)
 # The options of `hsp plan` beside those for other files.
 PLAN_WORDS = ("unit", "reserve", "near", "more", "every", "output", "no_save", "as_csv", "as_json")
 OUT_OF_MEMORY = 4
+# The modules of the other commands.
+ELSEWHERE = {
+    "new": "hsp.intake.bring",
+    "sites": "hsp.intake.bring",
+    "demand": "hsp.intake.bring",
+    "grow": "hsp.scenarios.command",
+    "survive": "hsp.scenarios.command",
+    "day": "hsp.scenarios.day",
+    "export": "hsp.proxy.command",
+    "steer": "hsp.proxy.steer",
+    "fleet": "hsp.fleet.command",
+}
 
 
 @contextlib.contextmanager
@@ -152,6 +158,7 @@ def ended(status: int, *lines: str) -> None:
 
 @click.group(
     cls=Commands,
+    elsewhere=ELSEWHERE,
     invoke_without_command=True,
     context_settings={"help_option_names": ["-h", "--help"], "max_content_width": 100},
 )
@@ -574,10 +581,6 @@ def doctor(context: click.Context, folder: str, strict: bool, as_json: bool, **g
     else:
         shown_findings(found, summary)
     sys.exit(found.status or int(strict and bool(found.warnings)))
-
-
-for other in (bring.new, bring.sites, bring.demand, grow, survive, day, export, steer, fleet):
-    main.add_command(other)
 
 
 __all__ = ["main"]

@@ -11,6 +11,7 @@ from pathlib import Path
 import click
 import pytest
 
+from hsp.base.groups import Group
 from hsp.cli import main
 from hsp.fleet import answers
 
@@ -49,7 +50,8 @@ OPTIONS = {
 
 
 def commands(group: click.Group, before: str = "") -> Iterator[tuple[str, click.Command]]:
-    for name, it in group.commands.items():
+    assert isinstance(group, Group)
+    for name, it in group.all_commands().items():
         if isinstance(it, click.Group):
             yield from commands(it, f"{before}{name} ")
         else:

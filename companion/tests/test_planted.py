@@ -9,6 +9,7 @@ import click
 import pytest
 from click.testing import CliRunner
 
+from hsp.base.groups import Group
 from hsp.cli import main
 from hsp.fleet import session
 
@@ -17,7 +18,8 @@ from printed import assert_kept
 
 def commands(group: click.Group, words: tuple[str, ...] = ()) -> Iterator[tuple[str, ...]]:
     yield words
-    for name, command in sorted(group.commands.items()):
+    assert isinstance(group, Group)
+    for name, command in group.all_commands().items():
         if isinstance(command, click.Group):
             yield from commands(command, (*words, name))
         else:

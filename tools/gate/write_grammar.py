@@ -227,12 +227,13 @@ def alone(programs: list[Program]) -> list[Program]:
 
 def companion(behind: list[Program]) -> Program:
     """hsp with its commands."""
+    from hsp.base.groups import Group
     from hsp.cli import main
 
     found = []
-    for name, command in sorted(main.commands.items()):
-        if isinstance(command, click.Group):
-            found += [_of_click(f"{name} {it}", inner) for it, inner in sorted(command.commands.items())]
+    for name, command in main.all_commands().items():
+        if isinstance(command, Group):
+            found += [_of_click(f"{name} {it}", inner) for it, inner in command.all_commands().items()]
         else:
             found.append(_of_click(name, command))
     return Program("hsp", tuple(found), (HELP, FLAGS["hsplan-stream"][1]), tuple(behind))

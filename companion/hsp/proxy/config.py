@@ -9,8 +9,7 @@ import re
 import shlex
 from collections.abc import Iterable, Mapping
 from dataclasses import dataclass
-
-import jinja2
+from typing import TYPE_CHECKING
 
 from hsp.base.bounds import whole
 from hsp.base.grammar import GREATEST_PRICE
@@ -22,6 +21,9 @@ from hsp.plans.service import Service, Site
 from hsp.proxy.kinds import LOTS, cost_lines, plan_lines, server_lines, shares_of, site_lines
 from hsp.proxy.networks import trusted_lines
 from hsp.proxy.pricing import class_lines, price_lines
+
+if TYPE_CHECKING:
+    import jinja2
 
 CONFIG, SOCKET, PLAN, PRICES = "haproxy.cfg", "admin.sock", "plan.map", "prices.map"
 SITES, COSTS, SERVERS = "sites.map", "costs.map", "servers.map"
@@ -82,6 +84,9 @@ def _secured(target: Target, frame: Frame) -> str:
 
 @functools.cache
 def _environment() -> jinja2.Environment:
+    """What reads the template. It is loaded only where files are written."""
+    import jinja2
+
     loader = jinja2.PackageLoader("hsp", "templates")
     return jinja2.Environment(
         loader=loader,
