@@ -154,7 +154,7 @@ def test_what_hsplan_refuses_later_is_a_line_and_its_status(
     def refused(*_: object) -> None:
         raise Refused(4, "OutOfMemory")
 
-    monkeypatch.setattr("hsp.cli.cheapest", refused)
+    monkeypatch.setattr("hsp.commands.plan.cheapest", refused)
     done = CliRunner(mix_stderr=False).invoke(main, ["plan", str(example("two-sites"))])
     assert (done.exit_code, done.stdout) == (4, "")
     assert done.stderr == "hsp: hsplan refuses these files: OutOfMemory\n"

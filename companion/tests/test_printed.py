@@ -22,7 +22,8 @@ from click.testing import CliRunner
 from lib import examples, transcripts
 from hsp import __version__
 from hsp.base.text import say, visible
-from hsp.cli import main, shown_findings
+from hsp.cli import main
+from hsp.commands.doctor import shown_findings
 from hsp.doctor import Examined
 
 from conftest import TOP, variables
@@ -125,7 +126,7 @@ def _alone(tmp_path: Path, monkeypatch: pytest.MonkeyPatch) -> None:
     """A folder of the test's own, at 27 November 2026, 09:00 UTC."""
     (tmp_path / "here").mkdir()
     monkeypatch.chdir(tmp_path / "here")
-    monkeypatch.setattr("hsp.cli.shown_findings", with_ends)
+    monkeypatch.setattr("hsp.commands.doctor.shown_findings", with_ends)
     monkeypatch.setattr("hsp.proxy.command.LONGEST_SOCKET", 1000)  # the test's own folder may have a long path
     own = {"EXAMPLES": str(TOP / "examples"), "FILES": FILES, "SOURCE_DATE_EPOCH": "1795770000", "COLUMNS": "100"}
     for name, value in own.items():

@@ -1,0 +1,45 @@
+"""How hsp ends: with a status, and lines on standard error where these can be written."""
+
+from __future__ import annotations
+
+import os
+import sys
+
+from hsp.base.text import say
+
+
+def with_streams() -> None:
+    """Opens the null device for each standard stream that is closed, so that no file gets its number. Ends where that
+    is standard output, which each command writes."""
+    is_closed = sys.stdout is None
+    number = 0
+    while number < 3:
+        number = os.open(os.devnull, os.O_RDWR)
+    os.close(number)
+    sys.stdin = sys.stdin or open(0, encoding="utf-8")
+    sys.stderr = sys.stderr or open(2, "w", encoding="utf-8")
+    if is_closed:
+        ended(5, "standard output is closed")
+
+
+def to_nowhere(stream: int) -> None:
+    """Drops what a stream still has to write, so that Python doesn't try it once more at the end."""
+    os.dup2(os.open(os.devnull, os.O_WRONLY), stream)
+
+
+def lost(fault: OSError) -> None:
+    """Ends where a file, or standard output, can't be read or written. Nothing is said where nobody reads on."""
+    if fault.filename is None:
+        to_nowhere(1)
+    name = "standard output" if fault.filename is None else fault.filename
+    ended(5, *([] if isinstance(fault, BrokenPipeError) else [f"{name}: {fault.strerror}"]))
+
+
+def ended(status: int, *lines: str) -> None:
+    """Prints lines on standard error, where these can be written, and ends with a status."""
+    try:
+        for line in lines:
+            say(f"hsp: {line}", err=True)
+    except OSError:
+        to_nowhere(2)
+    sys.exit(status)

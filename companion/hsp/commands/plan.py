@@ -1,0 +1,198 @@
+"""The command `hsp plan`."""
+
+from __future__ import annotations
+
+import csv
+import io
+import json
+import os
+import sys
+from types import SimpleNamespace
+from typing import Any
+
+import click
+
+from hsp.base.ends import ended
+from hsp.base.files import refuse_clashes, replace_all
+from hsp.base.paths import path_in
+from hsp.base.programs import Programs
+from hsp.base.text import colored, give, say
+from hsp.commands.shared import OUTPUT, ahead, progress
+from hsp.doctor.next_step import next_step
+from hsp.doctor.service_folder import read_in, sound, with_files
+from hsp.plans.answering import answer_lines, in_units
+from hsp.plans.plans import (
+    Planned,
+    Reference,
+    by_shares,
+    cheapest,
+    least_purchase,
+    planned,
+    shortage,
+    with_gains,
+    with_purchase,
+)
+from hsp.plans.service import Service
+from hsp.plans.terminal import head, plan_lines, shortage_lines
+from hsp.scenarios.ahead import Ahead
+from hsp.scenarios.judged import Judged
+from hsp.scenarios.near_plan import Near, near_plan
+from hsp.scenarios.reserve import RESERVE, reserved
+
+# The options of `hsp plan` beside those for other files.
+PLAN_WORDS = ("unit", "reserve", "near", "more", "every", "output", "no_save", "as_csv", "as_json")
+
+
+def shares_of(plan: Planned) -> list[tuple[str, str, int, float]]:
+    """How many of each region's queries go to each site, and which share that is."""
+    found = []
+    for region, (asked, _) in plan.regions.items():
+        for at, site in enumerate(plan.service.sites):
+            queries = plan.shares.get((region, at), 0)
+            if queries:
+                found.append((region, site.name, queries, round(queries / asked, 6)))
+    return found
+
+
+def csv_of(plan: Planned) -> str:
+    out = io.StringIO()
+    writer = csv.writer(out, lineterminator="\n")
+    writer.writerow(["region", "site", "queries", "share"])
+    writer.writerows(shares_of(plan))
+    return out.getvalue()
+
+
+def json_of(plan: Planned, reference: Reference | None, near: Near | None, later: Ahead | None) -> str:
+    """What the lines show, for other programs."""
+    servers = [
+        {
+            "site": server.site,
+            "server_id": server.id,
+            "load": plan.loads[server.number],
+            "capacity": plan.service.capacity(server),
+            "price": plan.prices[server.number],
+        }
+        for server in plan.service.servers
+    ]
+    gains = [
+        {
+            "site": gain.server.site,
+            "server_id": gain.server.id,
+            "one_query_saves": gain.one,
+            "room": gain.room,
+            "room_saves": gain.all,
+        }
+        for gain in plan.gains
+    ]
+    shares = [{"region": a, "site": b, "queries": c, "share": d} for a, b, c, d in shares_of(plan)]
+    regional = by_shares(plan)
+    report = {
+        "title": plan.service.titles.title,
+        "served": True,
+        "rows_are": plan.service.rows_are,
+        "unit": plan.service.unit,
+        "queries": plan.service.asked,
+        "cost": plan.cost,
+        "cost_at_cheapest_sites": reference.cost if reference else None,
+        "servers": servers,
+        "room": gains,
+        "regions": [{"region": region, "queries": a, "cost": b} for region, (a, b) in plan.regions.items()],
+        "shares": shares,
+        "by_shares_alone": {"servers_too_full": regional.servers, "queries_too_many": regional.queries},
+        **(near.report() if near else {}),
+        **(later.report() if later else {}),
+    }
+    return json.dumps(report, indent=2, ensure_ascii=False) + "\n"
+
+
+def show_shortage(service: Service, programs: Programs, as_json: bool) -> None:
+    """Shows who lacks what, and what has to be bought. Ends with status 3."""
+    short = shortage(service, programs)
+    bought = None if short.stranded else least_purchase(service, programs)
+    after = with_purchase(service, programs, bought) if bought else None
+    if as_json:
+        purchase = [
+            {"site": server.site, "server_id": server.id, "more": more}
+            for server, more in (bought or {}).items()
+            if after
+        ]
+        report = {"title": service.titles.title, "served": False, "queries": service.asked, "lack": short.lack}
+        give(json.dumps({**report, "least_purchase": purchase or None}, indent=2, ensure_ascii=False) + "\n")
+    else:
+        say(head(service))
+        for line in shortage_lines(service, short, bought, after):
+            say(line)
+    sys.exit(3)
+
+
+def keep(service: Service, programs: Programs, path: str, near: Near | None) -> list[str]:
+    """Writes a plan, and beside it what else is needed to answer by it. Returns what is to be said of that."""
+    contents: dict[str, bytes] = {}
+    lines: list[str] = []
+    if not os.path.exists(path) or os.path.isfile(path):
+        inputs, contents = in_units(service, programs, path)
+        lines = answer_lines(service, inputs, path)
+        if near:
+            contents.update(near.contents(path))
+            lines = [*filter(None, [near.shown_by(path)]), *lines]
+    refuse_clashes(service.own_inputs.files(), contents)
+    for name in contents:
+        os.makedirs(os.path.dirname(name) or ".", exist_ok=True)
+    replace_all({path: service.certificate.text.encode(), **contents})
+    return lines
+
+
+@click.command()
+@with_files
+@click.option("--unit", help="of costs, such as ms")
+@RESERVE
+@click.option(
+    "--near",
+    metavar="OLD",
+    type=click.Path(),
+    help="of the cheapest plans one that moves the fewest queries from this one",
+)
+@click.option("--more", is_flag=True, help="how far the demand can grow, the worst loss, and what was moved")
+@click.option("--all", "every", is_flag=True, help="all full servers and all regions")
+@click.option("-o", "--output", metavar="FILE", type=OUTPUT, help="the certificate, in place of DIR/plan.txt")
+@click.option("--no-save", is_flag=True, help="keep no certificate")
+@click.option("--csv", "as_csv", is_flag=True, help="only how many queries of each region go to each site")
+@click.option("--json", "as_json", is_flag=True, help="the same sums for other programs")
+def plan(folder: str, **given: Any) -> None:
+    """Plans, checks and shows the plan in some ten lines.
+
+    OLD is a certificate, or a folder with plan.txt; what doesn't lie beside it is DIR's. Status 3 is a shortage: then
+    the lines say who lacks what, and the least that has to be bought.
+    """
+    said = SimpleNamespace(**{key: given.pop(key) for key in PLAN_WORDS})
+    path = said.output or path_in(folder, "plan.txt")
+    refuse_clashes(read_in(folder, given), [] if said.no_save else [path])
+    programs, judged = Programs(), Judged() if said.near else None
+    service = reserved(sound(folder, programs, given, cost=said.unit), said.reserve, programs)
+    if not service.certificate.is_plan:
+        show_shortage(service, programs, said.as_json)
+    near = near_plan(said.near, service, judged) if judged else None
+    service = near.service if near else service
+    found = planned(service, programs)
+    reference = cheapest(service, programs)
+    if not said.as_csv:
+        priced = [server for server in service.servers if found.prices[server.number] > 0 and found.is_full(server)]
+        found = with_gains(found, programs, progress(len(priced)))
+    later = ahead(service, path) if said.more and not said.as_csv else None
+    verdict = programs.verdict(service.inputs, service.plan_file)
+    if verdict != "yes":
+        name = service.inputs.program
+        ended(1, f"{name} check says {verdict} to {name}'s own plan: please report this with your files")
+    lines = [] if said.no_save else keep(service, programs, path, near)
+    if said.as_csv or said.as_json:
+        give(csv_of(found) if said.as_csv else json_of(found, reference, near, later))
+        return
+    say(head(service))
+    more = [*([near.line()] if near else []), *(later.lines() if later else [])]
+    for line in [*plan_lines(found, reference, said.every), *more]:
+        say(line)
+    kept = "" if said.no_save else f"; kept in {path}"
+    for line in [f"check {colored(verdict, 'green')}: no plan within these capacities costs less{kept}", *lines]:
+        say(line)
+    if (not service.sites or service.is_empty) and not any(given.values()):
+        say(next_step(service, programs))

@@ -1,0 +1,43 @@
+"""The command `hsp where`."""
+
+from __future__ import annotations
+
+import json
+import sys
+
+import click
+
+from hsp.base.ends import ended
+from hsp.base.paths import shell_word
+from hsp.base.programs import Programs
+from hsp.base.text import give, is_utf8, say
+from hsp.doctor.service_folder import Folder, sound
+from hsp.plans.where import json_of as where_json
+from hsp.plans.where import lines as where_lines
+from hsp.plans.where import where as where_goes
+
+
+@click.command()
+@click.argument("folder", metavar="DIR", type=Folder())
+@click.argument("region", metavar="REGION")
+@click.argument("handle", metavar="HANDLE")
+@click.option("--json", "as_json", is_flag=True, help="the same for other programs")
+def where(folder: str, region: str, handle: str, as_json: bool) -> None:
+    """Says where the queries for a handle go.
+
+    hsplan-stream answers one query by the plan. Below it stands what the query pays at each server that it may use:
+    the cost of the site, and the prices of the server and of its machine.
+    """
+    if not is_utf8(region) or not is_utf8(handle):
+        ended(1, "a region and a handle are text")
+    programs = Programs()
+    service = sound(folder, programs, {})
+    if not service.certificate.is_plan:
+        ended(3, f"not all queries can be served, and there is no plan: hsp plan {shell_word(folder)}")
+    found = where_goes(service, programs, region, handle)
+    if as_json:
+        give(json.dumps(where_json(found, region, handle), indent=2, ensure_ascii=False) + "\n")
+    else:
+        for line in where_lines(service, found, region, handle):
+            say(line)
+    sys.exit(0 if found.servers else 1)
