@@ -59,7 +59,7 @@ ANSWER_BY_PRICES = f"answer {BY_PRICES}"
 KINDS_OF_REPORTS = ("load", "region")
 REPORTS = [f"report {BY_PRICES} --kind {kind}" for kind in KINDS_OF_REPORTS]
 LIMIT_KB = 64 * 1024
-HELP_BEGINS = "hsplan-stream: tables, places and answers for logs of any length\n"
+HELP_BEGINS = "hsplan-stream: tables, places, plans, answers, checks and reports of logs\n"
 
 COMMANDS = ("kinds", "places", "plan", "answer", "check", "report", "interfaces", "faults")
 

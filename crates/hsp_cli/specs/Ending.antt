@@ -12,7 +12,7 @@ use Rattle.hsp_talk.specs.Writing.{IsBegun}
 abbrev pub memory_text : List ℕ → List ℕ
 memory_text name = name ++ (codes ": OutOfMemory" ++ 10 ∷ [])
 
--- the line of a failure that no run tells of, with the program's name before it
+-- the line of a failure that no run has, with the program's name before it
 abbrev pub own_text : {F : Type 0} → List ℕ → Failure F → List ℕ
 own_text name Usage = name ++ (codes ": Usage" ++ 10 ∷ [])
 own_text name Memory = memory_text name

@@ -43,7 +43,7 @@ HasPastGroups at rows =
     (numbers : ServiceNumbers) × (kept : List KeptRow) × AreHeld numbers at rows kept
     × IsFaultOf numbers kept plan_fault.TooLarge
 
--- the text of a plan of the rows, or the fault that there is none that a text may say
+-- the text of a plan of the rows, or the fault that they are too large for one, with the reason
 abbrev pub IsPlanBy : Service → List Row → Result PricesText StreamFault → Type 0
 IsPlanBy at rows (Ok text) = IsPlanText at rows text
 IsPlanBy at rows (Err fault) =

@@ -1,7 +1,7 @@
 // The texts that answer a request for help and for the version.
 
 /// What `--help` prints.
-pub const HELP: &[u8] = b"hsplan-stream: tables, places and answers for logs of any length
+pub const HELP: &[u8] = b"hsplan-stream: tables, places, plans, answers, checks and reports of logs
 
 hsplan-stream kinds --settings F [--values F] --costs F [--unit N] --log F
     prints a table of demand: one row for each kind of the log's rows.
@@ -14,8 +14,8 @@ hsplan-stream places --settings F [--values F] --log F
 
 hsplan-stream plan --settings F [--values F] --costs F --capacity F --log F
     prints a certificate by prices: of a cheapest plan of the log's rows, or of
-    servers that are short. The log may have any number of rows, with the header
-    region,handle or region,handle,count.
+    servers that are short. The log may have up to 4,294,967,296 rows, with the
+    header region,handle or region,handle,count.
 
 hsplan-stream answer --settings F [--values F] --demand F --costs F --capacity F
                      --plan F --log F [--unit N] [--fronts N --front K]
@@ -54,4 +54,4 @@ A file may be a pipe or /dev/stdin. The manual page has more: man hsplan-stream.
 ";
 
 /// What `--version` prints.
-pub const VERSION: &[u8] = b"hsplan-stream 1.10.0\n";
+pub const VERSION: &[u8] = b"hsplan-stream 1.11.0\n";
