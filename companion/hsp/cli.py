@@ -89,8 +89,8 @@ def main(context: click.Context) -> None:
     """Shows the load plan of a Handle System service.
 
     DIR has settings.toml, demand.csv, costs.csv and capacity.csv, and may have hsp.toml with a title and units.
-    Every rule is hsplan's. Nothing is sent anywhere, but by fleet to its workers. At a terminal, hsp by itself says
-    what to do next.
+    Every rule is hsplan's. Nothing is sent anywhere, but by fleet to its workers and by steer to HAProxy. At a
+    terminal, hsp by itself says what to do next.
     """
     if context.invoked_subcommand is None:
         if sys.stdout.isatty():

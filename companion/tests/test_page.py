@@ -165,7 +165,7 @@ def test_regions_stand_by_their_names(browser: Any, pages: dict[str, Path]) -> N
 
 def test_shares_of_regions_are_said_to_be_sums(browser: Any, pages: dict[str, Path]) -> None:
     text = Page(browser, pages["two-sites"], 1200, "light").text()
-    assert "By shares of regions alone: 2 of 5 servers too full, 476 queries too many." in text
+    assert "By shares of regions only: 2 of 5 servers too full, 476 queries too many." in text
     assert "fill no server too much" in Page(browser, pages["base"], 1200, "light").text()
 
 

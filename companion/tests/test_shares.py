@@ -74,13 +74,13 @@ def test_the_line_has_the_sums_over_locate(hsp: Hsp, example: Example) -> None:
     over = {it: loads[it] - room for it, room in capacities(folder).items() if loads[it] > room}
     assert set(over) == {("paris", 2), ("reston", 2)} and round(sum(over.values())) == 476
     lines = hsp("plan", str(folder), "--no-save").stdout.splitlines()
-    assert "by shares of regions alone  2 of 5 servers too full, 476 queries too many" in lines
+    assert "by shares of regions only  2 of 5 servers too full, 476 queries too many" in lines
     said = json.loads(hsp("plan", str(folder), "--no-save", "--json").stdout)
     assert said["by_shares_alone"] == {"servers_too_full": 2, "queries_too_many": 476}
 
 
 def test_shares_that_fit_are_said_to_fit(hsp: Hsp, example: Example) -> None:
-    assert "by shares of regions alone  no server too full" in hsp("plan", str(example("base")), "--no-save").stdout
+    assert "by shares of regions only  no server too full" in hsp("plan", str(example("base")), "--no-save").stdout
 
 
 def test_a_machine_above_its_limit_is_counted(hsp: Hsp, example: Example) -> None:
@@ -89,7 +89,7 @@ def test_a_machine_above_its_limit_is_counted(hsp: Hsp, example: Example) -> Non
     loads = loads_by(shares_of(folder, hsp, "--settings", str(folder / "hosts.toml")), counts_of(folder))
     assert loads["reston", 2] + loads["reston", 3] > 2000
     line = hsp("plan", str(folder), "--settings", str(folder / "hosts.toml"), "--no-save").stdout.splitlines()[-2]
-    assert line.startswith("by shares of regions alone  ") and line.endswith("; 1 machine above its limit")
+    assert line.startswith("by shares of regions only  ") and line.endswith("; 1 machine above its limit")
 
 
 def test_twelve_of_the_servers_of_twelve_sites_are_too_full(twelve: Path) -> None:

@@ -51,7 +51,7 @@ ROWS = {
     "octets of a file that is read whole, which is each file but a log": "LARGEST_FILE",
     "octets of a command on standard input": "LONGEST_FIRST_LINE",
     "rows of a log of `dispatch`": "MOST_LOG_ROWS",
-    "rows of a log of `hsplan-stream`": "",
+    "rows of a log of `hsplan-stream`, but of its `plan`": "",
     "octets of a row of `places` or `answer`; a row of another log has no limit but memory": "LONGEST_ROW",
     "kinds, and regions, that `kinds` joins a log to": "MOST_DEMAND_ROWS MOST_REGIONS",
     "count of a row of a log of `kinds`, `plan`, `check` or `report`": "GREATEST_ROW_COUNT",

@@ -6,6 +6,7 @@ Standard output and standard error stand together, as at a terminal. The command
 one shell, so that what one sets or writes is there for the next. With `cd examples/two-sites` as the first command, a
 transcript goes from the top of the repository to an example.
 """
+import functools
 import os
 import re
 import shutil
@@ -58,12 +59,24 @@ def stream_beside(program: str) -> str:
     return beside if os.path.exists(beside) else programs.tested("hsplan-stream")
 
 
+@functools.cache
+def _made() -> frozenset[str]:
+    """The files of the examples that aren't kept: what commands of a document wrote when somebody followed it."""
+    if not shutil.which("git"):
+        return frozenset()
+    words = ["git", "ls-files", "-z", "--others", "--ignored", "--exclude-standard", "--", "examples"]
+    done = subprocess.run(words, cwd=TOP, stdout=subprocess.PIPE, stderr=subprocess.DEVNULL, text=True)
+    return frozenset(os.path.join(TOP, it) for it in done.stdout.split("\0") if it)
+
+
+def _ignored(folder: str, names: list[str]) -> list[str]:
+    return [it for it in names if it == "out" or os.path.join(folder, it) in _made()]
+
+
 def room_for(folder: str, program: str) -> dict[str, str]:
-    """Makes in an empty folder what a transcript may read and run: the examples, the program as `hsplan`,
-    `hsplan-stream`, and `hsp`. Returns its environment."""
-    shutil.copytree(
-        os.path.join(TOP, "examples"), os.path.join(folder, "examples"), ignore=shutil.ignore_patterns("out")
-    )
+    """Makes in an empty folder what a transcript may read and run: the examples without what somebody made in them,
+    the program as `hsplan`, `hsplan-stream`, and `hsp`. Returns its environment."""
+    shutil.copytree(os.path.join(TOP, "examples"), os.path.join(folder, "examples"), ignore=_ignored)
     os.mkdir(os.path.join(folder, "bin"))
     os.symlink(program, os.path.join(folder, "bin", "hsplan"))
     os.symlink(stream_beside(program), os.path.join(folder, "bin", "hsplan-stream"))

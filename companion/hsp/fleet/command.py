@@ -11,5 +11,5 @@ from hsp.base.groups import Group
 def fleet() -> None:
     """Counts and answers the logs of many machines, on Dask's scheduler.
 
-    On one machine one hsplan dispatch is faster, and so is one hsp demand below 3,000,000 lines.
+    On one machine take hsplan dispatch, and hsp demand, which counts by a process for each processor.
     """

@@ -381,7 +381,10 @@ FORM_OPTIONS = [
 ]
 KINDS_OPTIONS = [
     click.option(
-        "--unit", type=click.IntRange(1, GREATEST_UNIT), metavar="N", help="count in units of N queries, rounded up"
+        "--unit",
+        type=click.IntRange(1, GREATEST_UNIT),
+        metavar="N",
+        help="join rows by kinds, and count in units of N queries, rounded up",
     ),
     click.option("--settings", type=FILE, metavar="FILE", help="the sites, in place of DIR's"),
     click.option("--values", type=FILE, metavar="FILE", help="a value list, in place of DIR's"),

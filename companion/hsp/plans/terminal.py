@@ -55,7 +55,7 @@ def plan_lines(plan: Planned, reference: Reference | None, every: bool) -> Itera
         note = f"; {service.one_more} saves at most {host.price:,}{unit}" if host.price else ""
         yield f"host  {host.address} takes {host.load:,} of {host.limit:,}{note}"
     yield from region_lines(plan, reference, every)
-    yield f"by shares of regions alone  {by_shares(plan).words}"
+    yield f"by shares of regions only  {by_shares(plan).words}"
 
 
 def full_lines(plan: Planned, every: bool) -> Iterator[str]:
