@@ -6,6 +6,7 @@ import json
 import random
 import re
 import shutil
+from fractions import Fraction
 from pathlib import Path
 
 import pytest
@@ -16,6 +17,7 @@ from hsp.plans.service import read_service
 from hsp.scenarios.in_force import in_force
 from hsp.scenarios.judged import Judged
 from hsp.scenarios.nearest import Portions, TooMany, homes_of, moved_between, portions_of, shared
+from hsp.scenarios.reserve import reserved
 
 from conftest import Hsp
 from lib import examples
@@ -256,6 +258,42 @@ def test_a_plan_of_other_settings_is_no_plan_in_force(hsp: Hsp, example: Example
     assert "since the plan before" not in hsp("plan", str(folder), "--more", "--no-save").stdout
     ended = hsp("plan", str(folder), "--near", str(folder), status=1)
     assert f"{folder}/plan.txt: a plan of 5 servers, and {folder}/settings.toml has 6 servers" in ended.stderr
+
+
+@pytest.mark.parametrize("shape", ["as it is", "both of two servers"])
+def test_sites_in_another_order_are_other_settings(hsp: Hsp, example: Example, shape: str) -> None:
+    """As many servers, and uses that fit the rows: only the checker knows that the numbers are of other sites."""
+    folder = example("two-sites")
+    if shape == "both of two servers":
+        octets = [(name, examples.site_octets(name, 1, ["192.0.2.1", "192.0.2.2"])) for name in ("paris", "reston")]
+        (folder / "settings.toml").write_bytes(examples.settings_text(octets))
+        rooms = [(name, at, 2500) for name in ("paris", "reston") for at in (1, 2)]
+        (folder / "capacity.csv").write_bytes(examples.table("site,server_id,capacity", rooms))
+    hsp("plan", str(folder))
+    head, *sites = (folder / "settings.toml").read_text().split("[[site]]")
+    (folder / "settings.toml").write_text(head + "".join(f"[[site]]{own}\n" for own in reversed(sites)))
+    ended = hsp("plan", str(folder), "--near", str(folder), status=1)
+    own = f"{folder}/settings.toml and {folder}/costs.csv"
+    remedy = "keep a plan in one folder with the settings, the demand and the costs for which it was made"
+    assert ended.stderr == f"hsp: {folder}/plan.txt: a plan of other sites or costs than {own}; {remedy}\n"
+    assert "since the plan before" not in hsp("plan", str(folder), "--more", "--no-save").stdout
+
+
+@pytest.mark.parametrize("seed", range(40))
+def test_a_plan_of_other_capacities_is_a_plan_in_force(tmp_path: Path, seed: int) -> None:
+    """Whatever its servers and machines could take then, and take now."""
+    draw, programs = random.Random(seed), Judged()
+    folder = drawn_service(draw, tmp_path / "s")
+    then = reserved(read_service(str(folder), programs, {}), Fraction(draw.randint(0, 30), 100), programs)
+    if not then.certificate.is_plan:
+        return
+    (folder / "plan.txt").write_text(then.certificate.text)
+    rooms = (folder / "capacity.csv").read_text().replace("\n", "0\n").replace("capacity0", "capacity")
+    (folder / "capacity.csv").write_text(rooms)
+    settings = (folder / "settings.toml").read_text()
+    (folder / "settings.toml").write_text(re.sub(r"(limit = \d+)", r"\g<1>0", settings))
+    now = read_service(str(folder), programs, {})
+    assert in_force(str(folder), now, programs).homes == homes_of(then, then.certificate, False)
 
 
 def test_json_has_what_moves_and_what_lies_ahead(hsp: Hsp, example: Example) -> None:

@@ -117,7 +117,7 @@ def test_a_plan_of_other_rows_is_said_to_be_none(hsp: Hsp, tmp_path: Path) -> No
     folder = three_sites(tmp_path / "three", 300)
     (folder / "plan.txt").write_text("HSPLAN 1\nPLAN\ncost 0\nEND\n")
     line = hsp("survive", str(folder)).stdout.splitlines()[-2]
-    assert line.endswith(f"near the plan that hsp plan makes, as {folder}/plan.txt is none of these rows")
+    assert line.endswith(f"near the plan that hsp plan makes, as {folder}/plan.txt is no plan of these files")
 
 
 def test_stale_plans_are_taken_away(hsp: Hsp, tmp_path: Path) -> None:

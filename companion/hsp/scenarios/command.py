@@ -96,7 +96,7 @@ def _near(words: str | None, service: Service, programs: Judged) -> tuple[Portio
             raise
         by_kind = service.mark.is_joined
         homes, name = homes_of(service, service.certificate, by_kind), "the plan that hsp plan makes"
-        name += f", as {path} is none of these rows" if os.path.lexists(path) else ""
+        name += f", as {path} is no plan of these files" if os.path.lexists(path) else ""
     try:
         return Portions(service, homes, programs, by_kind), f"near {name}"
     except TooMany as fault:

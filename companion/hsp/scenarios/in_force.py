@@ -4,20 +4,24 @@ from __future__ import annotations
 
 import os
 import re
+from collections import Counter
 from collections.abc import Callable
 from dataclasses import dataclass, replace
 
 from hsp.base.bounds import whole
 from hsp.base.numbers import some
 from hsp.base.paths import path_in
-from hsp.base.programs import Certificate, Missing, Programs, Refused
+from hsp.base.programs import Certificate, Inputs, Missing, Programs, Refused
 from hsp.base.unfit import Unfit
+from hsp.base.units import hosts_text, settings_text
 from hsp.plans.marks import TITLES, mark_in
+from hsp.plans.plans import capacity_file, servers_at
 from hsp.plans.service import NAMES, VALUES, Row, Service, service_of
 from hsp.scenarios.nearest import PRICED, Homes, Key, homes_by, homes_of, keys_of
 
 PLAN = "plan.txt"
 BY_PRICES = "HSPLAN PRICES 1\n"
+REMEDY = "keep a plan in one folder with the settings, the demand and the costs for which it was made"
 # A number, and a certificate by rows. No part of it gives back what it has taken, so a large one takes little memory.
 NUMBER = r"[0-9]{1,19}"
 FORM = re.compile(
@@ -56,20 +60,19 @@ def text_of(path: str) -> str:
 
 def _of_rows(service: Service, text: str, path: str) -> Certificate:
     """The certificate, where its uses are those of the service's rows, and its servers as many as the service has."""
-    remedy = "keep a plan in one folder with the demand and the settings for which it was made"
     certificate, inputs = Certificate(text, service.unit), service.inputs
     counted = (("row", len(service.rows), inputs.demand), ("server", len(service.servers), inputs.settings))
     for word, own, file in counted:
         number = len(certificate.prices(word))
         if number != own:
-            raise Unfit(f"{path}: a plan of {some(number, word)}, and {file} has {some(own, word)}; {remedy}")
+            raise Unfit(f"{path}: a plan of {some(number, word)}, and {file} has {some(own, word)}; {REMEDY}")
     sums = [0] * len(service.rows)
     for row, site, queries in certificate.uses:
         if row >= len(sums) or site >= len(service.sites):
-            raise Unfit(f"{path}: a plan of other files than those beside it; {remedy}")
+            raise Unfit(f"{path}: a plan of other files than those beside it; {REMEDY}")
         sums[row] += queries
     if sums != [row.count for row in service.rows]:
-        raise Unfit(f"{path}: a plan of another demand than {inputs.demand}; {remedy}")
+        raise Unfit(f"{path}: a plan of another demand than {inputs.demand}; {REMEDY}")
     return certificate
 
 
@@ -90,12 +93,43 @@ def _beside(path: str, now: Service, programs: Programs) -> Service:
         raise Unfit(f"{path}: hsplan refuses the files beside it: {fault.line}") from None
 
 
+def _as_full(service: Service, certificate: Certificate, programs: Programs) -> Inputs:
+    """The inputs where servers and machines take as much as a plan gives them, and no more."""
+    sums: Counter[tuple[str, int]] = Counter()
+    for row, site, queries in zip(*certificate.use_columns):
+        server = service.server(site, service.rows[row].handle)
+        sums[server.site, server.id] += queries
+    loads = {(server.site, server.id): sums[server.site, server.id] for server in service.servers}
+    inputs = service.inputs.but(capacity=capacity_file(programs, loads))
+    if not service.settings.get("host"):
+        return inputs
+    hosts = [
+        {**host, "limit": sum(loads[server.site, server.id] for server in servers_at(service, host))}
+        for host in service.settings["host"]
+    ]
+    text = settings_text(service.settings) + hosts_text({"host": hosts})
+    return inputs.but(settings=programs.put(text, ".toml"))
+
+
+def _refuse_others(service: Service, certificate: Certificate, path: str, programs: Programs) -> None:
+    """Refuses a plan of other settings or costs, as those of sites in another order.
+
+    Capacities may be others than those of the plan. What has a price was full, so the checker says yes with the loads
+    in their place.
+    """
+    verdict = programs.verdict(_as_full(service, certificate, programs), path)
+    if verdict != "yes":
+        own = f"{service.inputs.settings} and {service.inputs.costs}"
+        raise Unfit(f"{path}: a plan of other sites or costs than {own}; {REMEDY}")
+
+
 def in_force(words: str, now: Service, programs: Programs) -> InForce:
     """The plan in force that a folder or a certificate means, over the files beside it."""
     path = plan_named(words)
     text = text_of(path)
     old = _beside(path, now, programs)
     certificate = _of_rows(old, text, path)
+    _refuse_others(old, certificate, path, programs)
     by_kind = old.mark.is_joined or now.mark.is_joined
     homes = _homes_by_kind(old, certificate, now, path) if by_kind else homes_of(old, certificate, by_kind)
     return InForce(path, homes, by_kind)
