@@ -265,7 +265,8 @@ def test_sites_in_another_order_are_other_settings(hsp: Hsp, example: Example, s
     """As many servers, and uses that fit the rows: only the checker knows that the numbers are of other sites."""
     folder = example("two-sites")
     if shape == "both of two servers":
-        octets = [(name, examples.site_octets(name, 1, ["192.0.2.1", "192.0.2.2"])) for name in ("paris", "reston")]
+        own = {name: [f"192.0.2.{ends}{at}" for at in (1, 2)] for ends, name in ((1, "paris"), (2, "reston"))}
+        octets = [(name, examples.site_octets(name, 1, addresses)) for name, addresses in own.items()]
         (folder / "settings.toml").write_bytes(examples.settings_text(octets))
         rooms = [(name, at, 2500) for name in ("paris", "reston") for at in (1, 2)]
         (folder / "capacity.csv").write_bytes(examples.table("site,server_id,capacity", rooms))
