@@ -227,16 +227,18 @@ def test_hours_in_units_are_answered_in_units(hsp: Hsp, day: Path) -> None:
     (day / "capacity.csv").write_text(rooms)
     hsp("day", str(day))
     page = (day / "day.html").read_text()
-    command = re.search(r"hsplan-stream answer [^\"<]*h13/plan.txt --unit 10 --log /dev/stdin", page)
-    assert command and "capacity-in-units.csv" in command[0]
-    words = command[0].replace("\\u0026", "&").split()[1:]
-    done = subprocess.run(
-        [program("hsplan-stream"), *words],
-        input="region,handle\neu,20.500.1234/film-5\n",
-        capture_output=True,
-        text=True,
-    )
-    assert done.stdout.startswith("assigned "), done
+    first = min((day / "blocks").iterdir()).name
+    for name in ("h13", f"blocks/{first}"):
+        command = re.search(rf"hsplan-stream answer [^\"<]*{name}/plan.txt --unit 10 --log /dev/stdin", page)
+        assert command and "capacity-in-units.csv" in command[0] and f"{name}/demand.csv" in command[0]
+        words = command[0].replace("\\u0026", "&").split()[1:]
+        done = subprocess.run(
+            [program("hsplan-stream"), *words],
+            input="region,handle\neu,20.500.1234/film-5\n",
+            capture_output=True,
+            text=True,
+        )
+        assert done.stdout.startswith("assigned "), done
 
 
 def test_a_count_of_0_is_meant_in_an_hour(hsp: Hsp, day: Path) -> None:

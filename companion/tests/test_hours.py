@@ -69,12 +69,12 @@ def with_junk(path: Path, name: str) -> dict[str, int]:
         "server": '10.1.0.1 UDP:HDL "2026-11-26 10:00:00.123+0000" {} 1 3ms {}',
         "proxy": '10.1.0.1 - - [26/Nov/2026:10:00:00 +0000] "{} /{} HTTP/1.1" 302 -',
     }[name]
-    resolve, other = (("1", "2") if name == "server" else ("GET", "POST"))
+    resolve, other = ("1", "2") if name == "server" else ("GET", "POST")
     lost = begin.format(resolve, "20.500.1/item-1").replace("2026-11-26 10", "26 10").replace("26/Nov/2026", "26/No")
     reasons = {
-        "another operation than a resolution" if name == "server" else "another request than GET or HEAD": (
-            begin.format(other, "20.500.1/item-1")
-        ),
+        "another operation than a resolution"
+        if name == "server"
+        else "another request than GET or HEAD": (begin.format(other, "20.500.1/item-1")),
         "not a handle (NoSlash)": begin.format(resolve, "favicon.ico"),
         "no region for the client's address": begin.format(resolve, "20.500.1/a").replace("10.1.0.1", "10.9.0.1"),
         "no time in the line": lost,
@@ -301,6 +301,17 @@ def test_nothing_is_written_where_a_table_fails(tmp_path: Path, monkeypatch: pyt
     assert "somewhere: No space left" in invoke(*words, "--into", own, "--by", "hour", status=5).stderr
     assert sorted(str(path.relative_to(own)) for path in own.rglob("*")) == ["demand.csv", "h03", "h03/demand.csv"]
     assert (own / "demand.csv").read_text() == (own / "h03/demand.csv").read_text() == HEAD
+
+
+def test_no_table_is_written_through_a_link(tmp_path: Path) -> None:
+    """hsp day refuses such a folder, too."""
+    own, other = tmp_path / "s", tmp_path / "other"
+    for folder in (own, other):
+        folder.mkdir()
+    (own / "h03").symlink_to(other)
+    ended = invoke(*written(tmp_path, "proxy", asked(50, 16)), "--into", own, "--by", "hour", status=5)
+    assert ended.stderr == f"hsp: {own}/h03: it is a link, and the table of an hour goes there; take it away\n"
+    assert list(other.iterdir()) == [] and [it.name for it in own.iterdir()] == ["h03"]
 
 
 def test_the_field_of_a_database_stands_beside_hours(tmp_path: Path) -> None:

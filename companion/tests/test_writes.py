@@ -21,6 +21,7 @@ from hsp.base.programs import Missing, Programs
 from hsp.base.unfit import Unfit
 
 from conftest import WITH_SIGNALS, children, named, variables
+from lib.companion import archive
 from test_sites import PARIS, RESTON
 
 Example = Callable[[str], Path]
@@ -190,6 +191,19 @@ def test_a_stopped_command_leaves_nothing(
     _, said = run.communicate(timeout=20)
     assert (run.returncode, said) == (STOPS[number], "hsp: interrupted\n")
     assert (sorted(os.listdir(folder)), os.listdir(room)) == (before, [])
+
+
+@pytest.mark.parametrize("way", ["package", "archive"])
+def test_an_interrupt_while_modules_are_read_shows_no_traceback(tmp_path: Path, way: str) -> None:
+    (tmp_path / "click.py").write_text("import os, signal\nos.kill(os.getpid(), signal.SIGINT)\n")
+    (tmp_path / "hsp").write_bytes(archive())
+    words = ["-m", "hsp"] if way == "package" else [str(tmp_path / "hsp")]
+    own = variables()
+    own["PYTHONPATH"] = os.pathsep.join([str(tmp_path), own["PYTHONPATH"]])
+    run = subprocess.run(
+        [*WITH_SIGNALS, sys.executable, *words, "--version"], env=own, capture_output=True, text=True
+    )
+    assert (run.returncode, run.stdout, run.stderr) == (-signal.SIGINT, "", "")
 
 
 def test_a_signal_within_a_step_counts_after_it() -> None:

@@ -17,6 +17,11 @@ MAIN = """import sys
 
 if sys.version_info < (3, 11):
     sys.exit("hsp: this is Python %d.%d, and hsp needs 3.11 or later" % sys.version_info[:2])
+import signal
+
+# Until hsp.cli answers signals, Ctrl-C ends hsp without a traceback. Where it is ignored it stays so.
+if signal.getsignal(signal.SIGINT) == signal.default_int_handler:
+    signal.signal(signal.SIGINT, signal.SIG_DFL)
 try:
     import click, jinja2
 except ImportError as error:

@@ -27,8 +27,9 @@ def folders_of(into: str | None, cycle: Cycle | None) -> list[str]:
         raise click.UsageError(f"--by {cycle.word} writes a table of each hour into a folder: give --into DIR")
     folders = [path_in(into, name) for name in cycle.names]
     for folder in folders:
-        if os.path.lexists(folder) and not os.path.isdir(folder):
-            raise Missing(f"{folder}: it is no folder, and the table of an hour goes there; take it away")
+        if os.path.islink(folder) or os.path.lexists(folder) and not os.path.isdir(folder):
+            kind = "a link" if os.path.islink(folder) else "no folder"
+            raise Missing(f"{folder}: it is {kind}, and the table of an hour goes there; take it away")
         marked(folder, Mark(KINDS))
     return folders
 

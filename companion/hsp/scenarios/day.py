@@ -23,7 +23,7 @@ from hsp.plans.terminal import head
 from hsp.scenarios import day_lines
 from hsp.scenarios.blocks import Block, fewest, is_block, price
 from hsp.scenarios.day_lines import Day
-from hsp.scenarios.day_page import command_of, render_day
+from hsp.scenarios.day_page import block_view, command_of, render_day
 from hsp.scenarios.day_table import csv_of
 from hsp.scenarios.hours import Faulty, Hour, HourPlan, all_planned, names_in, of_hour, read_hour
 from hsp.scenarios.in_force import PLAN
@@ -213,8 +213,9 @@ def _save(found: Day, folder: str, page: str, programs: Judged) -> None:
     contents = _kept(found, folder, programs)
     inputs, _ = in_units(found.service, programs, path_in(folder, PLAN))
     commands = {plan.hour.name: command_of(inputs, found.service.unit, plan) for plan in found.plans}
-    paths = {block.name: path_in(folder, os.path.join(BLOCKS, block.name, PLAN)) for block in found.blocks}
-    text = render_day(found, folder, commands, paths, programs.judged_so_far)
+    within = path_in(folder, BLOCKS)
+    blocks = [block_view(inputs, found.service.unit, block, path_in(within, block.name)) for block in found.blocks]
+    text = render_day(found, folder, commands, blocks, programs.judged_so_far)
     _refuse_clashes(found.service, [plan.hour for plan in found.plans], [*contents, page])
     for path in contents:
         os.makedirs(os.path.dirname(path) or ".", exist_ok=True)

@@ -3,7 +3,7 @@
 from __future__ import annotations
 
 import os
-from collections.abc import Mapping
+from collections.abc import Mapping, Sequence
 from dataclasses import dataclass
 
 from hsp.base.numbers import part, some
@@ -11,8 +11,9 @@ from hsp.base.paths import path_in
 from hsp.base.programs import Inputs, Load
 from hsp.plans.answering import answer_command
 from hsp.plans.page import environment
-from hsp.plans.service import Service
+from hsp.plans.service import NAMES, Service
 from hsp.plans.sources import Source, now, sources_of, sum_of
+from hsp.scenarios.blocks import Block
 from hsp.scenarios.day_lines import Day
 from hsp.scenarios.hours import HourPlan
 
@@ -50,13 +51,23 @@ class GridRow:
 
 @dataclass(frozen=True)
 class BlockView:
+    """A block: its certificate, and the command that answers by it."""
+
     label: str
     path: str
+    command: str
 
 
 def command_of(inputs: Inputs, unit: int, plan: HourPlan) -> str:
     """The command that answers by an hour's plan. The inputs are those in units."""
     return answer_command(inputs.but(demand=plan.hour.demand), path_in(plan.hour.folder, "plan.txt"), unit)
+
+
+def block_view(inputs: Inputs, unit: int, block: Block, folder: str) -> BlockView:
+    """A block whose demand and plan are kept in a folder. The inputs are those in units."""
+    path = path_in(folder, "plan.txt")
+    command = answer_command(inputs.but(demand=path_in(folder, NAMES["demand"])), path, unit)
+    return BlockView(block.label, path, command)
 
 
 def _shares(service: Service, plan: HourPlan) -> dict[str, list[int]]:
@@ -148,8 +159,8 @@ def _worst_rows(day: Day) -> list[list[str]]:
     ]
 
 
-def render_day(day: Day, folder: str, commands: Mapping[str, str], paths: Mapping[str, str], judged: int) -> str:
-    """The text of the page. The commands are those of hours, and the paths those of blocks, by their names."""
+def render_day(day: Day, folder: str, commands: Mapping[str, str], blocks: Sequence[BlockView], judged: int) -> str:
+    """The text of the page. The commands are those of hours, by their names."""
     service, worst = day.service, day.worst
     grid, note = _grid(day)
     unit = f" {service.titles.cost}" if service.titles.cost else ""
@@ -168,7 +179,7 @@ def render_day(day: Day, folder: str, commands: Mapping[str, str], paths: Mappin
         "grid": grid,
         "grid_note": note,
         "starts": _starts(day),
-        "blocks": [BlockView(block.label, paths[block.name]) for block in day.blocks],
+        "blocks": blocks,
         "blocks_line": fewest,
         "worst_rows": _worst_rows(day),
         "worst_command": commands[worst.hour.name],
@@ -185,4 +196,4 @@ def render_day(day: Day, folder: str, commands: Mapping[str, str], paths: Mappin
     return environment().get_template("day.html").render(**shown)
 
 
-__all__ = ["command_of", "render_day"]
+__all__ = ["block_view", "command_of", "render_day"]
