@@ -133,6 +133,47 @@ def test_stale_plans_are_taken_away(hsp: Hsp, tmp_path: Path) -> None:
     assert not plan.parent.exists() and (folder / "fallback/note.txt").read_text() == "mine"
 
 
+def test_what_has_left_the_service_keeps_no_fallback(hsp: Hsp, tmp_path: Path) -> None:
+    """Its folders go, by the table of the run before. What isn't a file of a fallback stays, and what is behind a link,
+    and what is read."""
+    folder = three_sites(tmp_path / "three", 300)
+    hsp("survive", str(folder))
+    kept, other = folder / "fallback", tmp_path / "other"
+    assert (kept / "site-c/plan.txt").exists() and (kept / "server-c-1/capacity.csv").exists()
+    (kept / "server-c-1/note.txt").write_text("mine")
+    put(kept / "site-mine", {"plan.txt": b"mine"})
+    (kept / "site-c").rename(other)
+    (kept / "site-c").symlink_to(other)
+    with (kept / "losses.csv").open("a") as file:
+        file.write("site,../../other,true,0,0,0,0,0,x\nsite\n\n")
+    for name in ("settings.toml", "costs.csv", "capacity.csv"):
+        text = (folder / name).read_text()
+        head, *blocks = text.split("[[site]]")
+        blocks = [f"[[site]]{own}" for own in blocks if 'name = "c"' not in own] if blocks else []
+        lines = "".join(line for line in head.splitlines(keepends=True) if ",c," not in line and line[:2] != "c,")
+        (folder / name).write_text(lines + "".join(blocks))
+    hsp("survive", str(folder), "--costs", str(kept / "site-b/costs.csv"), status=1)
+    hsp("survive", str(folder))
+    left = {str(path.relative_to(kept)) for path in kept.rglob("*") if path.is_file() and path.name != "costs.csv"}
+    assert {name.partition("/")[0] for name in left if "-a" not in name and "-b" not in name} == {
+        "losses.csv",
+        "server-c-1",
+        "site-mine",
+    }
+    assert [path.name for path in (kept / "server-c-1").iterdir()] == ["note.txt"]
+    assert sorted(path.name for path in other.iterdir()) == ["costs.csv", "plan.txt"]
+
+
+def test_a_fallback_has_no_file_of_another_form(hsp: Hsp, tmp_path: Path) -> None:
+    """Where a part was kept back before, its capacities go."""
+    folder = three_sites(tmp_path / "three", 400)
+    hsp("survive", str(folder), "--reserve", "5")
+    assert (folder / "fallback/server-a-1/capacity-less-reserve.csv").exists()
+    hsp("survive", str(folder))
+    names = sorted(path.name for path in (folder / "fallback/server-a-1").iterdir())
+    assert names == ["capacity.csv", "plan.txt"]
+
+
 @pytest.mark.parametrize("name", ["fallback", "fallback/site-a"])
 def test_a_link_is_not_written_through(hsp: Hsp, tmp_path: Path, name: str) -> None:
     folder = three_sites(tmp_path / "three", 300)

@@ -6,9 +6,11 @@ import contextlib
 import csv
 import io
 import os
-from collections.abc import Sequence
+import re
+from collections.abc import Iterable, Sequence
 from dataclasses import dataclass
 
+from hsp.base.bounds import whole
 from hsp.base.files import locked, refuse_clashes, replace_all
 from hsp.base.paths import path_in
 from hsp.base.unfit import Unfit
@@ -16,10 +18,12 @@ from hsp.plans.answering import CAPACITY, LESS_CAPACITY, LESS_SETTINGS, SETTINGS
 from hsp.plans.service import NAMES, Service
 from hsp.scenarios.in_force import PLAN
 from hsp.scenarios.judged import Judged
-from hsp.scenarios.losses import SITE, After
+from hsp.scenarios.losses import HOST, SERVER, SITE, After, Loss
 
 FOLDER, TABLE = "fallback", "losses.csv"
 HEADER = ["kind", "what", "served", "cost", "change", "lack", "moved", "lost", "plan"]
+# The name of a folder of a loss.
+NAME = re.compile(rf"({SITE}|{SERVER}|{HOST})-[A-Za-z0-9._-]+")
 # The names of the files that a fallback may have.
 OWN = (PLAN, NAMES["costs"], NAMES["capacity"], CAPACITY, SETTINGS, LESS_CAPACITY, LESS_SETTINGS)
 
@@ -49,16 +53,20 @@ class Fallbacks:
         refuse_clashes(self.service.own_inputs.files(), [self.table, *kept])
 
     def keep(self, all_found: Sequence[After]) -> int:
-        """Writes the fallback plans, and takes away those of losses that have none. Returns how many plans there are."""
+        """Writes the fallback plans, and takes away those of losses that have none, and of what has left the service.
+        Returns how many plans there are."""
         os.makedirs(self.folder, exist_ok=True)
         with locked([self.folder]):
+            gone = self._earlier() - {found.loss.folder for found in all_found}
             _remove(self.table)
+            for folder in [*gone, *(found.loss.folder for found in all_found if found.cost is None)]:
+                self._forget(folder, OWN)
             for found in all_found:
-                if found.cost is None:
-                    self._forget(found)
-                    continue
-                os.makedirs(self.path(found), exist_ok=True)
-                replace_all(self._contents(found))
+                if found.cost is not None:
+                    os.makedirs(self.path(found), exist_ok=True)
+                    contents = self._contents(found)
+                    replace_all(contents)
+                    self._forget(found.loss.folder, set(OWN) - set(map(os.path.basename, contents)))
             replace_all({self.table: self._text(all_found).encode()})
         return sum(found.cost is not None for found in all_found)
 
@@ -72,12 +80,25 @@ class Fallbacks:
                 contents[self.path(found, name)] = file.read()
         return contents
 
-    def _forget(self, found: After) -> None:
-        """Takes away the plan of a loss that no longer has one."""
-        for name in OWN:
-            _remove(self.path(found, name))
+    def _earlier(self) -> set[str]:
+        """The folders of the losses that the table of an earlier run has, but for those of which a file is read."""
+        try:
+            rows = list(csv.DictReader(io.StringIO(whole(self.table).decode(), newline="")))
+        except (OSError, UnicodeDecodeError, csv.Error, Unfit):
+            return set()
+        folders = {Loss(row.get("kind") or "", row.get("what") or "", ()).folder for row in rows}
+        read = {os.path.dirname(os.path.realpath(path)) for path in self.service.own_inputs.files()}
+        return {it for it in folders if NAME.fullmatch(it) and os.path.realpath(path_in(self.folder, it)) not in read}
+
+    def _forget(self, folder: str, names: Iterable[str]) -> None:
+        """Takes away files of a loss, and its folder where nothing else is there. A link is not followed."""
+        path = path_in(self.folder, folder)
+        if os.path.islink(path):
+            return
+        for name in names:
+            _remove(path_in(path, name))
         with contextlib.suppress(OSError):
-            os.rmdir(self.path(found))
+            os.rmdir(path)
 
     def _text(self, all_found: Sequence[After]) -> str:
         return csv_of(self.service, all_found, self)
