@@ -5,6 +5,7 @@ from __future__ import annotations
 import csv
 import fcntl
 import io
+import json
 import os
 import random
 import re
@@ -386,6 +387,26 @@ def test_a_purchase_serves_where_a_part_of_it_is_kept_back(hsp: Hsp, example: Ex
     bought_by(hsp("survive", str(folder), "--reserve", part, "--buy", "--no-save", status=3).stdout, folder)
     assert "8 fallback plans" in hsp("survive", str(folder), "--reserve", part).stdout
     assert "kept back too" not in hsp("survive", str(folder), "--buy").stdout
+
+
+@pytest.mark.parametrize("part", ["20", "33.3"])
+def test_other_programs_and_the_page_have_what_to_buy(hsp: Hsp, example: Example, part: str) -> None:
+    """What has to remain of it stands beside it."""
+    folder = example("two-sites")
+    words = ("plan", str(folder), "--no-save", "--reserve", part)
+    purchase = json.loads(hsp(*words, "--json", status=3).stdout)["least_purchase"]
+    assert purchase and all(it["more"] > it["remains"] > 0 for it in purchase)
+    hsp("view", str(folder), "--reserve", part, status=3)
+    page = re.sub(r"<[^>]*>", "", (folder / "plan.html").read_text())
+    assert f"Buy room for {sum(it['more'] for it in purchase):,}." in page
+    rooms = (folder / "capacity.csv").read_text()
+    for it in purchase:
+        assert f"{it['more']:,} at {it['site']} {it['server_id']}" in page
+        own = re.search(rf"(?m)^{it['site']},{it['server_id']},(\d+)$", rooms)
+        assert own
+        rooms = rooms.replace(own[0], f"{it['site']},{it['server_id']},{int(own[1]) + it['more']}")
+    (folder / "capacity.csv").write_text(rooms)
+    hsp(*words)
 
 
 def test_many_losses_are_announced(hsp: Hsp, tmp_path: Path, monkeypatch: pytest.MonkeyPatch) -> None:

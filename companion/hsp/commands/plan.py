@@ -7,6 +7,7 @@ import io
 import json
 import os
 import sys
+from collections.abc import Mapping
 from types import SimpleNamespace
 from typing import Any
 
@@ -29,10 +30,11 @@ from hsp.plans.plans import (
     least_purchase,
     planned,
     shortage,
+    to_buy,
     with_gains,
     with_purchase,
 )
-from hsp.plans.service import Service
+from hsp.plans.service import Server, Service
 from hsp.plans.terminal import head, plan_lines, shortage_lines
 from hsp.scenarios.ahead import Ahead
 from hsp.scenarios.judged import Judged
@@ -105,17 +107,22 @@ def json_of(plan: Planned, reference: Reference | None, near: Near | None, later
     return json.dumps(report, indent=2, ensure_ascii=False) + "\n"
 
 
+def purchase_of(service: Service, bought: Mapping[Server, int]) -> list[dict[str, object]]:
+    """What has to be bought at each server; and how much of it remains, where a part of it is kept back."""
+    found = []
+    for server, more in to_buy(service, bought).items():
+        remains = {"remains": bought[server]} if service.reserve else {}
+        found.append({"site": server.site, "server_id": server.id, "more": more, **remains})
+    return found
+
+
 def show_shortage(service: Service, programs: Programs, as_json: bool) -> None:
     """Shows who lacks what, and what has to be bought. Ends with status 3."""
     short = shortage(service, programs)
     bought = None if short.stranded else least_purchase(service, programs)
     after = with_purchase(service, programs, bought) if bought else None
     if as_json:
-        purchase = [
-            {"site": server.site, "server_id": server.id, "more": more}
-            for server, more in (bought or {}).items()
-            if after
-        ]
+        purchase = purchase_of(service, bought) if bought and after else []
         report = {"title": service.titles.title, "served": False, "queries": service.asked, "lack": short.lack}
         give(json.dumps({**report, "least_purchase": purchase or None}, indent=2, ensure_ascii=False) + "\n")
     else:

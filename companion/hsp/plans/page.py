@@ -17,7 +17,7 @@ from hsp.base.numbers import average, listed, percent, queries_of, signed, some
 from hsp.base.paths import shell_word
 from hsp.base.text import escaped
 from hsp.plans.flows import beside_of
-from hsp.plans.plans import Gain, Host, Planned, Reference, Shortage, above, above_limits, by_shares
+from hsp.plans.plans import Gain, Host, Planned, Reference, Shortage, above, above_limits, by_shares, to_buy
 from hsp.plans.service import Row, Server, Service, dotted
 from hsp.plans.sources import Source, now, sum_of
 
@@ -325,6 +325,7 @@ def render(view: View) -> str:
         "where": f"hsp where {shell_word(view.service.folder)}",
         "names": names,
         "bought_shown": BOUGHT_SHOWN,
+        "to_buy": to_buy(view.service, view.bought),
         "lacking": lacking(view.service, view.short) if view.short else [],
         "least": {
             region: min(
