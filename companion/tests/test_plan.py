@@ -16,6 +16,7 @@ from typing import Any
 import pytest
 from click.testing import CliRunner
 
+from hsp.base.numbers import part
 from hsp.base.programs import BOUNDLESS, Programs, Refused
 from hsp.cli import main
 from hsp.plans.plans import capacity_file, cheapest, least_purchase, planned, shortage, with_gains, with_purchase
@@ -158,3 +159,24 @@ def test_what_hsplan_refuses_later_is_a_line_and_its_status(
     done = CliRunner(mix_stderr=False).invoke(main, ["plan", str(example("two-sites"))])
     assert (done.exit_code, done.stdout) == (4, "")
     assert done.stderr == "hsp: hsplan refuses these files: OutOfMemory\n"
+
+
+@pytest.mark.parametrize(
+    "share, words",
+    [
+        (0, "0%"),
+        (1 / 6282, "<0.1%"),
+        (0.00099, "<0.1%"),
+        (0.001, "0.1%"),
+        (0.05, "5%"),
+        (0.0549, "5.5%"),
+        (0.184, "18%"),
+        (0.9949, "99%"),
+        (0.995, "99.5%"),
+        (6281 / 6282, "99.9%"),
+        (1, "100%"),
+        (12.5, "1,250%"),
+    ],
+)
+def test_a_part_is_nothing_or_all_only_where_it_is(share: float, words: str) -> None:
+    assert part(share) == words
