@@ -66,7 +66,7 @@ class Fallbacks:
                     os.makedirs(self.path(found), exist_ok=True)
                     contents = self._contents(found)
                     replace_all(contents)
-                    self._forget(found.loss.folder, set(OWN) - set(map(os.path.basename, contents)))
+                    self._forget(found.loss.folder, set(OWN) - {os.path.basename(path) for path in contents})
             replace_all({self.table: self._text(all_found).encode()})
         return sum(found.cost is not None for found in all_found)
 
