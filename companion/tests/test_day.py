@@ -241,6 +241,14 @@ def test_hours_in_units_are_answered_in_units(hsp: Hsp, day: Path) -> None:
         assert done.stdout.startswith("assigned "), done
 
 
+def test_one_plan_of_all_hours_costs_more(hsp: Hsp, day: Path) -> None:
+    """Where there is room for all, one block has all hours."""
+    rooms = re.sub(r",(\d+)$", r",\g<1>00", (day / "capacity.csv").read_text(), flags=re.M)
+    (day / "capacity.csv").write_text(rooms)
+    assert "block 1 plan serves 24 hours as it stands: 00-23; " in hsp("day", str(day)).stdout
+    assert re.search(r"1 plan for a block of hours costs [0-9.<]+% more\.", (day / "day.html").read_text())
+
+
 def test_a_count_of_0_is_meant_in_an_hour(hsp: Hsp, day: Path) -> None:
     rows = (day / "h00/demand.csv").read_text().splitlines()
     (day / "h00/demand.csv").write_text("\n".join([rows[0], rows[1].rpartition(",")[0] + ",0", *rows[2:], ""]))

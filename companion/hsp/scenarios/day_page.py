@@ -164,7 +164,12 @@ def render_day(day: Day, folder: str, commands: Mapping[str, str], blocks: Seque
     service, worst = day.service, day.worst
     grid, note = _grid(day)
     unit = f" {service.titles.cost}" if service.titles.cost else ""
-    fewest = f"{some(len(day.blocks), 'plan')} for blocks of hours cost {part(float(day.price))} more"
+    several = (
+        "1 plan for a block of hours costs"
+        if len(day.blocks) == 1
+        else f"{len(day.blocks):,} plans for blocks of hours cost"
+    )
+    fewest = f"{several} {part(float(day.price))} more"
     shown: dict[str, object] = {
         "service": service,
         "span": "week" if "-" in day.plans[0].hour.name else "day",
