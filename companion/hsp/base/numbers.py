@@ -37,7 +37,7 @@ def percent_exactly(share: Fraction) -> str:
 def part(share: float) -> str:
     """A part in percent, as much of it as matters. It is 0% or 100% only where that is exact."""
     each = 100 * share
-    if 0 < each < 0.1:
+    if 0 < each < 0.05:
         return "<0.1%"
     if 99.5 <= each < 100:
         return f"{min(each, 99.9):.1f}%"

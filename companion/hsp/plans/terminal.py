@@ -37,7 +37,7 @@ def _verdict(plan: Planned, reference: Reference) -> str:
     if not count and not hosts:
         return "all ask their cheapest site, and no server is above its capacity"
     share = 100 * extra / max(1, reference.cost)
-    words = "<0.1%" if 0 < share < 0.1 else f"{share:.1f}%"
+    words = "<0.1%" if 0 < share < 0.05 else f"{share:.1f}%"
     too_many = f"{some(count, 'server')} would get {queries_of(queries)} too many" if count else ""
     kept = f"keeping to {'limits' if hosts else 'capacity'} costs {extra:,}{_unit(plan.service)} ({words})"
     return f"left alone, {too_full(too_many, hosts)}; {kept}"
