@@ -732,7 +732,7 @@ UNITS = TOP / "companion" / "units"
 def test_systemd_takes_the_units(tmp_path: Path) -> None:
     """They are read without a word, and leave little open. No hsp has to be installed for that."""
     for file in UNITS.iterdir():
-        text = file.read_text().replace("/usr/local/bin/hsp", sys.executable)
+        text = file.read_text().replace("ExecStart=hsp ", f"ExecStart={sys.executable} ")
         (tmp_path / file.name).write_text(text.replace("/usr/sbin/haproxy", sys.executable))
         assert f"```ini\n{file.read_text()}```\n" in (TOP / "docs" / "use" / "PROXY.md").read_text()
     units = [str(tmp_path / file.name) for file in UNITS.iterdir()]
