@@ -95,7 +95,9 @@ def ran(words: list[str]) -> Ended:
     return Ended(words, done.returncode != 0, seconds)
 
 
-def ran_all(jobs: int) -> list[Ended]:
+def ran_all(processors: int) -> list[Ended]:
+    """Runs all steps. One more runs at a time than there are processors, since steps wait for others at times."""
+    jobs = processors + 1
     beside, alone = steps(jobs)
     with concurrent.futures.ThreadPoolExecutor(jobs) as pool:
         return [*pool.map(ran, beside), *map(ran, alone)]

@@ -378,7 +378,7 @@ def main() -> int:
     )
     words.add_argument("--program", default=programs.tested("hsplan"))
     words.add_argument("--stream", default=programs.tested("hsplan-stream"), metavar="FILE")
-    words.add_argument("--jobs", type=int, default=os.cpu_count() or 1)
+    words.add_argument("--jobs", type=int, default=len(os.sched_getaffinity(0)))
     given = words.parse_args()
     program, stream = os.path.abspath(given.program), os.path.abspath(given.stream)
     absent = [it for it in (program, stream) if not os.access(it, os.X_OK)]
