@@ -88,7 +88,7 @@ complete -c hsp -n "__fish_seen_subcommand_from survive; and not __fish_seen_sub
 complete -c hsp -n "__fish_seen_subcommand_from survive; and not __fish_seen_subcommand_from export fleet" -l buy -d 'one purchase of room that serves every loss; needs python3-scipy'
 complete -c hsp -n "__fish_seen_subcommand_from survive; and not __fish_seen_subcommand_from export fleet" -l into -x -a "(__fish_complete_directories)" -d 'in place of DIR/fallback'
 complete -c hsp -n "__fish_seen_subcommand_from survive; and not __fish_seen_subcommand_from export fleet" -l no-save -d 'keep no fallback plan'
-complete -c hsp -n "__fish_seen_subcommand_from survive; and not __fish_seen_subcommand_from export fleet" -l all -d 'all losses'
+complete -c hsp -n "__fish_seen_subcommand_from survive; and not __fish_seen_subcommand_from export fleet" -l all -d 'all losses, and all servers of a purchase'
 complete -c hsp -n "__fish_seen_subcommand_from survive; and not __fish_seen_subcommand_from export fleet" -l csv -d 'all losses, for other programs'
 complete -c hsp -n "__fish_seen_subcommand_from view; and not __fish_seen_subcommand_from export fleet" -l before -x -a "(__fish_complete_directories)" -d 'the plan of another folder beside it'
 complete -c hsp -n "__fish_seen_subcommand_from view; and not __fish_seen_subcommand_from export fleet" -l more -d 'how far the demand can grow, and what each loss leaves'

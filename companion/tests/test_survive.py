@@ -409,6 +409,32 @@ def test_other_programs_and_the_page_have_what_to_buy(hsp: Hsp, example: Example
     hsp(*words)
 
 
+def test_all_servers_of_a_purchase_are_shown(hsp: Hsp, tmp_path: Path) -> None:
+    """Each loss of one of eight sites of 100 lacks 50 of 750, so the least purchase is spread over all of them."""
+    folder, names = tmp_path / "eight", "abcdefgh"
+    sites = [(name, examples.site_octets(name, 1, [f"192.0.2.{at}"])) for at, name in enumerate(names)]
+    put(
+        folder,
+        {
+            "settings.toml": examples.settings_text(sites),
+            "demand.csv": demand_of([("x", "20.1/0", 750)]),
+            "costs.csv": examples.table("region,site,cost", [("x", name, 1) for name in names]),
+            "capacity.csv": examples.table("site,server_id,capacity", [(name, 1, 100) for name in names]),
+        },
+    )
+    words = ("survive", str(folder), "--buy", "--no-save")
+    line = next(it for it in hsp(*words, status=3).stdout.splitlines() if it.startswith("buy"))
+    number = re.match(r"buy   room for (\d+) queries more at (\d) servers serves every loss: ", line)
+    assert number and int(number[2]) > 5 and line.endswith(f" and {int(number[2]) - 4} more (--all)")
+    printed = hsp(*words, "--all", "--reserve", "1", status=3).stdout
+    bought = re.findall(r"(?m)^      (\w 1) +(\d+) more: 99 to (\d+)$", printed)
+    assert bought and all(int(more) + 99 == int(after) for _, more, after in bought)
+    head = f"buy   room for {sum(int(more) for _, more, _ in bought)} queries more at {len(bought)} servers"
+    assert f"{head} serves every loss\n" in printed
+    kept = next(it for it in printed.splitlines() if "too, buy" in it)
+    assert all(f"{label} " in kept for label, *_ in bought)
+
+
 def test_many_losses_are_announced(hsp: Hsp, tmp_path: Path, monkeypatch: pytest.MonkeyPatch) -> None:
     monkeypatch.setattr("hsp.scenarios.command.MANY", 2)
     monkeypatch.setattr("hsp.scenarios.judged.SAID", 0)

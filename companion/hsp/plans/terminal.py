@@ -145,11 +145,19 @@ def _who(service: Service, short: Shortage) -> str:
     return f"{some(len(short.rows), 'row')} of {some(len(asked), 'handle')}: {names}"
 
 
-def reserve_lines(service: Service, bought: Mapping[Server, int]) -> Iterator[str]:
+def bought_lines(service: Service, bought: Mapping[Server, int]) -> Iterator[str]:
+    """How much more each server of a purchase takes, the most first."""
+    wide = max((len(own.label) for own in bought), default=0)
+    for server, more in sorted(bought.items(), key=lambda pair: -pair[1]):
+        before = service.capacity(server)
+        yield f"      {colored(server.label.ljust(wide), 'yellow')}  {more:>9,} more: {before:,} to {before + more:,}"
+
+
+def reserve_lines(service: Service, bought: Mapping[Server, int], every: bool = False) -> Iterator[str]:
     """What has to be bought where a part of new room is kept back, too; nothing where nothing is kept back."""
     if service.reserve:
         most = sorted(to_buy(service, bought).items(), key=lambda pair: -pair[1])
-        names = listed((f"{server.label} {more:,}" for server, more in most), SHOWN)
+        names = listed((f"{server.label} {more:,}" for server, more in most), len(most) if every else SHOWN)
         part = percent_exactly(service.reserve)
         yield f"      so much has to remain: as {part} of new room is kept back too, buy {names}"
 
@@ -166,11 +174,8 @@ def purchase_lines(
     cost = after.certificate.cost
     each = f"{average(cost, service.asked)} a query"
     yield f"buy   {whole}, the least that suffices; then the cost is {cost:,}{_unit(service)}, {each}"
-    wide = max(len(own.label) for own in bought)
-    for server, more in sorted(bought.items(), key=lambda pair: -pair[1]):
-        before = service.capacity(server)
-        yield f"      {colored(server.label.ljust(wide), 'yellow')}  {more:>9,} more: {before:,} to {before + more:,}"
-    yield from reserve_lines(service, bought)
+    yield from bought_lines(service, bought)
+    yield from reserve_lines(service, bought, True)
 
 
-__all__ = ["Gain", "head", "plan_lines", "shortage_lines"]
+__all__ = ["Gain", "bought_lines", "head", "plan_lines", "reserve_lines", "shortage_lines"]

@@ -130,7 +130,7 @@ def _first(service: Service, programs: Judged, portions: Portions | None) -> Non
 @click.option("--into", metavar="FOLDER", type=click.Path(file_okay=False), help="in place of DIR/fallback")
 @click.option("--no-save", is_flag=True, help="keep no fallback plan")
 @click.option("--unit", help="of costs, such as ms")
-@click.option("--all", "every", is_flag=True, help="all losses")
+@click.option("--all", "every", is_flag=True, help="all losses, and all servers of a purchase")
 @click.option("--csv", "as_csv", is_flag=True, help="all losses, for other programs")
 def survive(folder: str, **given: Any) -> None:
     """Plans for each site, server and machine that may be lost.
@@ -151,7 +151,9 @@ def survive(folder: str, **given: Any) -> None:
         kept.refuse([loss.folder for loss in losses_of(service)])
     _first(service, programs, portions)
     found = survived(service, programs, portions, Progress(len(losses_of(service))))
-    bought = list(survive_lines.purchase_lines(service, Purchases(service, programs).search())) if own["buy"] else []
+    bought = []
+    if own["buy"]:
+        bought = list(survive_lines.purchase_lines(service, Purchases(service, programs).search(), own["every"]))
     number = 0 if own["no_save"] else kept.keep(found)
     if own["as_csv"]:
         give(csv_of(service, found, None if own["no_save"] else kept))

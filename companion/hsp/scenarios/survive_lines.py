@@ -7,7 +7,7 @@ from collections.abc import Iterator, Sequence
 from hsp.base.numbers import average, listed, part, queries_of, signed, some
 from hsp.base.text import bold, colored, dim
 from hsp.plans.service import Service
-from hsp.plans.terminal import reserve_lines
+from hsp.plans.terminal import bought_lines, reserve_lines
 from hsp.scenarios.grow_lines import NAMED, ranked
 from hsp.scenarios.losses import HOST, SERVER, SITE, After
 from hsp.scenarios.purchase import Lack, Purchase
@@ -72,8 +72,9 @@ def worst(service: Service, all_found: Sequence[After]) -> str:
     return f"without {word} {after}; {served:,} of {some(len(all_found), 'loss', 'losses')} leave a plan"
 
 
-def purchase_lines(service: Service, purchase: Purchase) -> Iterator[str]:
-    """One purchase for every loss, and the short sets that show how little can do."""
+def purchase_lines(service: Service, purchase: Purchase, every: bool = False) -> Iterator[str]:
+    """One purchase for every loss, with each of its servers if that is wished, and the short sets that show how little
+    can do."""
     if not purchase.bought and not purchase.unserved:
         yield "buy   nothing: every loss leaves a plan"
         return
@@ -84,8 +85,13 @@ def purchase_lines(service: Service, purchase: Purchase) -> Iterator[str]:
     others = "every other loss" if purchase.unserved else "every loss"
     size = bold(f"room for {queries_of(purchase.size)} more")
     at = some(len(purchase.bought), "server")
-    yield f"buy   {size} at {at} serves {others}: {ranked(purchase.bought)}"
-    yield from reserve_lines(service, purchase.bought)
+    if every:
+        yield f"buy   {size} at {at} serves {others}"
+        yield from bought_lines(service, purchase.bought)
+    else:
+        more = " (--all)" if len(purchase.bought) > NAMED else ""
+        yield f"buy   {size} at {at} serves {others}: {ranked(purchase.bought)}{more}"
+    yield from reserve_lines(service, purchase.bought, every)
     if purchase.least == purchase.size:
         yield f"      no purchase below {purchase.least:,} does, by {_sets(purchase.lacks)}"
     else:
