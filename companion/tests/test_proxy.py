@@ -373,6 +373,32 @@ def test_a_proxy_fetches_answers_and_goes_elsewhere_where_a_server_is_down(
             assert b'haproxy_backend_active_servers{proxy="paris:2"} 0' in metrics.getresponse().read()
 
 
+def test_a_query_that_a_server_does_not_take_counts_as_a_check(hsp: Hsp, example: Example, tmp_path: Path) -> None:
+    """Checks are a minute apart here, so only the query says that the server is gone. Redirects ask no server."""
+    folder, path = example("two-sites"), "/20.500.1234/film-5"
+    words = "observe layer4 error-limit 1 on-error sudden-death"
+    with served(NAMES) as servers:
+        put(
+            folder,
+            networks=NETWORKS,
+            hsp=urls_text({n: f"http://127.0.0.1:{it.server_port}" for n, it in servers.items()}),
+        )
+        with answering(hsp, folder, tmp_path / "plain", *TRUSTED) as front:
+            assert words not in front.config.read_text()
+        with answering(hsp, folder, tmp_path / "proxy", *TRUSTED, "--proxy") as front:
+            text = front.config.read_text()
+            assert text.count(words) == 5 and "inter 2s" in text
+            front.kill()
+            front.config.write_text(
+                text.replace("inter 2s", "inter 60s").replace("timeout client", "retries 0\n  timeout client")
+            )
+            front.start()
+            assert front.ask(path, CLIENTS["eu"]).text.startswith(b"paris:2")
+            servers["paris:2"].shutdown()
+            servers["paris:2"].server_close()
+            until(lambda: front.ask(path, CLIENTS["eu"]).text.startswith(b"reston:2"))
+
+
 def test_where_no_server_is_up_the_plan_holds(hsp: Hsp, two: Path, tmp_path: Path) -> None:
     ports = free_ports(5)
     put(two, hsp=urls_text({name: f"http://127.0.0.1:{port}" for name, port in zip(NAMES, ports)}))
