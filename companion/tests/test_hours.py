@@ -303,6 +303,19 @@ def test_nothing_is_written_where_a_table_fails(tmp_path: Path, monkeypatch: pyt
     assert (own / "demand.csv").read_text() == (own / "h03/demand.csv").read_text() == HEAD
 
 
+@pytest.mark.parametrize("words", [["hours"], ["country.iso_code", "hour"]])
+def test_a_table_of_networks_has_no_field(tmp_path: Path, words: list[str]) -> None:
+    """A word that counts for nothing may be one of hours that is misspelled."""
+    (tmp_path / "s").mkdir()
+    own = written(tmp_path, "proxy", asked(50, 17))
+    ended = invoke(*own, "--into", tmp_path / "s", *(it for word in words for it in ("--by", word)), status=2)
+    why = f"'{words[0]}' is no field of {own[own.index('--regions') + 1]}, which is a table and no MaxMind database"
+    assert f"Invalid value for --by: {why}; for a table of each hour write hour or weekday-hour\n" in ended.stderr
+    assert list((tmp_path / "s").iterdir()) == []
+    ended = invoke("fleet", *own, "--into", tmp_path / "s", "--by", "hour", status=2)
+    assert "hours are counted by hsp demand --by" in ended.stderr
+
+
 def test_no_table_is_written_through_a_link(tmp_path: Path) -> None:
     """hsp day refuses such a folder, too."""
     own, other = tmp_path / "s", tmp_path / "other"

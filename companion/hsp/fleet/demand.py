@@ -28,6 +28,7 @@ from hsp.intake.bring import (
     mark_of,
     give_demand,
     output_of,
+    refuse_field,
     refuse_own,
     rows_lines,
     some_in,
@@ -128,6 +129,7 @@ def demand(logs: tuple[str, ...], regions: str, into: str | None, keep: str | No
     named = [log_of(log, keep) for log in logs]
     _checked(named, regions, into, output, given)
     span, form = _span(given), form_of(given)
+    refuse_field(regions, given["by"], "hours are counted by hsp demand --by")
     seek = regions_in(regions, given["by"], given["elsewhere"], programs)
     reading, tally = Reading(form, seek, Judge(programs)), Tally(programs)
     expect(twice([log.path for log in named if not log.host]))

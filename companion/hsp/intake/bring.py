@@ -31,7 +31,7 @@ from hsp.intake.joining import block, capacity_rows, joined, lines_of, read_back
 from hsp.intake.outlook import may_be_long, outlook, refuse_unit
 from hsp.intake.progress import Gauge, Progress
 from hsp.intake.queries import Judge, Reading
-from hsp.intake.regions import named_in, regions_in
+from hsp.intake.regions import is_table, named_in, regions_in
 from hsp.intake.side_by_side import MOST_JOBS, parts_of
 from hsp.intake.sitefiles import Files, Found
 from hsp.intake.tally import Demand, Tally
@@ -417,8 +417,16 @@ def output_of(given: dict[str, Any], into: str | None) -> str | None:
     return given["output"] or (path_in(into, NAMES["demand"]) if into else None)
 
 
+def refuse_field(regions: str, field: str, instead: str) -> None:
+    """Refuses the field of a database where regions are those of a table: it would count for nothing."""
+    if field != BY_FIELD and is_table(regions):
+        why = f"'{field}' is no field of {regions}, which is a table and no MaxMind database; {instead}"
+        raise click.BadParameter(why, param_hint="--by")
+
+
 def reading_of(logs: tuple[str, ...], regions: str, given: dict[str, Any], programs: Programs) -> Reading:
     """How the logs are read, and shown to be at a terminal."""
+    refuse_field(regions, given["by"].field, "for a table of each hour write hour or weekday-hour")
     seek = regions_in(regions, given["by"].field, given["elsewhere"], programs)
     jobs = given["jobs"] or min(MOST_JOBS, len(os.sched_getaffinity(0)))
     reading = Reading(form_of(given), seek, Judge(programs), jobs=jobs)
