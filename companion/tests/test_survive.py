@@ -20,8 +20,9 @@ from scipy import optimize
 from hsp.base.grammar import HEADERS
 from hsp.base.programs import Programs
 from hsp.base.unfit import Unfit
+from hsp.fleet.dispatch import of_these_files
 from hsp.plans.plans import capacity_file
-from hsp.plans.service import Service, read_service
+from hsp.plans.service import Service, inputs_in, read_service
 from hsp.scenarios.fallbacks import Fallbacks
 from hsp.scenarios.judged import Judged
 from hsp.scenarios.losses import HOST, SERVER, SITE, Loss, losses_of, survived, without
@@ -339,6 +340,25 @@ def test_the_plan_before_is_known_where_it_is_kept(hsp: Hsp, example: Example, t
     assert (
         "<dt>Moves</dt><dd><b>3.4%</b><small>213 queries since the plan before" in (folder / "plan.html").read_text()
     )
+
+
+@pytest.mark.parametrize("unit, name", [(1, "capacity-less-reserve.csv"), (10, "capacity-in-units.csv")])
+def test_a_plan_less_a_reserve_is_answered_by_many(hsp: Hsp, example: Example, unit: int, name: str) -> None:
+    """hsp fleet dispatch takes the capacities that are kept beside it, and refuses a plan of neither."""
+    folder, programs = example("two-sites"), Programs()
+    if unit > 1:
+        (folder / "hsp.toml").write_text(f'[demand]\nrows = "handles"\nunit = {unit}\n')
+        rooms = re.sub(r",(\d+)$", r",\g<1>0", (folder / "capacity.csv").read_text(), flags=re.M)
+        (folder / "capacity.csv").write_text(rooms)
+    hsp("plan", str(folder), "--reserve", "2")
+    inputs, plan = inputs_in(str(folder), {}, unit), folder / "plan.txt"
+    found = of_these_files(str(folder), programs, inputs, str(plan))
+    assert programs.verdict(inputs, str(plan)) != "yes" == programs.verdict(found, str(plan))
+    assert (Path(found.capacity).name, found.unit) == (name, 1)
+    assert "plan isn't one" not in hsp("doctor", str(folder)).stdout
+    plan.write_text(plan.read_text().replace("\ncost ", "\ncost 1"))
+    with pytest.raises(Unfit, match="the plan isn't one of these files"):
+        of_these_files(str(folder), programs, inputs, str(plan))
 
 
 def test_a_plan_less_a_reserve_is_no_old_plan(hsp: Hsp, example: Example) -> None:

@@ -27,6 +27,7 @@ from hsp.fleet.progress import shown
 from hsp.fleet.session import Targets, place_of, session, with_cluster
 from hsp.fleet.split import Parted
 from hsp.intake.bring import FOLDER
+from hsp.plans.answering import less_reserve
 from hsp.plans.marks import Mark, mark_in
 from hsp.plans.service import NAMES, inputs_in, newer_than
 
@@ -155,11 +156,15 @@ def any_handle_line(folder: str, logs: tuple[str, ...], plan: str | None, fronts
     )
 
 
-def of_these_files(folder: str, programs: Programs, inputs: Inputs, plan: str) -> None:
-    """Refuses a plan of other files, or of files that have changed, before any worker is asked."""
+def of_these_files(folder: str, programs: Programs, inputs: Inputs, plan: str) -> Inputs:
+    """The inputs of which a plan is: the folder's, or those less a reserve that are kept beside it. Refuses a plan of
+    other files, or of files that have changed, before any worker is asked."""
     verdict = programs.verdict(inputs, plan)
     if not verdict.startswith("no "):
-        return
+        return inputs
+    less = less_reserve(plan, inputs)
+    if less and programs.verdict(less, plan) == "yes":
+        return less
     newer = newer_than(inputs.files(), plan)
     why = f"the plan is older than {listed(newer)}" if newer else "the plan isn't one of these files"
     raise Unfit(f"{plan}: {why}: hsp plan {shell_word(folder)}; {inputs.program} check says {verdict}")
@@ -207,7 +212,7 @@ def dispatch(folder: str, logs: tuple[str, ...], plan: str | None, **given: Any)
     refuse_clashes(read, [path for front in own for path in front.targets])
     if not mark.is_plain and not given["any_handle"]:
         say(f"hsp: {any_handle_line(folder, logs, plan, given['fronts'])}", err=True)
-    of_these_files(folder, programs, inputs, certificate)
+    inputs = of_these_files(folder, programs, inputs, certificate)
     files = {**kit.files_of(programs.in_units(inputs), certificate), **kit.programs(), "hsp.zip": kit.companion()}
     targets: Targets = [(front.targets, front.host) for front in fronts]
     with contextlib.ExitStack() as stack:

@@ -32,13 +32,15 @@ def kept_beside(plan: str, inputs: Inputs) -> Inputs:
 
 
 def less_reserve(plan: str, inputs: Inputs) -> Inputs | None:
-    """The inputs less a reserve as they are kept beside a plan; None where none are, or where they are older than what
-    they were made of."""
+    """The inputs less a reserve as they are kept beside a plan, in units where the demand counts in these; None where
+    none are, or where they are older than what they were made of."""
     folder = os.path.dirname(plan)
-    capacity, settings = path_in(folder, LESS_CAPACITY), path_in(folder, LESS_SETTINGS)
+    names = (CAPACITY, SETTINGS) if inputs.unit > 1 else (LESS_CAPACITY, LESS_SETTINGS)
+    capacity, settings = (path_in(folder, name) for name in names)
     if not os.path.isfile(capacity) or newer_than([inputs.capacity, inputs.settings], capacity):
         return None
-    return replace(inputs, capacity=capacity, settings=settings if os.path.isfile(settings) else inputs.settings)
+    own = settings if os.path.isfile(settings) else inputs.settings
+    return replace(inputs, capacity=capacity, settings=own, unit=1)
 
 
 def in_units(service: Service, programs: Programs, plan: str) -> tuple[Inputs, dict[str, bytes]]:
