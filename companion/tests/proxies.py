@@ -4,6 +4,7 @@ from __future__ import annotations
 
 import contextlib
 import http.client
+import os
 import socket
 import subprocess
 import tempfile
@@ -64,6 +65,9 @@ class Front:
             command = ["haproxy", "-f", str(self.config)]
             self.process = subprocess.Popen(command, stdout=file, stderr=subprocess.STDOUT, cwd="/")
         wait(self.process, self.port, self.log)
+        until = time.monotonic() + 10
+        while not os.path.exists(self.socket) and self.process.poll() is None and time.monotonic() < until:
+            time.sleep(0.01)  # it listens at the port first
 
     def kill(self) -> None:
         """Ends HAProxy without a word."""
