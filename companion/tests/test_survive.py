@@ -136,8 +136,8 @@ def test_stale_plans_are_taken_away(hsp: Hsp, tmp_path: Path) -> None:
 
 
 def test_what_has_left_the_service_keeps_no_fallback(hsp: Hsp, tmp_path: Path) -> None:
-    """Its folders go, by the table of the run before. What isn't a file of a fallback stays, and what is behind a link,
-    and what is read."""
+    """Its folders go, by the table of the run before. What isn't a file of a fallback stays, and what is behind a
+    link. A table that is read is not written."""
     folder = three_sites(tmp_path / "three", 300)
     hsp("survive", str(folder))
     kept, other = folder / "fallback", tmp_path / "other"

@@ -73,8 +73,8 @@ def worst(service: Service, all_found: Sequence[After]) -> str:
 
 
 def purchase_lines(service: Service, purchase: Purchase, every: bool = False) -> Iterator[str]:
-    """One purchase for every loss, with each of its servers if that is wished, and the short sets that show how little
-    can do."""
+    """One purchase for every loss, with all of its servers if that is wished, and the short sets that show how
+    little can do."""
     if not purchase.bought and not purchase.unserved:
         yield "buy   nothing: every loss leaves a plan"
         return
