@@ -11,12 +11,11 @@ from __future__ import annotations
 
 import argparse
 import os
-import shutil
 import subprocess
 import sys
 import tempfile
 
-from lib import companion, programs
+from lib import companion, pages, programs
 
 
 # What an installed program is asked, and what it has to answer.
@@ -57,17 +56,15 @@ def keep_folders(root: str, made: list[str]) -> None:
     """Lists the folders that were made, with those of earlier installations."""
     known = folders_of(root) if os.path.exists(os.path.join(root, FOLDERS)) else []
     lines = [f"{os.path.relpath(it, root)}\n" for it in dict.fromkeys([*known, *made])]
-    with tempfile.NamedTemporaryFile("w", encoding="utf-8") as file:
-        file.writelines(lines)
-        file.flush()
-        put(file.name, os.path.join(root, FOLDERS), 0o644)
+    put("".join(lines).encode(), os.path.join(root, FOLDERS), 0o644)
 
 
-def put(source: str, target: str, mode: int) -> None:
-    """Copies a file to its place, whole or not at all, since another process may run the older one meanwhile."""
+def put(octets: bytes, target: str, mode: int) -> None:
+    """Writes a file, whole or not at all, since another process may run the older one meanwhile."""
     os.makedirs(os.path.dirname(target), exist_ok=True)
     new = f"{target}.new"
-    shutil.copyfile(source, new)
+    with open(new, "wb") as file:
+        file.write(octets)
     os.chmod(new, mode)
     os.replace(new, target)
 
@@ -85,19 +82,16 @@ def install(root: str) -> int:
         for name in programs.PROGRAMS:
             program = programs.chosen(name, os.path.join(folder, name))
             target = os.path.join(root, "bin", name)
-            put(program.path, target, 0o755)
+            put(programs.octets_of(program.path), target, 0o755)
             if not answers(target):
                 print(f"{target} is installed, and does not run", file=sys.stderr)
                 return 1
             print(f"{target} is installed, and runs: {program.kind}")
-        made = os.path.join(folder, "hsp")
-        with open(made, "wb") as file:
-            file.write(companion.archive())
-        target = os.path.join(root, "bin", "hsp")
-        put(made, target, 0o755)
-        print(companion_line(target))
+    target = os.path.join(root, "bin", "hsp")
+    put(companion.archive(), target, 0o755)
+    print(companion_line(target))
     for source, target in programs.FILES.items():
-        put(os.path.join(programs.TOP, source), os.path.join(root, target), 0o644)
+        put(pages.installed(source, programs.FILES), os.path.join(root, target), 0o644)
     return 0
 
 

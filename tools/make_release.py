@@ -27,32 +27,23 @@ import sys
 import tarfile
 import tempfile
 
-from lib import companion, deb, programs
+from lib import companion, deb, pages, programs
 
 
-def contents(made: dict[str, str]) -> dict[str, tuple[str, int]]:
-    """What the archive holds: each path in it, with its source and its mode."""
-    held = {f"bin/{name}": (path, 0o755) for name, path in made.items()}
-    held.update({target: (os.path.join(programs.TOP, source), 0o644) for source, target in programs.FILES.items()})
-    return held
+def contents(made: dict[str, str]) -> dict[str, tuple[bytes, int]]:
+    """What the archive holds: each path in it, with the octets of the file and its mode."""
+    held = {f"bin/{name}": (programs.octets_of(path), 0o755) for name, path in made.items()}
+    held["bin/hsp"] = (companion.archive(), 0o755)
+    files = programs.FILES
+    return {**held, **{files[it]: (pages.installed(it, files), 0o644) for it in files}}
 
 
-def with_companion(folder: str, held: dict[str, tuple[str, int]]) -> dict[str, tuple[str, int]]:
-    """The same with the companion, which is made in a folder."""
-    path = os.path.join(folder, "hsp")
-    with open(path, "wb") as file:
-        file.write(companion.archive())
-    return {**held, "bin/hsp": (path, 0o755)}
-
-
-def packed(held: dict[str, tuple[str, int]]) -> bytes:
+def packed(held: dict[str, tuple[bytes, int]]) -> bytes:
     """The archive of these files, without times and owners."""
     room = io.BytesIO()
     with tarfile.open(fileobj=room, mode="w", format=tarfile.USTAR_FORMAT) as archive:
-        for path, (source, mode) in sorted(held.items()):
+        for path, (octets, mode) in sorted(held.items()):
             member = tarfile.TarInfo(f"{programs.stem(programs.version())}/{path}")
-            with open(source, "rb") as file:
-                octets = file.read()
             member.size, member.mode = len(octets), mode
             archive.addfile(member, io.BytesIO(octets))
     return lzma.compress(room.getvalue(), preset=9 | lzma.PRESET_EXTREME)
@@ -85,8 +76,7 @@ def clear(ending: str) -> None:
 
 
 def write_archive(found: dict[str, str]) -> None:
-    with tempfile.TemporaryDirectory() as folder:
-        octets = packed(with_companion(folder, contents(found)))
+    octets = packed(contents(found))
     clear(".tar.xz")
     write(os.path.basename(programs.archive(programs.version())), octets)
 

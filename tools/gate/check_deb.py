@@ -5,6 +5,7 @@ It fails where
 
 - the two differ in an octet; the second is made a second later, by another umask and in another zone of time;
 - lintian finds an error;
+- a page in it has a link that leads to nothing;
 - the package doesn't go in beside a minimal Debian and what it depends on, or a file of it has another sum there;
 - a plan of examples/two-sites, made there by an ordinary user, hasn't the least cost, by hsplan or by hsp;
 - after the package is removed, or purged, a file is there that wasn't there before, or one is gone.
@@ -26,7 +27,7 @@ from pathlib import Path
 
 sys.path.insert(0, str(Path(__file__).resolve().parents[1]))
 
-from lib import deb, examples, programs
+from lib import deb, examples, pages, programs
 
 # The oldest Debian whose Python hsp takes, the seconds until it is made, and those in which all of this ends.
 SUITE, MAKING, SECONDS = "bookworm", 150, 230
@@ -125,6 +126,12 @@ def judged(path: str) -> list[str]:
     return [f"lintian: status {done.returncode}"] if done.returncode else []
 
 
+def dead_links(path: str, room: str) -> list[str]:
+    """The links to nothing in the pages that the package holds."""
+    subprocess.run(["dpkg-deb", "--extract", path, room], check=True)
+    return pages.dead_links(room, pages.below(room))[0]
+
+
 def expected(fresh: Fresh, line: str, is_right: Callable[[str], bool], user: str = "root") -> list[str]:
     """The fault of a command that fails there, or prints something else."""
     said, status = fresh.run(line, user)
@@ -168,7 +175,7 @@ def installed(fresh: Fresh, path: str) -> list[str]:
 def tried(room: str, begun: float) -> tuple[list[str], str]:
     """The faults of the package, and what was done with it."""
     path, faults = made_twice(room)
-    faults += judged(path)
+    faults += judged(path) + dead_links(path, os.path.join(room, "extracted"))
     fresh = Fresh(room, begun)
     try:
         if unmet := fresh.make(deb.field("Depends")):

@@ -34,7 +34,7 @@ from pathlib import Path
 
 sys.path.insert(0, str(Path(__file__).resolve().parents[1]))
 
-from lib import programs, transcripts
+from lib import pages, programs, transcripts
 
 
 # Faults, and how many things were looked at.
@@ -133,23 +133,7 @@ def blocks(text: str) -> list[Block]:
 
 def missing_links() -> Found:
     """The links of documents to files and headings that are not there, and how many links there are."""
-    inline, named = r"\]\(([^)#:]*(?:#[^)]*)?)\)", r"^\[\w+\]: ([^#:\s]*(?:#\S*)?)$"
-    links = [
-        (path, it)
-        for path in documents()
-        for kind in (inline, named)
-        for it in re.findall(kind, programs.text_of(path), re.M)
-    ]
-    return [f"{path} links to nothing: {it}" for path, it in links if not leads_somewhere(path, it)], len(links)
-
-
-def leads_somewhere(path: str, target: str) -> bool:
-    file, _, heading = target.partition("#")
-    aim = os.path.normpath(os.path.join(os.path.dirname(path), file)) if file else path
-    if not os.path.exists(os.path.join(programs.TOP, aim)):
-        return False
-    titles = re.findall(r"^#+ (.*)$", programs.text_of(aim), re.M) if aim.endswith(".md") else []
-    return not heading or heading in [re.sub(r"[^a-z0-9 -]", "", it.lower()).replace(" ", "-") for it in titles]
+    return pages.dead_links(programs.TOP, documents())
 
 
 def missing_targets() -> Found:

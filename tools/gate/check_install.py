@@ -2,7 +2,7 @@
 """Installs the program built here into an empty folder, by `make install` with DESTDIR and PREFIX.
 
 The installed program has to be the one built here, and to run from another folder. The manual page, the completions
-and the guide have to be there. `make uninstall` has to leave no file, and no folder but those that were there before.
+and the guide have to be there, and no page may have a link that leads to nothing. `make uninstall` has to leave no file, and no folder but those that were there before.
 
 The program has to be built already, by `rt ci` or `make prove`, and no source may be newer.
 """
@@ -16,7 +16,7 @@ from pathlib import Path
 
 sys.path.insert(0, str(Path(__file__).resolve().parents[1]))
 
-from lib import companion, programs
+from lib import companion, pages, programs
 
 
 def make(target: str, room: str, *more: str) -> subprocess.CompletedProcess[str]:
@@ -54,17 +54,11 @@ def wrong_answer(program: str, room: str) -> list[str]:
     return [] if said == "1\n" else [f"the installed program printed {said!r}"]
 
 
-def wanted_files() -> dict[str, str]:
-    """The files that are installed, each with its installed path."""
-    built = {
-        os.path.relpath(programs.built_path(it), programs.TOP): os.path.join("bin", it) for it in programs.PROGRAMS
-    }
-    return {**built, **programs.FILES}
-
-
-def wrong_companion(path: str) -> list[str]:
-    """A fault where the installed companion is not that of this tree."""
-    return [] if octets_of(path) == companion.archive() else ["hsp is not installed, or another one"]
+def wanted_files() -> dict[str, bytes]:
+    """What is installed, by its path below the prefix."""
+    built = {f"bin/{it}": programs.octets_of(programs.built_path(it)) for it in programs.PROGRAMS}
+    files = {target: pages.installed(it, programs.FILES) for it, target in programs.FILES.items()}
+    return {**built, "bin/hsp": companion.archive(), **files}
 
 
 def faults_in(room: str) -> list[str]:
@@ -73,15 +67,11 @@ def faults_in(room: str) -> list[str]:
     installed = make("install", room)
     if installed.returncode:
         return [f"make install: {installed.stdout}"]
-    other = [
-        it
-        for it, path in wanted_files().items()
-        if octets_of(os.path.join(room, "usr", path)) != octets_of(os.path.join(programs.TOP, it))
-    ]
-    found = [f"{it} is not installed, or not unchanged" for it in other] + wrong_answer(
-        os.path.join(room, "usr", "bin", "hsplan"), room
-    )
-    found += wrong_companion(os.path.join(room, "usr", "bin", "hsp"))
+    below = os.path.join(room, "usr")
+    other = [it for it, octets in wanted_files().items() if octets_of(os.path.join(below, it)) != octets]
+    found = [f"{it} is not installed, or another one" for it in other]
+    found += wrong_answer(os.path.join(below, "bin", "hsplan"), room)
+    found += pages.dead_links(below, pages.below(below))[0]
     removed = make("uninstall", room)
     return (
         found
@@ -98,7 +88,7 @@ def main() -> int:
     if not absent:
         with tempfile.TemporaryDirectory() as room:
             faults = faults_in(room)
-    tried = "not tried" if absent else f"{len(wanted_files()) + 1} files installed and removed"
+    tried = "not tried" if absent else f"{len(wanted_files())} files installed and removed"
     print("\n".join(faults + [f"install: {tried}, {len(faults)} faults"]))
     return 1 if faults else 0
 

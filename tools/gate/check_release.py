@@ -6,6 +6,7 @@ its sum with release/SHA256SUMS. Otherwise it fails where
 
 - the sources or a sum differ from what release/MADE and release/SHA256SUMS state;
 - the archive lacks a file of this tree, or holds another one;
+- a page in it has a link that leads to nothing;
 - a program in it is not octet for octet the one in crates/NAME/out;
 - the package of Debian is not octet for octet the one that is made of this tree and the released programs.
 
@@ -35,7 +36,7 @@ from pathlib import Path
 
 sys.path.insert(0, str(Path(__file__).resolve().parents[1]))
 
-from lib import cases, companion, deb, programs
+from lib import cases, companion, deb, pages, programs
 
 
 LIMIT = 10
@@ -54,7 +55,8 @@ def wrong_names() -> list[str]:
 def wrong_files(room: str) -> list[str]:
     """The files of the unpacked release that differ from those of this tree, apart from the programs."""
     there = {os.path.relpath(os.path.join(at, it), room) for at, _, names in os.walk(room) for it in names}
-    wanted = {target: source for source, target in programs.FILES.items()}
+    wanted = {target: pages.installed(it, programs.FILES) for it, target in programs.FILES.items()}
+    wanted["bin/hsp"] = companion.archive()
     faults = [
         f"the release has no {it}"
         for it in sorted(set(wanted) | {f"bin/{it}" for it in programs.PROGRAMS})
@@ -65,22 +67,12 @@ def wrong_files(room: str) -> list[str]:
         for it in sorted(there - set(wanted))
         if not it.startswith("bin/")
     ]
-    same = {
-        it
-        for it in there & set(wanted)
-        if filecmp.cmp(os.path.join(room, it), os.path.join(programs.TOP, wanted[it]), shallow=False)
-    }
-    faults += [f"the release has another {wanted[it]}: run make release" for it in sorted(there & set(wanted) - same)]
-    return faults + wrong_companion(os.path.join(room, "bin", "hsp"))
-
-
-def wrong_companion(path: str) -> list[str]:
-    """A fault where the released companion is not the one of this tree."""
-    if not os.path.isfile(path):
-        return ["the release has no bin/hsp"]
-    with open(path, "rb") as file:
-        fine = file.read() == companion.archive()
-    return [] if fine else ["the release has another bin/hsp: run make release"]
+    faults += [
+        f"the release has another {it}: run make release"
+        for it in sorted(there & set(wanted))
+        if programs.octets_of(room, it) != wanted[it]
+    ]
+    return faults + pages.dead_links(room, pages.below(room))[0]
 
 
 def wrong_programs(room: str) -> list[str]:

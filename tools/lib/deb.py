@@ -22,7 +22,7 @@ import time
 from collections.abc import Iterator
 from typing import NamedTuple
 
-from lib import companion, programs
+from lib import companion, pages, programs
 
 TEXTS = os.path.join(programs.TOP, "tools", "debian")
 MODULES = "usr/share/hsplan"
@@ -43,11 +43,6 @@ class File(NamedTuple):
 
     octets: bytes
     mode: int = 0o644
-
-
-def octets_of(*path: str) -> bytes:
-    with open(os.path.join(programs.TOP, *path), "rb") as file:
-        return file.read()
 
 
 def packer() -> str:
@@ -86,7 +81,7 @@ def epoch() -> int:
 
 def field(name: str) -> str:
     """A field of the package's control file."""
-    lines = octets_of(TEXTS, "control").decode().splitlines()
+    lines = programs.octets_of(TEXTS, "control").decode().splitlines()
     return next(it.partition(": ")[2] for it in lines if it.startswith(f"{name}: "))
 
 
@@ -122,7 +117,7 @@ def is_kept(path: str, rules: list[str]) -> bool:
 
 def examples() -> Iterator[str]:
     """The files of the examples that are kept, by their paths in the folder of examples."""
-    lines = octets_of(EXAMPLES, ".gitignore").decode().splitlines()
+    lines = programs.octets_of(EXAMPLES, ".gitignore").decode().splitlines()
     rules = [it for it in lines if it and not it.startswith("#")]
     for at, folders, names in os.walk(EXAMPLES):
         folders[:] = sorted(it for it in folders if it != "out")
@@ -137,20 +132,25 @@ def place(target: str) -> str:
     return f"usr/{target}"
 
 
+def places() -> dict[str, str]:
+    """Where the package has the files of this tree, by their paths from the top."""
+    found = {source: place(target) for source, target in programs.FILES.items()}
+    return found | {f"examples/{it}": f"{DOCUMENTS}/examples/{it}" for it in examples()}
+
+
 def held(made: dict[str, str]) -> dict[str, File]:
     """The files of the package by their paths. The programs are those that `made` names by their paths."""
-    found = {f"usr/bin/{name}": File(octets_of(path), 0o755) for name, path in made.items()}
+    found = {f"usr/bin/{name}": File(programs.octets_of(path), 0o755) for name, path in made.items()}
     found["usr/bin/hsp"] = File((START + companion.MAIN.removeprefix("import sys\n")).encode(), 0o755)
     found |= {f"{MODULES}/{name}": File(octets) for name, octets in companion.modules().items()}
-    for source, target in programs.FILES.items():
-        octets, path = octets_of(source), place(target)
-        is_manual = target.startswith("share/man/")
+    paths = places()
+    for source, path in paths.items():
+        octets, is_manual = pages.installed(source, paths), path.startswith("usr/share/man/")
         found[f"{path}.gz" if is_manual else path] = File(zipped(octets) if is_manual else octets)
-    found |= {f"{DOCUMENTS}/examples/{it}": File(octets_of(EXAMPLES, it)) for it in examples()}
     found[f"{DOCUMENTS}/changelog.gz"] = File(zipped(changelog()))
-    found[f"{DOCUMENTS}/copyright"] = File(octets_of(TEXTS, "copyright"))
-    found["usr/share/lintian/overrides/hsplan"] = File(octets_of(TEXTS, "lintian-overrides"))
-    found["usr/share/python3/runtime.d/hsplan.rtupdate"] = File(octets_of(TEXTS, "rtupdate"), 0o755)
+    found[f"{DOCUMENTS}/copyright"] = File(programs.octets_of(TEXTS, "copyright"))
+    found["usr/share/lintian/overrides/hsplan"] = File(programs.octets_of(TEXTS, "lintian-overrides"))
+    found["usr/share/python3/runtime.d/hsplan.rtupdate"] = File(programs.octets_of(TEXTS, "rtupdate"), 0o755)
     return found
 
 
@@ -166,9 +166,9 @@ def folders_of(paths: Iterator[str] | list[str]) -> list[str]:
 def control(files: dict[str, File]) -> dict[str, File]:
     """The files that control the installation. The size counts whole kilobytes of a file, and one of a folder."""
     size = sum((len(it.octets) + 1023) // 1024 for it in files.values()) + len(folders_of(list(files)))
-    text = octets_of(TEXTS, "control").decode().format(version=programs.version(), kilobytes=size)
+    text = programs.octets_of(TEXTS, "control").decode().format(version=programs.version(), kilobytes=size)
     sums = "".join(f"{hashlib.md5(it.octets).hexdigest()}  {path}\n" for path, it in sorted(files.items()))
-    scripts = {f"DEBIAN/{it}": File(octets_of(TEXTS, it), 0o755) for it in ("postinst", "prerm")}
+    scripts = {f"DEBIAN/{it}": File(programs.octets_of(TEXTS, it), 0o755) for it in ("postinst", "prerm")}
     return {"DEBIAN/control": File(text.encode()), "DEBIAN/md5sums": File(sums.encode()), **scripts}
 
 

@@ -18,7 +18,7 @@ from typing import Callable, Dict, Iterator, List, NamedTuple, NoReturn, Optiona
 TOP = os.path.dirname(os.path.dirname(os.path.dirname(os.path.abspath(__file__))))
 PROGRAMS = ("hsplan", "hsplan-stream")
 RELEASE = os.path.join(TOP, "release")
-# What a release holds beside the programs, each file with its path below PREFIX.
+# What a release holds beside the programs, each file with its path below PREFIX (pages: see tools/lib/pages.py).
 FILES = {
     "docs/use/hsplan.1": "share/man/man1/hsplan.1",
     "docs/use/hsplan-stream.1": "share/man/man1/hsplan-stream.1",
@@ -32,6 +32,7 @@ FILES = {
     "completions/hsp.bash": "share/bash-completion/completions/hsp",
     "completions/_hsp": "share/zsh/site-functions/_hsp",
     "completions/hsp.fish": "share/fish/vendor_completions.d/hsp.fish",
+    "README.md": "share/doc/hsplan/README.md",
     "docs/use/GUIDE.md": "share/doc/hsplan/use/GUIDE.md",
     "docs/use/FAULTS.md": "share/doc/hsplan/use/FAULTS.md",
     "docs/use/LIMITS.md": "share/doc/hsplan/use/LIMITS.md",
@@ -39,7 +40,10 @@ FILES = {
     "docs/use/FORCE.md": "share/doc/hsplan/use/FORCE.md",
     "docs/use/PROXY.md": "share/doc/hsplan/use/PROXY.md",
     "docs/use/DAY.md": "share/doc/hsplan/use/DAY.md",
+    "docs/maintain/BENCH.md": "share/doc/hsplan/maintain/BENCH.md",
     "docs/pictures/flow.svg": "share/doc/hsplan/pictures/flow.svg",
+    "docs/pictures/loads.svg": "share/doc/hsplan/pictures/loads.svg",
+    "docs/pictures/page.png": "share/doc/hsplan/pictures/page.png",
     "docs/pictures/record.svg": "share/doc/hsplan/pictures/record.svg",
 }
 LEAST_GLIBC = (2, 34)
@@ -60,6 +64,11 @@ class Program(NamedTuple):
 
 def text_of(*path: str) -> str:
     with open(os.path.join(TOP, *path), encoding="utf-8") as file:
+        return file.read()
+
+
+def octets_of(*path: str) -> bytes:
+    with open(os.path.join(TOP, *path), "rb") as file:
         return file.read()
 
 
@@ -109,8 +118,7 @@ def digest() -> str:
     crates, whole = crates_of(), hashlib.sha256()
     whole.update(("\n".join(sorted(lines_of(crates))) + "\n" + text_of("HANDLES")).encode())
     for path in sources(crates):
-        with open(os.path.join(TOP, path), "rb") as file:
-            whole.update(f"{path} {hashlib.sha256(file.read()).hexdigest()}\n".encode())
+        whole.update(f"{path} {sum_of(path)}\n".encode())
     return whole.hexdigest()
 
 
@@ -175,8 +183,7 @@ def made() -> Dict[str, str]:
 
 
 def sum_of(path: str) -> str:
-    with open(path, "rb") as file:
-        return hashlib.sha256(file.read()).hexdigest()
+    return hashlib.sha256(octets_of(path)).hexdigest()
 
 
 def kit() -> str:
