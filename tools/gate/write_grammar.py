@@ -225,17 +225,21 @@ def alone(programs: list[Program]) -> list[Program]:
     return found
 
 
+def _below(command: click.Command) -> dict[str, click.Command]:
+    """The commands of a group by their names; none of another command."""
+    from hsp.base.groups import Group
+
+    return command.all_commands() if isinstance(command, Group) else {}
+
+
 def companion(behind: list[Program]) -> Program:
     """hsp with its commands."""
-    from hsp.base.groups import Group
     from hsp.cli import main
 
     found = []
-    for name, command in main.all_commands().items():
-        if isinstance(command, Group):
-            found += [_of_click(f"{name} {it}", inner) for it, inner in command.all_commands().items()]
-        else:
-            found.append(_of_click(name, command))
+    for name, command in _below(main).items():
+        inner = [_of_click(f"{name} {it}", one) for it, one in _below(command).items()]
+        found += inner or [_of_click(name, command)]
     return Program("hsp", tuple(found), (HELP, FLAGS["hsplan-stream"][1]), tuple(behind))
 
 
