@@ -16,6 +16,8 @@ from selenium import webdriver
 from selenium.webdriver.chrome.options import Options
 from selenium.webdriver.chrome.service import Service as Driver
 
+from conftest import Hsp
+
 WIDTHS = (1200, 420)
 # The contrast of each text with what is behind it (WCAG 2.1, success criterion 1.4.3), least first.
 CONTRAST = """
@@ -34,6 +36,20 @@ while (walk.nextNode()) {
 }
 return found.sort((a, b) => a[0] - b[0])[0];
 """
+
+
+def viewed(hsp: Hsp, room: Path, words: dict[str, list[str]]) -> dict[str, Path]:
+    """The pages that `hsp view` writes into a folder, each by its words. Names of shortages begin with `short`."""
+    for name, given in words.items():
+        hsp("view", *given, "-o", str(room / f"{name}.html"), status=3 if name.startswith("short") else 0)
+    return {name: room / f"{name}.html" for name in words}
+
+
+def widened(two: Path, wider: Path) -> Path:
+    """A copy of the example of two sites in which a full server has more room."""
+    shutil.copytree(two, wider)
+    (wider / "capacity.csv").write_text((two / "capacity.csv").read_text().replace("paris,2,1510", "paris,2,1800"))
+    return wider
 
 
 class Page:

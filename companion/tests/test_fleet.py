@@ -544,19 +544,25 @@ def test_a_worker_whose_program_has_one_octet_more_gets_no_part(
     assert not left(tmp_path)
 
 
+def begun(cluster: Cluster, folder: Path) -> "subprocess.Popen[str]":
+    """A run of a cluster that has begun a part of a log in a folder. It is to write a table `t`, and to keep rows."""
+    cluster.worker("own", os.environ["PATH"])
+    log = folder / "log"
+    log.write_text("".join(f"{server_line(it)}\n" for it in asked(10_000, 92)) * 40)
+    options = ["--regions", regions_file(folder), "--scheduler", cluster.address, "--keep", ".rows"]
+    run = started("demand", log, *options, "-o", folder / "t")
+    until = time.monotonic() + 60
+    while not left(folder) and run.poll() is None and time.monotonic() < until:
+        time.sleep(0.01)
+    assert left(folder)
+    return run
+
+
 @pytest.mark.parametrize("number", [signal.SIGINT, signal.SIGKILL])
 def test_a_cluster_ends_the_parts_of_a_run_that_is_gone(
     cluster: Cluster, tmp_path: Path, number: signal.Signals
 ) -> None:
-    cluster.worker("own", os.environ["PATH"])
-    log = tmp_path / "log"
-    log.write_text("".join(f"{server_line(it)}\n" for it in asked(10_000, 92)) * 40)
-    options = ["--regions", regions_file(tmp_path), "--scheduler", cluster.address, "--keep", ".rows"]
-    run = started("demand", log, *options, "-o", tmp_path / "t")
-    until = time.monotonic() + 60
-    while not left(tmp_path) and run.poll() is None and time.monotonic() < until:
-        time.sleep(0.01)
-    assert left(tmp_path)
+    run = begun(cluster, tmp_path)
     os.kill(run.pid, number)
     run.communicate(timeout=60)
     assert run.returncode == (130 if number == signal.SIGINT else -signal.SIGKILL)
@@ -591,14 +597,7 @@ def test_a_cluster_with_keys_answers_who_has_one(million: Million, cluster: Clus
 
 
 def test_a_cluster_whose_scheduler_goes_away_is_one_line(cluster: Cluster, tmp_path: Path) -> None:
-    cluster.worker("own", os.environ["PATH"])
-    log = tmp_path / "log"
-    log.write_text("".join(f"{server_line(it)}\n" for it in asked(10_000, 93)) * 40)
-    options = ["--regions", regions_file(tmp_path), "--scheduler", cluster.address, "--keep", ".rows"]
-    run = started("demand", log, *options, "-o", tmp_path / "t")
-    until = time.monotonic() + 60
-    while not left(tmp_path) and run.poll() is None and time.monotonic() < until:
-        time.sleep(0.01)
+    run = begun(cluster, tmp_path)
     os.kill(cluster.scheduler, signal.SIGKILL)
     said = ended(run, 5)
     assert said.startswith("hsp: the scheduler has ") and said.count("\n") == 1 and not (tmp_path / "t").exists()

@@ -19,7 +19,7 @@ from hsp.base.programs import Programs
 from hsp.plans.plans import planned
 from hsp.plans.service import read_service
 
-from browsers import WIDTHS, Page, allowed, assert_stands, browser
+from browsers import WIDTHS, Page, allowed, assert_stands, browser, viewed, widened
 from conftest import TOP, Hsp
 
 __all__ = ["browser"]
@@ -31,8 +31,7 @@ def pages(hsp: Hsp, tmp_path_factory: pytest.TempPathFactory) -> dict[str, Path]
     """The pages of the example of two sites, as if a table held two rows only."""
     room = tmp_path_factory.mktemp("log-pages")
     own = Path(shutil.copytree(TOP / "examples" / "two-sites", room / "two sites"))
-    wider = Path(shutil.copytree(own, room / "wider"))
-    (wider / "capacity.csv").write_text((own / "capacity.csv").read_text().replace("paris,2,1510", "paris,2,1800"))
+    wider = widened(own, room / "wider")
     (wider / "demand.csv").write_text((own / "demand.csv").read_text().replace(",475", ",476"))
     words = {
         "log": [str(own), "--unit", "ms"],
@@ -41,9 +40,7 @@ def pages(hsp: Hsp, tmp_path_factory: pytest.TempPathFactory) -> dict[str, Path]
     }
     with pytest.MonkeyPatch.context() as patched:
         patched.setattr("hsp.plans.counted.MOST_DEMAND_ROWS", 2)
-        for name, given in words.items():
-            hsp("view", *given, "-o", str(room / f"{name}.html"), status=3 if name == "short" else 0)
-    return {name: room / f"{name}.html" for name in NAMES}
+        return viewed(hsp, room, words)
 
 
 @pytest.mark.parametrize("scheme", ["light", "dark"])

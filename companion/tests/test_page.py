@@ -22,7 +22,7 @@ from hsp.plans.page import ServerView, changes_between
 from hsp.plans.plans import planned
 from hsp.plans.service import read_service
 
-from browsers import WIDTHS, Page, allowed, assert_stands, browser
+from browsers import WIDTHS, Page, allowed, assert_stands, browser, viewed, widened
 from conftest import TOP, Hsp
 
 from lib import instances, memory
@@ -36,8 +36,7 @@ def pages(hsp: Hsp, twelve: Path, tmp_path_factory: pytest.TempPathFactory) -> d
     room = tmp_path_factory.mktemp("pages")
     two = Path(shutil.copytree(TOP / "examples" / "two-sites", room / "two-sites"))
     base = Path(shutil.copytree(TOP / "examples" / "base", room / "base"))
-    wider = Path(shutil.copytree(two, room / "wider"))
-    (wider / "capacity.csv").write_text((two / "capacity.csv").read_text().replace("paris,2,1510", "paris,2,1800"))
+    wider = widened(two, room / "wider")
     words = {
         "two-sites": [str(two), "--unit", "ms"],
         "base": [str(base)],
@@ -47,9 +46,7 @@ def pages(hsp: Hsp, twelve: Path, tmp_path_factory: pytest.TempPathFactory) -> d
         "ahead": [str(two), "--more", "--reserve", "2", "--settings", str(two / "hosts.toml")],
         "twelve-sites": [str(twelve)],
     }
-    for name, given in words.items():
-        hsp("view", *given, "-o", str(room / f"{name}.html"), status=3 if name == "shortage" else 0)
-    return {name: room / f"{name}.html" for name in PAGES}
+    return viewed(hsp, room, words)
 
 
 @pytest.mark.parametrize("scheme", ["light", "dark"])

@@ -188,9 +188,7 @@ def tried(room: str, begun: float) -> tuple[list[str], str]:
 
 def main() -> int:
     begun = time.monotonic()
-    absent = [path for path in map(programs.tested, programs.PROGRAMS) if not os.access(path, os.X_OK)]
-    if absent:
-        print(f"no program {absent[0]}: run rt ci first")
+    if programs.is_absent(*map(programs.tested, programs.PROGRAMS)):
         return 1
     if not deb.packer():
         print("NOT TRIED: the package of Debian: this machine has no dpkg-deb")

@@ -302,8 +302,7 @@ def main() -> int:
     )
     arguments.add_argument("--bash", action="store_true", help="run the commands in bash and no other shell")
     chosen = arguments.parse_args()
-    if not chosen.names and not os.access(chosen.program, os.X_OK):
-        print(f"no program {chosen.program}: run rt ci or make prove first")
+    if not chosen.names and programs.is_absent(chosen.program):
         return 1
     found = {kind: check() for kind, check in KINDS.items()}
     if not chosen.names:

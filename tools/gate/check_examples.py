@@ -51,8 +51,7 @@ def main() -> int:
     arguments.add_argument("--record", action="store_true", help="write into the transcripts what is printed")
     arguments.add_argument("names", nargs="*", help="the examples, if not all")
     chosen = arguments.parse_args()
-    if not os.access(chosen.program, os.X_OK):
-        print(f"no program {chosen.program}: run rt ci or make prove first")
+    if programs.is_absent(chosen.program):
         return 1
     found = [(path, read_steps(path)) for path in paths_of(chosen.names)]
     if chosen.record:

@@ -215,8 +215,7 @@ def main() -> int:
     words = argparse.ArgumentParser(description="Gives the built program files that are cut short or forged.")
     words.add_argument("--program", default=programs.tested("hsplan"))
     program = os.path.abspath(words.parse_args().program)
-    if not os.access(program, os.X_OK):
-        print(f"no program {program}: run rt ci first")
+    if programs.is_absent(program):
         return 1
     with tempfile.TemporaryDirectory() as room:
         written = cases.cases_in("hostile")

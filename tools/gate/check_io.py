@@ -386,8 +386,7 @@ def main() -> int:
     words.add_argument("--each", type=int, default=1, metavar="N", help="try one in N of the failing calls")
     words.add_argument("names", nargs="*", metavar="CASE")
     given = words.parse_args()
-    if not os.access(given.program, os.X_OK):
-        print(f"no program {given.program}: run rt ci first")
+    if programs.is_absent(given.program):
         return 1
     with tempfile.TemporaryDirectory() as room, concurrent.futures.ThreadPoolExecutor(given.jobs) as pool:
         tools = Tools(os.path.abspath(given.program), preload.built("fail_io", room), {}, given.each)

@@ -381,9 +381,7 @@ def main() -> int:
     words.add_argument("--jobs", type=int, default=len(os.sched_getaffinity(0)))
     given = words.parse_args()
     program, stream = os.path.abspath(given.program), os.path.abspath(given.stream)
-    absent = [it for it in (program, stream) if not os.access(it, os.X_OK)]
-    if absent:
-        print(f"no program {absent[0]}: run rt ci first")
+    if programs.is_absent(program, stream):
         return 1
     lengths = [*range(8_194), 65_535, 65_536, 65_537]
     with tempfile.TemporaryDirectory() as folder, concurrent.futures.ThreadPoolExecutor(given.jobs) as pool:

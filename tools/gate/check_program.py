@@ -98,9 +98,7 @@ def main() -> int:
     growth.jobs_of(arguments)
     arguments.add_argument("--most", type=int, metavar="N", help="refuse N allocations of each case that has more")
     given = arguments.parse_args()
-    absent = [path for path in map(programs.tested, programs.PROGRAMS) if not os.access(path, os.X_OK)]
-    if absent:
-        print(f"no program {absent[0]}: run rt ci first")
+    if programs.is_absent(*map(programs.tested, programs.PROGRAMS)):
         return 1
     faults = []
     with concurrent.futures.ThreadPoolExecutor(given.jobs) as pool:

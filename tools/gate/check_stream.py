@@ -603,9 +603,7 @@ def main() -> int:
     arguments.add_argument("--hsplan", default=programs.tested("hsplan"))
     arguments.add_argument("--million", type=int, default=1_000_000, metavar="N", help="handles of the long log")
     given = arguments.parse_args()
-    absent = [it for it in (given.program, given.hsplan) if not os.access(it, os.X_OK)]
-    if absent:
-        print(f"no program {absent[0]}: run rt ci first")
+    if programs.is_absent(given.program, given.hsplan):
         return 1
     with tempfile.TemporaryDirectory() as room:
         folder = os.path.join(room, "service")

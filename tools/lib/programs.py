@@ -138,6 +138,14 @@ def tested(name: str) -> str:
     return os.environ.get(variable(name)) or built_path(name)
 
 
+def is_absent(*paths: str) -> bool:
+    """Whether one of the programs that a script runs can't be run. Then a line names it."""
+    absent = [it for it in paths if not os.access(it, os.X_OK)]
+    if absent:
+        print(f"no program {absent[0]}: run rt ci or make prove first")
+    return bool(absent)
+
+
 def variables() -> Dict[str, str]:
     """The variables by which hsp finds the programs that a check tries."""
     return {variable(it): tested(it) for it in PROGRAMS}

@@ -328,9 +328,7 @@ def main() -> int:
     words.add_argument("--model", action="store_true", help="answer by prices by the model, and not by the program")
     given = words.parse_args()
     paths = [os.path.abspath(it) for it in (given.program, given.hsplan)]
-    absent = [it for it in paths if not os.access(it, os.X_OK)]
-    if absent:
-        print(f"no program {absent[0]}: run rt ci or make prove first")
+    if programs.is_absent(*paths):
         return 1
     with tempfile.TemporaryDirectory() as folder:
         scene = scene_in(folder, *paths)

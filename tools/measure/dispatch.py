@@ -177,8 +177,7 @@ def main() -> int:
     arguments.add_argument("--program", default=programs.tested("hsplan"))
     arguments.add_argument("--stream", default=programs.tested("hsplan-stream"))
     chosen = arguments.parse_args()
-    if not os.access(chosen.program, os.X_OK):
-        print(f"no program {chosen.program}: run rt ci or make prove first")
+    if programs.is_absent(chosen.program):
         return 1
     with tempfile.TemporaryDirectory() as folder:
         peer = peer_in(folder) if os.access(chosen.stream, os.X_OK) else None

@@ -148,9 +148,7 @@ def main() -> int:
     arguments.add_argument("--hsplan", default=programs.tested("hsplan"))
     given = arguments.parse_args()
     program, hsplan = os.path.abspath(given.program), os.path.abspath(given.hsplan)
-    absent = [it for it in (program, hsplan) if not os.access(it, os.X_OK)]
-    if absent:
-        print(f"no program {absent[0]}: run rt ci or make prove first")
+    if programs.is_absent(program, hsplan):
         return 1
     if hasattr(os, "sched_setaffinity"):
         os.sched_setaffinity(0, {max(os.sched_getaffinity(0))})
