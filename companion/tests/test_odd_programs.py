@@ -13,14 +13,13 @@ from typing import Any
 
 import pytest
 
-from hsp import cli
-
 from hsp.base import files, signals, units
 
 from hsp.intake import forms, logs, outlook, regions
 
 from hsp.base.programs import Inputs, Missing, Programs
 from hsp.base.unfit import Unfit
+from hsp.commands import shared
 from hsp.doctor import examined, examined_words, faults, guard
 from hsp.doctor.question import Said, said_of
 from hsp.fleet import demand, dispatch
@@ -52,14 +51,13 @@ def odd(tmp_path: Path, monkeypatch: pytest.MonkeyPatch) -> Callable[[str, str],
 def test_a_plan_that_its_own_checker_refuses(example: Example, odd: Callable[[str, str], None]) -> None:
     folder = example("two-sites")
     odd("hsplan", '[ "$1" = check ] && { echo "no 5 Cost"; exit 3; }')
-    said = invoke("plan", folder, status=1)
-    assert said.stdout == "" and not (folder / "plan.txt").exists()
     line = "hsp: hsplan check says no 5 Cost to hsplan's own plan: please report this with your files\n"
-    assert said.stderr == line
-    said = invoke("view", folder, status=5)
-    assert (
-        said.stderr == "hsp: hsplan check doesn't say yes to hsplan's own plan: please report this with your files\n"
-    )
+    networks = TOP / "examples" / "bring-in" / "networks.csv"
+    into = ["--into", folder / "proxy", "--socket", "/tmp/admin.sock"]
+    for words in (["plan"], ["view"], ["export", "haproxy", "--regions", networks, *into]):
+        said = invoke(*words, folder, status=5)
+        assert said.stdout == "" and said.stderr == line
+    assert not (folder / "plan.txt").exists() and not (folder / "proxy").exists()
     assert (folder / "plan.html").read_bytes() == (TOP / "examples" / "two-sites" / "plan.html").read_bytes()
 
 
@@ -128,10 +126,10 @@ def test_folders_that_are_not_there_lock_nothing(tmp_path: Path) -> None:
 
 def test_progress_of_plans_at_a_terminal(monkeypatch: pytest.MonkeyPatch) -> None:
     lines: list[str] = []
-    monkeypatch.setattr(cli, "show_progress", lines.append)
-    monkeypatch.setattr(cli.sys.stderr, "isatty", lambda: True, raising=False)
+    monkeypatch.setattr(shared, "show_progress", lines.append)
+    monkeypatch.setattr(shared.sys.stderr, "isatty", lambda: True, raising=False)
     for number in (7, 8):
-        done = cli.progress(number)
+        done = shared.progress(number)
         for _ in range(number):
             done()
     assert lines == [f"planning: {at} of 8" for at in range(1, 8)] + [""]
@@ -140,8 +138,9 @@ def test_progress_of_plans_at_a_terminal(monkeypatch: pytest.MonkeyPatch) -> Non
 @pytest.mark.parametrize("words", ["plan --no-save", "view", "whatif", "whatif --server paris:2"])
 def test_as_many_plans_are_counted_as_are_made(example: Example, monkeypatch: pytest.MonkeyPatch, words: str) -> None:
     said: list[int] = []
-    monkeypatch.setattr(cli, "progress", lambda number: said.append(number) or (lambda: said.append(-1)))
     command, *options = words.split()
+    module = f"hsp.commands.{command}"
+    monkeypatch.setattr(f"{module}.progress", lambda number: said.append(number) or (lambda: said.append(-1)))
     invoke(command, example("two-sites"), *options)
     assert said[0] > 0 == sum(said) and said.count(-1) == len(said) - 1
 

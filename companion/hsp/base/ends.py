@@ -4,6 +4,7 @@ from __future__ import annotations
 
 import os
 import sys
+from typing import NoReturn
 
 from hsp.base.text import say
 
@@ -27,7 +28,7 @@ def to_nowhere(stream: int) -> None:
     os.dup2(os.open(os.devnull, os.O_WRONLY), stream)
 
 
-def lost(fault: OSError) -> None:
+def lost(fault: OSError) -> NoReturn:
     """Ends where a file, or standard output, can't be read or written. Nothing is said where nobody reads on."""
     if fault.filename is None:
         to_nowhere(1)
@@ -35,7 +36,7 @@ def lost(fault: OSError) -> None:
     ended(5, *([] if isinstance(fault, BrokenPipeError) else [f"{name}: {fault.strerror}"]))
 
 
-def ended(status: int, *lines: str) -> None:
+def ended(status: int, *lines: str) -> NoReturn:
     """Prints lines on standard error, where these can be written, and ends with a status."""
     try:
         for line in lines:

@@ -9,11 +9,10 @@ import os
 import sys
 from collections.abc import Mapping
 from types import SimpleNamespace
-from typing import Any
+from typing import Any, NoReturn
 
 import click
 
-from hsp.base.ends import ended
 from hsp.base.files import refuse_clashes, replace_all
 from hsp.base.paths import path_in
 from hsp.base.programs import Programs
@@ -116,7 +115,7 @@ def purchase_of(service: Service, bought: Mapping[Server, int]) -> list[dict[str
     return found
 
 
-def show_shortage(service: Service, programs: Programs, as_json: bool) -> None:
+def show_shortage(service: Service, programs: Programs, as_json: bool) -> NoReturn:
     """Shows who lacks what, and what has to be bought. Ends with status 3."""
     short = shortage(service, programs)
     bought = None if short.stranded else least_purchase(service, programs)
@@ -186,10 +185,7 @@ def plan(folder: str, **given: Any) -> None:
         priced = [server for server in service.servers if found.prices[server.number] > 0 and found.is_full(server)]
         found = with_gains(found, programs, progress(len(priced)))
     later = ahead(service, path) if said.more and not said.as_csv else None
-    verdict = programs.verdict(service.inputs, service.plan_file)
-    if verdict != "yes":
-        name = service.inputs.program
-        ended(1, f"{name} check says {verdict} to {name}'s own plan: please report this with your files")
+    programs.insist(service.inputs, service.plan_file)
     lines = [] if said.no_save else keep(service, programs, path, near)
     if said.as_csv or said.as_json:
         give(csv_of(found) if said.as_csv else json_of(found, reference, near, later))
@@ -199,7 +195,7 @@ def plan(folder: str, **given: Any) -> None:
     for line in [*plan_lines(found, reference, said.every), *more]:
         say(line)
     kept = "" if said.no_save else f"; kept in {path}"
-    for line in [f"check {colored(verdict, 'green')}: no plan within these capacities costs less{kept}", *lines]:
+    for line in [f"check {colored('yes', 'green')}: no plan within these capacities costs less{kept}", *lines]:
         say(line)
     if (not service.sites or service.is_empty) and not any(given.values()):
         say(next_step(service, programs))

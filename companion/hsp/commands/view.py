@@ -13,7 +13,7 @@ import click
 from hsp.base.files import refuse_clashes
 from hsp.base.numbers import some
 from hsp.base.paths import path_in
-from hsp.base.programs import Missing, Programs
+from hsp.base.programs import Programs
 from hsp.base.text import say
 from hsp.commands.shared import OUTPUT, ahead, progress, write
 from hsp.doctor.service_folder import read_in, sound, with_files
@@ -73,9 +73,7 @@ def view_of(service: Service, programs: Programs, before: str | None) -> View:
     if after:
         found = planned(after, programs)
         shown.plan = with_gains(found, programs, progress(sum(price > 0 for price in found.prices)))
-        if programs.verdict(after.inputs, after.plan_file) != "yes":
-            name = after.inputs.program
-            raise Missing(f"{name} check doesn't say yes to {name}'s own plan: please report this with your files")
+        programs.insist(after.inputs, after.plan_file)
     held = earlier(before, programs, service) if before else None
     if held:
         shown.before, shown.reference = held

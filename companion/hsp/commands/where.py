@@ -8,10 +8,9 @@ import sys
 import click
 
 from hsp.base.ends import ended
-from hsp.base.paths import shell_word
 from hsp.base.programs import Programs
 from hsp.base.text import give, is_utf8, say
-from hsp.doctor.service_folder import Folder, sound
+from hsp.doctor.service_folder import Folder, refuse_shortage, sound
 from hsp.plans.where import json_of as where_json
 from hsp.plans.where import lines as where_lines
 from hsp.plans.where import where as where_goes
@@ -32,8 +31,7 @@ def where(folder: str, region: str, handle: str, as_json: bool) -> None:
         ended(1, "a region and a handle are text")
     programs = Programs()
     service = sound(folder, programs, {})
-    if not service.certificate.is_plan:
-        ended(3, f"not all queries can be served, and there is no plan: hsp plan {shell_word(folder)}")
+    refuse_shortage(folder, service)
     found = where_goes(service, programs, region, handle)
     if as_json:
         give(json.dumps(where_json(found, region, handle), indent=2, ensure_ascii=False) + "\n")

@@ -9,6 +9,7 @@ from typing import Any, TypeVar
 
 import click
 
+from hsp.base.ends import ended
 from hsp.base.numbers import listed, some
 from hsp.base.paths import path_in, shell_word
 from hsp.base.programs import Programs
@@ -20,6 +21,7 @@ from hsp.doctor.printing import lines as finding_lines
 from hsp.plans.marks import TITLES
 from hsp.plans.service import NAMES, VALUES, Service
 
+SHORTAGE = 3
 Command = TypeVar("Command", bound=Callable[..., Any])
 
 
@@ -68,3 +70,9 @@ def sound(
         titles = visible(listed(dict.fromkeys(warning.message for warning in warnings), 2))
         say(f"hsp: {some(len(warnings), 'warning')}: {titles} (hsp doctor {visible(shell_word(folder))})", err=True)
     return found.service
+
+
+def refuse_shortage(folder: str, service: Service) -> None:
+    """Ends where not all queries of a folder can be served."""
+    if not service.certificate.is_plan:
+        ended(SHORTAGE, f"not all queries can be served, and there is no plan: hsp plan {shell_word(folder)}")

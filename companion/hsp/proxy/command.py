@@ -4,7 +4,6 @@ from __future__ import annotations
 
 import os
 import re
-import sys
 from dataclasses import dataclass
 from typing import Any
 
@@ -17,7 +16,7 @@ from hsp.base.paths import path_in, shell_word
 from hsp.base.programs import Missing, Prices, Programs
 from hsp.base.text import say
 from hsp.base.unfit import Unfit, shown
-from hsp.doctor.service_folder import read_in, sound, with_files
+from hsp.doctor.service_folder import read_in, refuse_shortage, sound, with_files
 from hsp.intake.addresses import targets_of, twins
 from hsp.plans.marks import TITLES, titles_of
 from hsp.plans.proxied import CHECK, PROXY, Proxied, is_address, network_of, proxied_in
@@ -27,7 +26,6 @@ from hsp.proxy.kinds import shares_of
 from hsp.proxy.networks import Map, map_of
 
 LISTEN, WATCH = "127.0.0.1:8080", "127.0.0.1:8405"
-SHORTAGE = 3
 
 
 @click.group(cls=Group)
@@ -99,12 +97,8 @@ def checked(folder: str, programs: Programs, given: dict[str, str | None]) -> Se
     service = sound(folder, programs, given)
     if not service.sites:
         raise Unfit(f"{service.inputs.settings}: no site, so nobody can answer")
-    if not service.certificate.is_plan:
-        say(f"hsp: not all queries can be served, and there is no plan: hsp plan {shell_word(folder)}", err=True)
-        sys.exit(SHORTAGE)
-    verdict = programs.verdict(service.inputs, service.plan_file)
-    if verdict != "yes":
-        raise Unfit(f"hsplan check says {verdict} to hsplan's own plan: please report this with your files")
+    refuse_shortage(folder, service)
+    programs.insist(service.inputs, service.plan_file)
     return service
 
 

@@ -48,9 +48,7 @@ def counted(before: Counts | None, now: Reading, length: float) -> Counts:
     period = int(now.at // length)
     known = before if before and before.length == length else None
     taken = Counter(known.taken) if known and known.period == period else Counter[str]()
-    return Counts(
-        period, length, now.run, now.counts, dict(taken + _fresh(known, now, period * length)), now.at
-    )
+    return Counts(period, length, now.run, now.counts, dict(taken + _fresh(known, now, period * length)), now.at)
 
 
 def sum_of(counts: Iterable[Counts], period: int, length: float) -> Counts:
