@@ -10,13 +10,12 @@ from typing import Any
 import click
 
 from hsp import __version__
-from hsp.base.ends import ended, lost, with_streams
+from hsp.base.ends import BROKEN, OUT_OF_MEMORY, ended, lost, with_streams
 from hsp.base.groups import Group
 from hsp.base.programs import Missing, Programs, Refused
 from hsp.base.signals import Stopped, stopping
 from hsp.base.text import escaped, say
 
-OUT_OF_MEMORY = 4
 # The modules of the commands.
 MODULES = {
     "plan": "hsp.commands.plan",
@@ -37,8 +36,8 @@ MODULES = {
 
 
 @contextlib.contextmanager
-def of_words() -> Iterator[None]:
-    """Lets faults of words show these as they may be shown: names of files stand among them."""
+def visible_faults() -> Iterator[None]:
+    """Escapes what faults of the words say: names of files stand among these, and may have any octets."""
     try:
         yield
     except click.ClickException as fault:
@@ -50,15 +49,15 @@ class Commands(Group):
     """The commands, and one place for faults."""
 
     def make_context(self, *words: Any, **more: Any) -> click.Context:
-        with of_words():
+        with visible_faults():
             return super().make_context(*words, **more)
 
     def invoke(self, context: click.Context) -> Any:
         try:
-            with of_words():
+            with visible_faults():
                 return super().invoke(context)
         except Missing as fault:
-            ended(5, *fault.lines)
+            ended(BROKEN, *fault.lines)
         except Refused as fault:
             ended(fault.status, f"hsplan refuses these files: {fault.line}")
         except OSError as fault:
@@ -101,6 +100,3 @@ def main(context: click.Context) -> None:
             say("help  hsp --help")
         else:
             click.echo(context.get_help())
-
-
-__all__ = ["main"]

@@ -8,6 +8,9 @@ from typing import NoReturn
 
 from hsp.base.text import say
 
+# Not all queries can be served; memory ran out; a file or a program isn't there or fails.
+SHORTAGE, OUT_OF_MEMORY, BROKEN = 3, 4, 5
+
 
 def with_streams() -> None:
     """Opens the null device for each standard stream that is closed, so that no file gets its number. Ends where that
@@ -20,7 +23,7 @@ def with_streams() -> None:
     sys.stdin = sys.stdin or open(0, encoding="utf-8")
     sys.stderr = sys.stderr or open(2, "w", encoding="utf-8")
     if is_closed:
-        ended(5, "standard output is closed")
+        ended(BROKEN, "standard output is closed")
 
 
 def to_nowhere(stream: int) -> None:
@@ -30,10 +33,11 @@ def to_nowhere(stream: int) -> None:
 
 def lost(fault: OSError) -> NoReturn:
     """Ends where a file, or standard output, can't be read or written. Nothing is said where nobody reads on."""
-    if fault.filename is None:
+    name = fault.filename
+    if name is None:
+        name = "standard output"
         to_nowhere(1)
-    name = "standard output" if fault.filename is None else fault.filename
-    ended(5, *([] if isinstance(fault, BrokenPipeError) else [f"{name}: {fault.strerror}"]))
+    ended(BROKEN, *([] if isinstance(fault, BrokenPipeError) else [f"{name}: {fault.strerror}"]))
 
 
 def ended(status: int, *lines: str) -> NoReturn:

@@ -30,6 +30,7 @@ class Group(click.Group):
         return {name: self._known(name) for name in self.names()}
 
     def _known(self, name: str) -> click.Command:
+        """A command of this group, imported where it wasn't wanted before."""
         if name not in self.commands:
             self.add_command(getattr(importlib.import_module(self._elsewhere[name]), name))
         return self.commands[name]
@@ -41,14 +42,14 @@ class Group(click.Group):
         return self._known(name) if name in self.names() else None
 
     def meant_by(self, word: str) -> str:
-        """A near name, or a command of another program."""
+        """What a word that is no command likely means: a near name, or a command of another program."""
         near = difflib.get_close_matches(word, self.names(), 1, 0.8 if program_of(word) else 0.5)
-        others = [f"'{name}'" for name in near]
+        found = [f"'{name}'" for name in near]
         if program_of(word):
-            others.append(f"'{program_of(word)} {word}'")
+            found.append(f"'{program_of(word)} {word}'")
         if word in ("help", "version"):
-            others.append(f"'hsp --{word}'")
-        return f"; did you mean {' or '.join(others)}?" if others else ""
+            found.append(f"'hsp --{word}'")
+        return f"; did you mean {' or '.join(found)}?" if found else ""
 
     def resolve_command(
         self, context: click.Context, words: list[str]

@@ -13,6 +13,7 @@ from typing import Any, NoReturn
 
 import click
 
+from hsp.base.ends import SHORTAGE
 from hsp.base.files import refuse_clashes, replace_all
 from hsp.base.paths import path_in
 from hsp.base.programs import Programs
@@ -128,7 +129,7 @@ def show_shortage(service: Service, programs: Programs, as_json: bool) -> NoRetu
         say(head(service))
         for line in shortage_lines(service, short, bought, after):
             say(line)
-    sys.exit(3)
+    sys.exit(SHORTAGE)
 
 
 def keep(service: Service, programs: Programs, path: str, near: Near | None) -> list[str]:

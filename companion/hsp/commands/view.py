@@ -10,6 +10,7 @@ from typing import Any
 
 import click
 
+from hsp.base.ends import SHORTAGE
 from hsp.base.files import refuse_clashes
 from hsp.base.numbers import some
 from hsp.base.paths import path_in
@@ -114,4 +115,4 @@ def view(folder: str, before: str | None, **given: Any) -> None:
     write(path, text)
     rows = some(len(service.rows), "kind" if service.mark.is_joined else "row")
     say(f"{path}  {len(text.encode()) / 1024:,.0f} KiB, {service.rows_words if service.log else rows}")
-    sys.exit(0 if service.certificate.is_plan else 3)
+    sys.exit(0 if service.certificate.is_plan else SHORTAGE)

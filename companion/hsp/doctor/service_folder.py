@@ -9,7 +9,7 @@ from typing import Any, TypeVar
 
 import click
 
-from hsp.base.ends import ended
+from hsp.base.ends import SHORTAGE, ended
 from hsp.base.numbers import listed, some
 from hsp.base.paths import path_in, shell_word
 from hsp.base.programs import Programs
@@ -21,7 +21,6 @@ from hsp.doctor.printing import lines as finding_lines
 from hsp.plans.marks import TITLES
 from hsp.plans.service import NAMES, VALUES, Service
 
-SHORTAGE = 3
 Command = TypeVar("Command", bound=Callable[..., Any])
 
 

@@ -12,6 +12,7 @@ import subprocess
 from collections.abc import Iterator
 from typing import IO, Any
 
+from hsp.base.ends import BROKEN, OUT_OF_MEMORY
 from hsp.base.files import created
 from hsp.base.grammar import LOG_HEADERS
 from hsp.base.programs import program
@@ -26,7 +27,6 @@ SUMS = ("assigned", "spent", "diverted", "full", "unknown", "nofront", "refused"
 BLOCK = 1 << 22
 # Statuses of hsplan that another try doesn't change: refused inputs, wrong words, no plan.
 LASTING = (1, 2, 3)
-OUT_OF_MEMORY, BROKEN = 4, 5
 DIES_WITH_ITS_PARENT = ["setpriv", "--pdeathsig", "KILL", "--"]
 
 

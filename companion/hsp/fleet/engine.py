@@ -16,13 +16,14 @@ from dataclasses import dataclass
 from typing import Any
 from urllib.parse import urlsplit
 
+from hsp.base.ends import BROKEN, OUT_OF_MEMORY
 from hsp.base.files import locked
 from hsp.base.programs import Missing
 from hsp.base.text import say
 from hsp.fleet.local import Gone, Local
 
 Reply = dict[str, Any]
-NO_WORKER, BROKEN, OUT_OF_MEMORY = 3, 5, 4
+NO_WORKER = 3
 # What stands for the reply of a part that isn't there.
 NOT_YET: Reply = {"not": "yet"}
 

@@ -5,15 +5,15 @@ from __future__ import annotations
 import contextlib
 import sys
 from collections.abc import Callable, Iterator
-from typing import Any, TypeVar
+from typing import Any, NoReturn, TypeVar
 
 import click
 
+from hsp.base.ends import BROKEN, ended
 from hsp.base.numbers import some
 from hsp.base.signals import STOPPED, deaf, stopping
 from hsp.base.text import say, show_progress
-from hsp.base.unfit import Unfit
-from hsp.fleet.engine import BROKEN, Engine, Place, Unfinished
+from hsp.fleet.engine import Engine, Place, Unfinished
 from hsp.fleet.local import Gone
 
 Command = TypeVar("Command", bound=Callable[..., Any])
@@ -71,7 +71,7 @@ def session(place: Place, targets: Targets) -> Iterator[Engine]:
         try:
             engine = Engine(place)
             yield engine
-            _lost(engine)
+            _report_restarts(engine)
         except Unfinished as fault:
             _ended(fault.status, str(fault))
         except Gone as fault:
@@ -82,7 +82,7 @@ def session(place: Place, targets: Targets) -> Iterator[Engine]:
                 engine.end(targets)
 
 
-def _lost(engine: Engine) -> None:
+def _report_restarts(engine: Engine) -> None:
     """Reports the workers of this machine that ended before the run did."""
     many = engine.local.restarts if engine.local else 0
     if many:
@@ -90,10 +90,7 @@ def _lost(engine: Engine) -> None:
         say(f"hsp: {some(many, 'worker')} ended early; {parts}", err=True)
 
 
-def _ended(status: int, line: str) -> None:
+def _ended(status: int, line: str) -> NoReturn:
     if sys.stderr.isatty():
         show_progress("")
-    if status == 1:
-        raise Unfit(line)
-    say(f"hsp: {line}", err=True)
-    sys.exit(status)
+    ended(status, line)

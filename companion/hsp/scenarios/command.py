@@ -9,6 +9,7 @@ from typing import Any
 
 import click
 
+from hsp.base.ends import SHORTAGE
 from hsp.base.numbers import queries_of, some
 from hsp.base.paths import path_in, shell_word
 from hsp.base.programs import Missing
@@ -27,7 +28,6 @@ from hsp.scenarios.nearest import Portions, TooMany, homes_of
 from hsp.scenarios.purchase import Purchases, solver
 from hsp.scenarios.reserve import RESERVE, reserved
 
-SHORTAGE = 3
 # The growths of which the least purchase is shown.
 PERCENTS = (10, 20, 50)
 # The options of `hsp survive` beside those for other files.

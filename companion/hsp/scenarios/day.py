@@ -11,6 +11,7 @@ from typing import Any
 
 import click
 
+from hsp.base.ends import SHORTAGE
 from hsp.base.files import refuse_clashes, replace_all
 from hsp.base.numbers import some
 from hsp.base.paths import path_in
@@ -31,7 +32,6 @@ from hsp.scenarios.judged import Judged, Progress, yes_line
 from hsp.scenarios.nearest import Portions, TooMany, homes_of, moved_between
 from hsp.scenarios.reserve import RESERVE, reserved
 
-SHORTAGE = 3
 PAGE, BLOCKS = "day.html", "blocks"
 # The files of DIR that all hours have.
 SHARED = ("settings", "costs", "capacity")
