@@ -156,6 +156,60 @@ def test_an_absent_certificate_is_named(hsp: Hsp, example: Example) -> None:
     assert ended.stderr == f"hsp: {folder}/absent.txt: no such file; give a certificate, or a folder with plan.txt\n"
 
 
+@pytest.mark.parametrize(
+    "name", ["settings.toml", "demand.csv", "costs.csv", "capacity.csv", "sites.values", "hsp.toml"]
+)
+def test_files_of_the_plan_in_force_are_not_written_over(hsp: Hsp, example: Example, name: str) -> None:
+    folder = example("two-sites")
+    hsp("plan", str(folder))
+    old = Path(shutil.copytree(folder, folder.parent / "old"))
+    (old / name).touch()
+    (old / "plan.txt").rename(old / "in-force.txt")
+    before = (old / name).read_bytes()
+    for near in (f"{old}/in-force.txt", f"{old}"):
+        words = ["--near", near, "-o", f"{old}/{name}"]
+        ended = hsp("plan", str(folder), *words, status=1)
+        assert ended.stderr == f"hsp: {old}/{name}: it would be read and written\n"
+    assert (old / name).read_bytes() == before
+
+
+def test_portions_are_not_written_over_the_plan_in_force(hsp: Hsp, example: Example) -> None:
+    """The plan of portions is no plan in force of the rows, and stays."""
+    folder = example("two-sites")
+    hsp("plan", str(folder))
+    hsp("plan", str(folder), "--near", str(folder))
+    before = (folder / "near/demand.csv").read_bytes()
+    ended = hsp("plan", str(folder), "--near", f"{folder}/near")
+    assert "none of its rows is asked for" in ended.stdout
+    assert (folder / "near/demand.csv").read_bytes() == before
+
+
+def test_portions_are_not_written_through_a_link(hsp: Hsp, example: Example, tmp_path: Path) -> None:
+    folder = example("two-sites")
+    hsp("plan", str(folder))
+    (tmp_path / "other").mkdir()
+    (tmp_path / "other/plan.txt").write_text("mine")
+    (folder / "near").symlink_to(tmp_path / "other")
+    plan = (folder / "plan.txt").read_bytes()
+    why = "no folder of its own; what shows that a plan is near is written there"
+    assert hsp("plan", str(folder), "--near", str(folder), status=1).stderr == f"hsp: {folder}/near: {why}\n"
+    (folder / "near").unlink()
+    (folder / "near").write_text("mine")
+    assert why in hsp("plan", str(folder), "--near", str(folder), status=1).stderr
+    assert (tmp_path / "other/plan.txt").read_text() == "mine" and (folder / "plan.txt").read_bytes() == plan
+
+
+def test_a_plan_of_another_service_moves_nothing_that_is_asked_for(hsp: Hsp, example: Example) -> None:
+    folder = example("two-sites")
+    old = Path(shutil.copytree(folder, folder.parent / "old"))
+    (old / "demand.csv").write_text((old / "demand.csv").read_text().replace("20.500.1234/", "10.1/"))
+    hsp("plan", str(old))
+    printed = hsp("plan", str(folder), "--near", str(old)).stdout
+    why = f"none of its rows is asked for in {folder}/demand.csv"
+    assert f"near  no: {why}; this is the plain plan, which moves 0 (0%) from {old}/plan.txt\n" in printed
+    assert "the fewest of all cheapest plans" not in printed
+
+
 def test_beyond_the_tables_a_line_says_so(hsp: Hsp, example: Example, monkeypatch: pytest.MonkeyPatch) -> None:
     folder = example("two-sites")
     hsp("plan", str(folder))

@@ -523,6 +523,21 @@ def test_a_state_that_hsp_has_not_written_is_none(tmp_path: Path) -> None:
         assert kept_in(str(tmp_path)) is None, other[:100]
 
 
+NUMBERS = {"made": "5.0", "length": "10.0", "at": "1005.0", "period": "100", "load": '"load": 1', "seen": '"a:1": 1'}
+
+
+@pytest.mark.parametrize("number", ["NaN", "Infinity", "-Infinity", "1e400", "9" * 400, "-" + "9" * 400])
+@pytest.mark.parametrize("name", NUMBERS)
+def test_no_number_of_a_damaged_state_is_counted_with(tmp_path: Path, name: str, number: str) -> None:
+    state = State(5.0, 0.5, 1, 0, 1, {"/a": True}, {"a:1": Standing(1, 2, 3, False)})
+    text = kept(state, Counts(100, 10.0, "1 a", {"a:1": 1}, {"a:1": 1}, 1005.0)).decode()
+    own = NUMBERS[name]
+    (tmp_path / "steer.json").write_text(text.replace(own, own.rpartition(" ")[0] + " " + number))
+    assert kept_in(str(tmp_path)) is None
+    (tmp_path / "steer.json").write_text(text.replace('"a:1": 1', '"a:1": -1'))
+    assert kept_in(str(tmp_path)) is None
+
+
 @pytest.mark.parametrize("name", ["settings.toml", "demand.csv", "costs.csv", "capacity.csv", "hsp.toml"])
 @pytest.mark.parametrize("octets", [b"", b"\xff\xfe\x00", b"[[[", b'[demand]\nunit = "x"\n', None])
 def test_no_broken_file_ends_it(two: Path, into: Path, front: Front, name: str, octets: bytes | None) -> None:

@@ -15,7 +15,7 @@ from xml.etree import ElementTree
 
 import pytest
 
-from hsp.base.text import COLOUR, UNSEEN, escaped
+from hsp.base.text import UNSEEN, escaped
 
 from conftest import TOP, variables
 from test_sites import ADMIN, invoke, site_json, value_json
@@ -26,6 +26,8 @@ HOSTILE = "\x1b]0;pwned\x07\x1b[2J\x9b2J\nhsp: all is well\r\u2028\u202edlrow\u2
 SHOWN = r"\x1b]0;pwned\x07\x1b[2J\x9b2J\nhsp: all is well\r\u2028\u202edlrow\u2066"
 # The same in one line, as hsplan-stream takes handles.
 IN_LINE, IN_LINE_SHOWN = HOSTILE.replace("\n", "").replace("\r", ""), SHOWN.replace(r"\n", "").replace(r"\r", "")
+# What a terminal takes for a colour.
+COLOUR = re.compile("\x1b\\[[0-9;]*m")
 TITLES = "".join(f"{key} = {json.dumps(f'{key}{HOSTILE}')}\n" for key in ("title", "cost", "time"))
 
 
@@ -186,6 +188,15 @@ def test_a_terminal_gets_only_colours(hostile: Path, tmp_path: Path) -> None:
         bare = COLOUR.sub("", text).replace("\r\n", "\n").replace("\r", "").replace("\x1b[K", "")
         assert unseen(bare) == set(), repr(bare)
     assert COLOUR.search(plan)
+
+
+def test_no_colour_of_a_file_reaches_a_terminal(example: Example) -> None:
+    """One could hide what follows, or show a fault in green. Those of hsp's own stay."""
+    folder = example("two-sites")
+    (folder / "hsp.toml").write_text('title = "a\\u001b[8mb\\u001b[32m"\n')
+    plan = at_terminal("plan", folder)
+    assert plan.startswith("\x1b[1ma\\x1b[8mb\\x1b[32m\x1b[0m")
+    assert set(COLOUR.findall(plan)) == {"\x1b[0m", "\x1b[1m", "\x1b[2m", "\x1b[32m", "\x1b[33m"}
 
 
 def test_only_one_module_prints() -> None:

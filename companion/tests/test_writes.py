@@ -125,6 +125,14 @@ def test_a_file_of_a_closed_owner_is_never_open_to_others(tmp_path: Path) -> Non
     assert (own.read_bytes(), own.stat().st_mode & 0o777) == (b"new", 0o600)
 
 
+def test_a_folder_in_the_place_of_a_file_is_found_before_others_have_their_names(tmp_path: Path) -> None:
+    (tmp_path / "a").write_bytes(b"old")
+    (tmp_path / "b").mkdir()
+    with pytest.raises(IsADirectoryError, match=f"Is a directory: '{tmp_path}/b'"):
+        files.replace_all({f"{tmp_path}/a": b"new", f"{tmp_path}/b": b"new"})
+    assert (tmp_path / "a").read_bytes() == b"old" and sorted(os.listdir(tmp_path)) == ["a", "b"]
+
+
 @pytest.mark.parametrize("way", ["same", "hard link", "link", "through a folder's link"])
 def test_an_output_is_no_input_by_any_path(tmp_path: Path, way: str) -> None:
     own = tmp_path / "own"

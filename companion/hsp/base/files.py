@@ -6,6 +6,7 @@ A file is written beside its place under a name of its own, and gets its name wh
 from __future__ import annotations
 
 import contextlib
+import errno
 import fcntl
 import os
 import re
@@ -80,6 +81,12 @@ def refuse_clashes(inputs: Iterable[str], outputs: Iterable[str]) -> None:
         written.add(own)
 
 
+def refuse_no_folder(path: str, what: str) -> None:
+    """Refuses a link, and what is no folder, where a folder of its own is written."""
+    if os.path.islink(path) or os.path.lexists(path) and not os.path.isdir(path):
+        raise Unfit(f"{path}: no folder of its own; {what} there")
+
+
 def _lock(descriptor: int, folder: str) -> None:
     """Waits until no other run has a folder locked. A folder that its file system can't lock isn't."""
     until = time.monotonic() + PATIENCE
@@ -142,6 +149,8 @@ class Output:
 
     def begin(self) -> None:
         with _named(self.path, self._part):
+            if os.path.isdir(self.target):  # it would be seen only when others have their names already
+                raise IsADirectoryError(errno.EISDIR, os.strerror(errno.EISDIR))
             if self._stream is None:
                 self._file = created(self._part, 0o600 if os.path.exists(self.target) else 0o666)
             else:

@@ -17,6 +17,7 @@ from dataclasses import dataclass, replace
 from typing import NamedTuple
 
 from hsp.base import units
+from hsp.base.held import Held
 from hsp.base.grammar import GREATEST_CAPACITY, HEADERS, LOG_HEADERS
 from hsp.base.signals import uncut
 
@@ -260,12 +261,23 @@ class Programs:
             self._folder = tempfile.TemporaryDirectory(prefix="hsp-")
         self._numbers = itertools.count(1)
         self._divided: dict[tuple[str, int], str] = {}
+        self._held = Held()
         # The shorter logs that were made of logs, by the paths of settings and log.
         self.shorter: dict[tuple[str, str], str] = {}
 
     def close(self) -> None:
         """Takes away the files that were made on the way."""
         self._folder.cleanup()
+
+    def hold(self, files: Iterable[str]) -> None:
+        """Notes files as they are now, before they are read."""
+        self._held.add(files)
+
+    def insist_held(self) -> None:
+        """Refuses to go on where a file was changed since it was noted: what was planned is of none of its texts."""
+        changed = self._held.changed()
+        if changed:
+            raise Missing(f"{changed}: it was changed while this command read it; run the command again")
 
     def put(self, text: str | bytes, suffix: str = ".txt") -> str:
         """Writes a file, and returns its path."""
@@ -324,6 +336,7 @@ class Programs:
         """Refuses to go on by a certificate to which the checker doesn't say yes."""
         verdict = self.verdict(inputs, plan)
         if verdict != "yes":
+            self.insist_held()
             name = inputs.program
             raise Missing(f"{name} check says {verdict} to {name}'s own plan: please report this with your files")
 
@@ -335,7 +348,11 @@ class Programs:
 
     def _report(self, inputs: Inputs, plan: str, report: str) -> list[str]:
         words = [*self.in_units(inputs).words(), inputs.plan_option, plan]
-        return asked(inputs.program, "report", *words, "--kind", report).splitlines()
+        try:
+            return asked(inputs.program, "report", *words, "--kind", report).splitlines()
+        except Refused:
+            self.insist_held()
+            raise
 
     def loads(self, inputs: Inputs, plan: str) -> tuple[list[Load], Bound]:
         """The load of each server, in the order of the settings, and the sums that show the cost."""

@@ -4,14 +4,18 @@ from __future__ import annotations
 
 import os
 import re
+import secrets
 import sys
 import unicodedata
+from typing import Any
 
 import click
 
 # Kinds of signs that nobody sees: controls, formats such as marks of direction, halves of a letter, ends of lines.
 UNSEEN = ("Cc", "Cf", "Cs", "Zl", "Zp")
-COLOUR = re.compile("(\x1b\\[[0-9;]*m)")
+# What marks colours of hsp's own, until a line is printed. No text of a file can hold it, as it is drawn anew each time.
+OWN = secrets.token_hex(16)
+COLOUR = re.compile(f"\x1b{OWN}(\\[[0-9;]*m)")
 
 
 def escaped(text: str) -> str:
@@ -41,22 +45,30 @@ def is_plain() -> bool:
     return bool(os.environ.get("NO_COLOR")) or not (sys.stdout and sys.stdout.isatty())
 
 
+def _styled(text: str, **style: Any) -> str:
+    """A text between marked signs of its style."""
+    if is_plain():
+        return text
+    before, _, after = click.style("|", **style).replace("\x1b", f"\x1b{OWN}").partition("|")
+    return f"{before}{text}{after}"
+
+
 def bold(text: str) -> str:
-    return text if is_plain() else click.style(text, bold=True)
+    return _styled(text, bold=True)
 
 
 def dim(text: str) -> str:
-    return text if is_plain() else click.style(text, dim=True)
+    return _styled(text, dim=True)
 
 
 def colored(text: str, colour: str) -> str:
-    return text if is_plain() else click.style(text, fg=colour, bold=True)
+    return _styled(text, fg=colour, bold=True)
 
 
 def say(line: str, err: bool = False) -> None:
-    """Prints a line for people. Its own colours stay."""
-    parts = [line] if is_plain() else COLOUR.split(line)
-    click.echo("".join(part if at % 2 else escaped(part) for at, part in enumerate(parts)), err=err)
+    """Prints a line for people. Only colours of hsp's own stay, and none that stand in a file."""
+    parts = COLOUR.split(line)
+    click.echo("".join(f"\x1b{part}" if at % 2 else escaped(part) for at, part in enumerate(parts)), err=err)
 
 
 def give(text: str | bytes) -> None:

@@ -37,6 +37,7 @@ from hsp.plans.plans import (
 from hsp.plans.service import Server, Service
 from hsp.plans.terminal import head, plan_lines, shortage_lines
 from hsp.scenarios.ahead import Ahead
+from hsp.scenarios.in_force import files_beside
 from hsp.scenarios.judged import Judged
 from hsp.scenarios.near_plan import Near, near_plan
 from hsp.scenarios.reserve import RESERVE, reserved
@@ -121,6 +122,7 @@ def show_shortage(service: Service, programs: Programs, as_json: bool) -> NoRetu
     short = shortage(service, programs)
     bought = None if short.stranded else least_purchase(service, programs)
     after = with_purchase(service, programs, bought) if bought else None
+    programs.insist_held()
     if as_json:
         purchase = purchase_of(service, bought) if bought and after else []
         report = {"title": service.titles.title, "served": False, "queries": service.asked, "lack": short.lack}
@@ -141,6 +143,7 @@ def keep(service: Service, programs: Programs, path: str, near: Near | None) -> 
         lines = answer_lines(service, inputs, path)
         if near:
             contents.update(near.contents(path))
+            refuse_clashes(near.beside, contents)
             lines = [*filter(None, [near.shown_by(path)]), *lines]
     refuse_clashes(service.own_inputs.files(), contents)
     for name in contents:
@@ -173,8 +176,10 @@ def plan(folder: str, **given: Any) -> None:
     """
     said = SimpleNamespace(**{key: given.pop(key) for key in PLAN_WORDS})
     path = said.output or path_in(folder, "plan.txt")
-    refuse_clashes(read_in(folder, given), [] if said.no_save else [path])
+    beside = files_beside(said.near) if said.near else []
+    refuse_clashes([*read_in(folder, given), *beside], [] if said.no_save else [path])
     programs, judged = Programs(), Judged() if said.near else None
+    programs.hold(beside)
     service = reserved(sound(folder, programs, given, cost=said.unit), said.reserve, programs)
     if not service.certificate.is_plan:
         show_shortage(service, programs, said.as_json)
@@ -187,6 +192,7 @@ def plan(folder: str, **given: Any) -> None:
         found = with_gains(found, programs, progress(len(priced)))
     later = ahead(service, path) if said.more and not said.as_csv else None
     programs.insist(service.inputs, service.plan_file)
+    programs.insist_held()
     lines = [] if said.no_save else keep(service, programs, path, near)
     if said.as_csv or said.as_json:
         give(csv_of(found) if said.as_csv else json_of(found, reference, near, later))

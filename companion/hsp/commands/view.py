@@ -75,6 +75,7 @@ def view_of(service: Service, programs: Programs, before: str | None) -> View:
         found = planned(after, programs)
         shown.plan = with_gains(found, programs, progress(sum(price > 0 for price in found.prices)))
         programs.insist(after.inputs, after.plan_file)
+        programs.insist_held()
     held = earlier(before, programs, service) if before else None
     if held:
         shown.before, shown.reference = held
@@ -111,6 +112,7 @@ def view(folder: str, before: str | None, **given: Any) -> None:
         shown.facts, shown.tables = later.facts(), later.tables()
     elif before:
         shown.facts = moved_facts(service, before)
+    programs.insist_held()
     text = render(shown)
     write(path, text)
     rows = some(len(service.rows), "kind" if service.mark.is_joined else "row")

@@ -56,6 +56,7 @@ def whatif(
     else:
         number = len(full_servers(service)) + len(service.sites) + 1
         cases = standard(Changes(service, programs, progress(number)), step)
+    programs.insist_held()
     if as_csv:
         give(cases_csv(cases))
     else:

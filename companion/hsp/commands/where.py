@@ -33,6 +33,7 @@ def where(folder: str, region: str, handle: str, as_json: bool) -> None:
     service = sound(folder, programs, {})
     refuse_shortage(folder, service)
     found = where_goes(service, programs, region, handle)
+    programs.insist_held()
     if as_json:
         give(json.dumps(where_json(found, region, handle), indent=2, ensure_ascii=False) + "\n")
     else:

@@ -57,6 +57,7 @@ def sound(
 
     An old plan is none of these, since the commands that ask plan anew.
     """
+    programs.hold(read_in(folder, given))
     found = examined(folder, programs, given, title, cost)
     if not found.service:
         for line in list(finding_lines(found.errors))[:-1]:

@@ -178,11 +178,14 @@ def socket_in(folder: str) -> str:
     path = path_in(folder, CONFIG)
     if not os.path.isfile(path):
         raise Missing(f"{path}: no such file; hsp export haproxy writes it")
-    with open(path, encoding="utf-8", errors="replace") as file:
-        match = RUNTIME.search(file.read())
-    if not match:
+    match = RUNTIME.search(whole(path).decode("utf-8", "replace"))
+    try:
+        words = shlex.split(match[1]) if match else []
+    except ValueError:
+        words = []
+    if len(words) != 1:
         raise Unfit(f"{path}: hsp export hasn't written it so: it has no socket of HAProxy's runtime")
-    return shlex.split(match[1])[0]
+    return words[0]
 
 
 def _is_of(config: str, target: Target) -> bool:

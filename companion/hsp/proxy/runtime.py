@@ -12,11 +12,14 @@ from dataclasses import dataclass
 from hsp.base.programs import Missing
 from hsp.base.text import escaped
 
-# So many seconds an answer is waited for.
+# So many seconds a whole answer is waited for, and so many octets one has at most.
 PATIENCE = 5
+MOST_OF_ANSWER = 1 << 24
 # So many octets of a map are sent at once: HAProxy reads a command and what belongs to it into one buffer of 16 kB.
 AT_ONCE = 8_000
 COUNT = re.compile(r"\bkey=(\S+) .*\bhttp_req_cnt=([0-9]+)")
+# A number of HAProxy. What has more digits is none of its counters.
+NUMBER = re.compile(r"[0-9]{1,15}")
 VERSION = re.compile(r"New version created: ([0-9]+)")
 # The states of a server that takes queries: it starts slowly, or it runs.
 UP = ("1", "2")
@@ -32,6 +35,12 @@ class Reading:
     began: float
     counts: dict[str, int]
     down: frozenset[str]
+
+
+def _number(text: str) -> int:
+    if not NUMBER.fullmatch(text):
+        raise ValueError
+    return int(text)
 
 
 def pieces(lines: Iterable[str]) -> Iterator[str]:
@@ -55,15 +64,33 @@ class Runtime:
         self.path = path
 
     def say(self, words: str, patience: float = PATIENCE) -> str:
-        """What HAProxy answers to a command."""
+        """What HAProxy answers to a command, whole within so many seconds."""
+        until = time.monotonic() + patience
         try:
             with socket.socket(socket.AF_UNIX) as own:
                 own.settimeout(patience)
                 own.connect(self.path)
                 own.sendall(f"{words}\n".encode())
-                return b"".join(iter(lambda: own.recv(1 << 16), b"")).decode("utf-8", "replace")
+                return b"".join(self._blocks(own, until)).decode("utf-8", "replace")
         except OSError as fault:
             raise Missing(f"{self.path}: HAProxy doesn't answer there: {fault.strerror or fault}") from None
+
+    def _blocks(self, own: socket.socket, until: float) -> Iterator[bytes]:
+        """The octets of an answer, which has to end in time, and isn't longer than HAProxy's are."""
+        octets, block = 0, b" "
+        while block:
+            left = until - time.monotonic()
+            if left <= 0:
+                raise TimeoutError("timed out")
+            own.settimeout(left)
+            block = own.recv(1 << 16)
+            octets += len(block)
+            if octets > MOST_OF_ANSWER:
+                raise self._no_haproxy()
+            yield block
+
+    def _no_haproxy(self) -> Missing:
+        return Missing(f"{self.path}: what answers there isn't HAProxy")
 
     def down(self) -> frozenset[str]:
         """The servers that take no queries: their checks fail, or somebody has taken them out."""
@@ -73,12 +100,13 @@ class Runtime:
     def reading(self, patience: float = PATIENCE) -> Reading:
         """What HAProxy says now. Its first word is waited for so long."""
         said = dict(line.partition(": ")[::2] for line in self.say("show info", patience).splitlines())
-        counts = {name: int(count) for name, count in COUNT.findall(self.say("show table taken"))}
+        table = self.say("show table taken")
         down, now = self.down(), time.time()
         try:
-            run, began = f"{said['Pid']} {said.get('Start_time_sec', '')}", now - int(said["Uptime_sec"])
+            counts = {name: _number(count) for name, count in COUNT.findall(table)}
+            run, began = f"{said['Pid']} {said.get('Start_time_sec', '')}", now - _number(said["Uptime_sec"])
         except (KeyError, ValueError):
-            raise Missing(f"{self.path}: what answers there isn't HAProxy") from None
+            raise self._no_haproxy() from None
         return Reading(now, run, began, counts, down)
 
     def _names(self) -> dict[str, str]:

@@ -17,6 +17,7 @@ from hsp.proxy.counts import Counts
 
 # The file of the last state, beside the files of the proxy.
 STATE = "steer.json"
+GREATEST = 10**15
 METRICS = {
     "load": "Queries that a server was given in this period.",
     "planned": "Queries that a server is to have at the end of this period.",
@@ -76,13 +77,22 @@ def kept(state: State, counts: Counts) -> bytes:
     return f"{json.dumps({'state': asdict(state), 'counts': asdict(counts)}, indent=1)}\n".encode()
 
 
+def _is_number(value: object) -> bool:
+    """Whether it is a number of a size that a time or a count can have. No other is in a file that hsp has written."""
+    return isinstance(value, (int, float)) and -GREATEST <= value <= GREATEST
+
+
 def _are_numbers(state: State, counts: Counts) -> bool:
-    """Whether all is a number that has to be one, as in each file that hsp has written."""
-    numbers = [state.made, state.left, state.asked, state.left_out, state.cost, counts.period, counts.length]
-    numbers += [*counts.seen.values(), *counts.taken.values()]
-    numbers += [number for own in state.servers.values() for number in (own.load, own.planned, own.capacity)]
+    """Whether all is a number that has to be one, and all counts are whole."""
+    numbers = [state.made, state.left, state.asked, state.left_out, state.cost, counts.length]
+    wholes = [counts.period, *counts.seen.values(), *counts.taken.values()]
+    numbers += [
+        *wholes,
+        *(number for own in state.servers.values() for number in (own.load, own.planned, own.capacity)),
+    ]
     numbers += [counts.at, *state.proxies.values()]
-    return all(isinstance(number, (int, float)) for number in numbers) and counts.length > 0
+    are_counts = all(isinstance(number, int) and number >= 0 for number in wholes)
+    return all(map(_is_number, numbers)) and are_counts and counts.length >= 1
 
 
 def kept_in(folder: str) -> tuple[State, Counts] | None:

@@ -187,6 +187,9 @@ def _files(folder: str, folders: Collection[str], given: dict[str, str | None], 
     written = [PLAN, PRICES, SITES, COSTS, STATE, LOCK]
     read, own = read_in(folder, given), list[str]()
     for into in folders:
+        state = path_in(into, STATE)
+        if os.path.islink(state) or os.path.lexists(state) and not os.path.isfile(state):
+            raise Unfit(f"{state}: no file of its own; hsp steer writes its counts there")
         maps = [name for name in os.listdir(into) if name.endswith(".map") and name not in written]
         read += [path_in(into, name) for name in (CONFIG, *maps)]
         own += [path_in(into, name) for name in written]

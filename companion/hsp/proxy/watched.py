@@ -2,19 +2,9 @@
 
 from __future__ import annotations
 
-import os
 from collections.abc import Iterable
 
-Sign = tuple[int, int, int] | None
-
-
-def _sign(path: str) -> Sign:
-    """What differs where a file was written anew."""
-    try:
-        found = os.stat(path)
-    except OSError:
-        return None
-    return found.st_ino, found.st_size, found.st_mtime_ns
+from hsp.base.held import Sign, sign_of
 
 
 class Watched:
@@ -25,7 +15,7 @@ class Watched:
         self._read = self._last = self._signs()
 
     def _signs(self) -> list[Sign]:
-        return [_sign(path) for path in self._files]
+        return [sign_of(path) for path in self._files]
 
     def are_read(self) -> None:
         """From now on only what changes later is a change."""

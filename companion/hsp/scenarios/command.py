@@ -21,7 +21,7 @@ from hsp.plans.terminal import head
 from hsp.scenarios import grow_lines, survive_lines
 from hsp.scenarios.fallbacks import FOLDER, Fallbacks, csv_of
 from hsp.scenarios.growth import Growing, at_least, grown
-from hsp.scenarios.in_force import PLAN, in_force
+from hsp.scenarios.in_force import PLAN, files_beside, in_force
 from hsp.scenarios.judged import Judged, Progress, say_how_long, side_by_side, yes_line
 from hsp.scenarios.losses import after, losses_of, survived
 from hsp.scenarios.nearest import Portions, TooMany, homes_of
@@ -74,6 +74,7 @@ def grow(folder: str, percents: tuple[int, ...], unit: str | None, as_json: bool
     own = Growing(service, programs)
     tasks = [lambda percent=percent: own.purchase(percent) for percent in sorted(set(percents))]
     purchases = at_least(side_by_side(tasks, done))
+    programs.insist_held()
     if as_json:
         give(grow_lines.json_of(service, growths, purchases))
         return
@@ -88,6 +89,7 @@ def _near(words: str | None, service: Service, programs: Judged) -> tuple[Portio
     if service.log:
         return None, "the rows of a log have no portions, so fallbacks are plain plans"
     path = words or path_in(service.folder, PLAN)
+    programs.hold(files_beside(words or path))
     try:
         held = in_force(path, service, programs)
         homes, by_kind, name = held.homes, held.by_kind, held.path
@@ -144,6 +146,7 @@ def survive(folder: str, **given: Any) -> None:
         solver()
     service = reserved(_asking(folder, programs, given, own["unit"]), own["reserve"], programs)
     if not service.certificate.is_plan:
+        programs.insist_held()
         _short(service)
     portions, near = _near(own["near"], service, programs)
     kept = Fallbacks(own["into"] or path_in(folder, FOLDER), service, programs)
@@ -154,6 +157,7 @@ def survive(folder: str, **given: Any) -> None:
     bought = []
     if own["buy"]:
         bought = list(survive_lines.purchase_lines(service, Purchases(service, programs).search(), own["every"]))
+    programs.insist_held()
     number = 0 if own["no_save"] else kept.keep(found)
     if own["as_csv"]:
         give(csv_of(service, found, None if own["no_save"] else kept))

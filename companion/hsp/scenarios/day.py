@@ -12,7 +12,7 @@ from typing import Any
 import click
 
 from hsp.base.ends import SHORTAGE
-from hsp.base.files import refuse_clashes, replace_all
+from hsp.base.files import refuse_clashes, refuse_no_folder, replace_all
 from hsp.base.numbers import some
 from hsp.base.paths import path_in
 from hsp.base.text import give, say
@@ -120,8 +120,7 @@ def _blocks_in(folder: str) -> list[str]:
 
 def _refuse_links(folder: str, names: Sequence[str]) -> None:
     for path in [*(path_in(folder, name) for name in (*names, BLOCKS)), *_blocks_in(folder)]:
-        if os.path.islink(path) or os.path.lexists(path) and not os.path.isdir(path):
-            raise Unfit(f"{path}: no folder of its own; plans are written there")
+        refuse_no_folder(path, "plans are written")
 
 
 def _refuse_clashes(service: Service, hours: Sequence[Hour], outputs: Sequence[str]) -> None:
@@ -165,6 +164,7 @@ def day(folder: str, **given: Any) -> None:
     page = given["output"] or path_in(folder, PAGE)
     if not given["no_save"]:
         _refuse_links(folder, names)
+    programs.hold(path_in(folder, os.path.join(name, NAMES["demand"])) for name in names)
     service = _first_service(folder, names[0], programs, given)
     try:
         hours = [read_hour(service, path_in(folder, name), name) for name in names]
@@ -173,6 +173,7 @@ def day(folder: str, **given: Any) -> None:
     except Faulty as fault:
         own = _at(folder, fault.name, programs, given)
         raise Unfit(f"{own.inputs.demand}: hsplan refused it") from None
+    programs.insist_held()
     if not given["no_save"]:
         _save(found, folder, page, programs)
     if given["as_csv"]:

@@ -11,7 +11,7 @@ from collections.abc import Iterable, Sequence
 from dataclasses import dataclass
 
 from hsp.base.bounds import whole
-from hsp.base.files import locked, refuse_clashes, replace_all
+from hsp.base.files import locked, refuse_clashes, refuse_no_folder, replace_all
 from hsp.base.paths import path_in
 from hsp.base.unfit import Unfit
 from hsp.plans.answering import CAPACITY, LESS_CAPACITY, LESS_SETTINGS, SETTINGS, in_units
@@ -47,8 +47,7 @@ class Fallbacks:
     def refuse(self, all_losses: Sequence[str]) -> None:
         """Refuses to write through a link, over a file that is read, or where no folder can be."""
         for path in (self.folder, *(path_in(self.folder, name) for name in all_losses)):
-            if os.path.islink(path) or os.path.lexists(path) and not os.path.isdir(path):
-                raise Unfit(f"{path}: no folder of its own; fallback plans are written there")
+            refuse_no_folder(path, "fallback plans are written")
         kept = (path_in(self.folder, os.path.join(loss, name)) for loss in all_losses for name in OWN)
         refuse_clashes(self.service.own_inputs.files(), [self.table, *kept])
 

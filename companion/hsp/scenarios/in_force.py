@@ -48,6 +48,12 @@ def plan_named(words: str) -> str:
     return path
 
 
+def files_beside(words: str) -> list[str]:
+    """The files that are read with a certificate where they lie beside it."""
+    folder = words if os.path.isdir(words) else os.path.dirname(words)
+    return [path_in(folder, name) for name in (*NAMES.values(), VALUES, TITLES)]
+
+
 def text_of(path: str) -> str:
     """The text of a certificate by rows."""
     text = whole(path).decode("utf-8", "replace")
@@ -173,4 +179,4 @@ def _refuse_changed_sites(old: Service, now: Service, path: str) -> None:
             raise Unfit(f"{path}: {why}")
 
 
-__all__ = ["InForce", "PLAN", "in_force", "plan_named"]
+__all__ = ["InForce", "PLAN", "files_beside", "in_force", "plan_named"]

@@ -5,13 +5,14 @@ from __future__ import annotations
 import os
 from dataclasses import dataclass, replace
 
+from hsp.base.files import refuse_no_folder
 from hsp.base.numbers import part
 from hsp.base.paths import path_in
 from hsp.base.programs import Inputs
 from hsp.plans.service import NAMES, Service
-from hsp.scenarios.in_force import PLAN, InForce, in_force
+from hsp.scenarios.in_force import PLAN, InForce, files_beside, in_force
 from hsp.scenarios.judged import Judged
-from hsp.scenarios.nearest import Portions, TooMany, moved_between
+from hsp.scenarios.nearest import Portions, TooMany, keys_of, moved_between
 
 # The folder beside a plan with the tables of its portions and their plan.
 FOLDER = "near"
@@ -49,6 +50,11 @@ class Near:
             "moved_by_plain_plan": self.plain if known else None,
         }
 
+    @property
+    def beside(self) -> list[str]:
+        """The files that were read with the plan in force."""
+        return files_beside(self.held.path) if self.held else []
+
     def _share(self, moved: int) -> str:
         return f"{moved:,} ({part(moved / self.service.asked) if self.service.asked else '0%'})"
 
@@ -57,6 +63,7 @@ class Near:
         if not self.portions:
             return {}
         folder = path_in(os.path.dirname(plan), FOLDER)
+        refuse_no_folder(folder, "what shows that a plan is near is written")
         sources = {
             NAMES["demand"]: self.portions.demand,
             NAMES["costs"]: self.portions.costs,
@@ -82,6 +89,9 @@ def near_plan(words: str, service: Service, programs: Judged) -> Near:
         return Near(service, None, 0, 0, "the rows of a log have no portions")
     held = in_force(words, service, programs)
     plain = moved_between(service, held.homes, service.certificate, held.by_kind)
+    key_of = keys_of(service, held.by_kind)
+    if service.asked and not any(key_of(row) in held.homes for row in service.rows if row.count):
+        return Near(service, held, plain, plain, f"none of its rows is asked for in {service.inputs.demand}")
     try:
         portions = Portions(service, held.homes, programs, held.by_kind)
     except TooMany as fault:

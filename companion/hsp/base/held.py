@@ -1,0 +1,33 @@
+"""Files that a command reads more than once, and that have to stay the same meanwhile."""
+
+from __future__ import annotations
+
+import os
+import stat
+from collections.abc import Iterable
+
+Sign = tuple[int, int, int] | None
+
+
+def sign_of(path: str) -> Sign:
+    """What differs where a file was written anew. None where no file is there."""
+    try:
+        found = os.stat(path)
+    except (OSError, ValueError):
+        return None
+    return (found.st_ino, found.st_size, found.st_mtime_ns) if stat.S_ISREG(found.st_mode) else None
+
+
+class Held:
+    """Files as they were at the first look at each."""
+
+    def __init__(self) -> None:
+        self._signs: dict[str, Sign] = {}
+
+    def add(self, files: Iterable[str]) -> None:
+        for path in files:
+            self._signs.setdefault(path, sign_of(path))
+
+    def changed(self) -> str:
+        """The path of a file that was changed since then; nothing where none was."""
+        return next((path for path, sign in self._signs.items() if sign_of(path) != sign), "")
