@@ -276,18 +276,6 @@ def test_more_kinds_than_a_table_has_rows_make_logs_of_the_same_rows(tmp_path: P
     assert b"".join(own.pieces()) == b"".join(rows)
 
 
-def test_an_hour_is_not_written_through_a_link(tmp_path: Path) -> None:
-    """hsp day takes no such hour either."""
-    words = written(tmp_path, "proxy", asked(100, 14))
-    (tmp_path / "other").mkdir()
-    (tmp_path / "other/demand.csv").write_text("mine")
-    (tmp_path / "into").mkdir()
-    (tmp_path / "into/h05").symlink_to("../other")
-    ended = invoke(*words, "--into", tmp_path / "into", "--by", "hour", status=1)
-    assert ended.stderr == f"hsp: {tmp_path}/into/h05: it is a link, and the table of an hour goes there; take it away\n"
-    assert (tmp_path / "other/demand.csv").read_text() == "mine"
-
-
 def test_nothing_is_written_where_a_table_fails(tmp_path: Path, monkeypatch: pytest.MonkeyPatch) -> None:
     """Folders that were made go again; those that were there stay with what they have."""
     words = written(tmp_path, "proxy", asked(100, 14))
