@@ -59,7 +59,9 @@ def changing(tmp_path: Path, monkeypatch: pytest.MonkeyPatch) -> Callable[[Path,
             key = name.upper().replace("-", "_")
             path = tmp_path / f"late-{name}"
             lines = [f"[ $1 = {order} ] && echo >> {tmp_path}/asked"]
-            lines += [f"[ -e {other} ] && [ $(cat {tmp_path}/asked 2> /dev/null | wc -l) -ge {times} ] && mv {other} {file}"]
+            lines += [
+                f"[ -e {other} ] && [ $(cat {tmp_path}/asked 2> /dev/null | wc -l) -ge {times} ] && mv {other} {file}"
+            ]
             path.write_text("\n".join(["#!/bin/sh", *lines, f'exec {os.environ[key]} "$@"', ""]))
             path.chmod(0o755)
             monkeypatch.setenv(key, str(path))

@@ -44,6 +44,22 @@ def changes_of(hsp: Hsp, folder: Path) -> dict[str, int]:
     return {it["what"]: abs(int(it["change"])) for it in cases(hsp, str(folder)) if it["change"]}
 
 
+def test_a_demand_may_grow_beyond_a_table(hsp: Hsp, example: Example) -> None:
+    """A table has counts up to 1,000,000. What is more is planned as a log is, and costs a tenth more where all ask
+    their cheapest site."""
+    folder = example("two-sites")
+    (folder / "demand.csv").write_text("region,handle,count\neu,20.500.1234/film-5,1000000\nus,20.500.1234/a,20\n")
+    rows = [
+        f"{site},{server},9000000"
+        for site, servers in (("paris", 2), ("reston", 3))
+        for server in range(1, servers + 1)
+    ]
+    (folder / "capacity.csv").write_text("\n".join(["site,server_id,capacity", *rows, ""]))
+    now = 12 * 1_000_000 + 17 * 20
+    last = cases(hsp, str(folder))[-1]
+    assert (last["case"], int(last["cost"]), int(last["change"])) == ("demand", now * 11 // 10, now // 10)
+
+
 def test_all_bars_of_a_chart_have_one_scale(hsp: Hsp, example: Example) -> None:
     """A bar is as long as its change, whichever head it stands under: 330 for the greatest."""
     folder = example("base")

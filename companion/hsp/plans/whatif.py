@@ -5,7 +5,7 @@ from __future__ import annotations
 import csv
 import io
 from collections.abc import Callable, Iterable, Iterator
-from dataclasses import dataclass
+from dataclasses import dataclass, replace
 from fractions import Fraction
 
 from hsp.base.grammar import HEADERS
@@ -13,7 +13,7 @@ from hsp.base.numbers import average, listed, queries_of, signed
 from hsp.base.programs import Missing, Programs
 from hsp.base.spelling import near
 from hsp.base.text import bold, colored
-from hsp.plans.counted import grown, times
+from hsp.plans.counted import grown, is_log, times
 from hsp.plans.joined import joined
 from hsp.plans.plans import capacity_file
 from hsp.plans.service import Server, Service
@@ -43,7 +43,10 @@ class Changes:
         self.service, self.programs, self.done = service, programs, done
 
     def planned(self, variant: str, what: str, room: int = 0, **changed: str) -> Case:
-        certificate, _ = self.programs.plan(joined(self.service, self.programs).but(**changed))
+        inputs = joined(self.service, self.programs).but(**changed)
+        if "demand" in changed:  # a row may ask for more than a table can say, and then it is planned as a log is
+            inputs = replace(inputs, is_log=inputs.is_log or is_log(inputs.demand))
+        certificate, _ = self.programs.plan(inputs)
         self.done()
         if not certificate.is_plan:
             return Case(variant, what, room, None, None, certificate.demand - certificate.capacity)
