@@ -13,6 +13,7 @@ from pathlib import Path
 import pytest
 
 from hsp.base.programs import Missing
+from hsp.plans.proxied import url_of
 from hsp.proxy import runtime
 from hsp.proxy.runtime import Runtime
 
@@ -123,3 +124,13 @@ def test_a_socket_that_hsp_has_not_written_so(hsp: Hsp, proxy: Path, tmp_path: P
     ended = hsp("steer", f"{tmp_path}/two-sites", "--into", str(proxy), "--once", status=1)
     why = "hsp export hasn't written it so: it has no socket of HAProxy's runtime"
     assert ended.stderr == f"hsp: {config}: {why}\n"
+
+
+@pytest.mark.parametrize("host", ["[:::::]", "[192.0.2.1]", "999.1.1.1", "192.0.2", "1"])
+def test_what_only_looks_as_an_address_is_none(hsp: Hsp, example: Example, tmp_path: Path, host: str) -> None:
+    (tmp_path / "networks.csv").write_text(NETWORKS)
+    words = ["export", "haproxy", str(example("two-sites")), "--into", f"{tmp_path}/proxy"]
+    words += ["--regions", f"{tmp_path}/networks.csv"]
+    ended = hsp(*words, "--listen", f"{host}:80", status=1)
+    assert ended.stderr.startswith(f"hsp: '{host}:80' is no address to listen at")
+    assert url_of(f"http://{host}:80") is None and url_of("http://a1:80") and url_of("http://[::1]")

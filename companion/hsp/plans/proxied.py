@@ -80,15 +80,25 @@ def url_of(text: str) -> Url | None:
     if not match or not is_port(match[3] or "1"):
         return None
     url = Url(match[1], match[2], int(match[3] or PORTS[match[1]]))
-    if url.is_name and url.host.startswith("["):
-        return None
-    return url
+    return url if is_host(url.host) else None
+
+
+def is_host(text: str) -> bool:
+    """Whether a host that looks as an address is one. A name has a letter, and whether somebody has it isn't known."""
+    is_long = text.startswith("[")
+    if not is_long and re.search("[A-Za-z]", text):
+        return True
+    try:
+        ipaddress.IPv6Address(text.strip("[]")) if is_long else ipaddress.IPv4Address(text)
+    except ValueError:
+        return False
+    return True
 
 
 def is_address(text: str) -> bool:
     """Whether HAProxy can listen there: a host and a port."""
     match = ADDRESS.fullmatch(text)
-    return bool(match) and is_port(match[2]) if match else False
+    return bool(match and is_port(match[2]) and (match[1] in (None, "*") or is_host(match[1])))
 
 
 def network_of(text: str) -> str | None:
