@@ -13,7 +13,7 @@ import click
 
 # Kinds of signs that nobody sees: controls, formats such as marks of direction, halves of a letter, ends of lines.
 UNSEEN = ("Cc", "Cf", "Cs", "Zl", "Zp")
-# What marks colours of hsp's own, until a line is printed. No text of a file can hold it, as it is drawn anew each time.
+# What marks colours of hsp's own until a line is printed. No file can hold it, since it is drawn anew each time.
 OWN = secrets.token_hex(16)
 COLOUR = re.compile(f"\x1b{OWN}(\\[[0-9;]*m)")
 

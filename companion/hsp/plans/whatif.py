@@ -44,7 +44,7 @@ class Changes:
 
     def planned(self, variant: str, what: str, room: int = 0, **changed: str) -> Case:
         inputs = joined(self.service, self.programs).but(**changed)
-        if "demand" in changed:  # a row may ask for more than a table can say, and then it is planned as a log is
+        if "demand" in changed:  # what no table can hold is planned as a log is
             inputs = replace(inputs, is_log=inputs.is_log or is_log(inputs.demand))
         certificate, _ = self.programs.plan(inputs)
         self.done()

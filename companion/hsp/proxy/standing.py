@@ -78,7 +78,7 @@ def kept(state: State, counts: Counts) -> bytes:
 
 
 def _is_number(value: object) -> bool:
-    """Whether it is a number of a size that a time or a count can have. No other is in a file that hsp has written."""
+    """Whether it is a number that a time or a count can be. No other is in a file that hsp has written."""
     return isinstance(value, (int, float)) and -GREATEST <= value <= GREATEST
 
 
