@@ -2,6 +2,7 @@
 
 from __future__ import annotations
 
+import bz2
 import gzip
 import json
 import lzma
@@ -223,6 +224,19 @@ def test_what_is_remembered_is_bounded(monkeypatch: pytest.MonkeyPatch) -> None:
     for number in range(0, 200, 20):
         assert judge.faults(b"20.500.1/%d" % it for it in range(number, number + 20)) == {}
         assert len(judge._known) <= 60
+
+
+def test_what_follows_a_stream_of_bzip2_is_one(tmp_path: Path) -> None:
+    path, text = tmp_path / "log.bz2", b"".join(b"line %d\n" % it for it in range(100_000))
+    first, more = bz2.compress(text), bz2.compress(b"more\n")
+    path.write_bytes(first + bytes(9) + more + bz2.compress(b""))
+    with opened(str(path)) as file:
+        assert file.read() == text + b"more\n"
+    damaged = b"BZx" + more[3:]
+    for octets, why in ((first + damaged, "Invalid"), (first + b"junk", "Invalid"), (first + more[:9], "the file ends")):
+        path.write_bytes(octets)
+        with pytest.raises(Unfit, match=rf"log.bz2: line 100001: it can't be unpacked further: .*{why}"):
+            list(numbered(str(path), Skipped()))
 
 
 def test_an_xz_file_may_have_streams_and_no_great_memory(tmp_path: Path) -> None:

@@ -58,11 +58,11 @@ class Skipped:
         return sum(self.counts.values())
 
 
-class _Xz(io.RawIOBase):
-    """The streams of an xz file, unpacked in bounded memory, whatever their heads ask for."""
+class _Streams(io.RawIOBase):
+    """The streams of a packed file, each unpacked by what is made afresh. What follows a stream has to be one."""
 
-    def __init__(self, file: IO[bytes]) -> None:
-        self._file, self._stream = file, lzma.LZMADecompressor(lzma.FORMAT_XZ, MOST_XZ)
+    def __init__(self, file: IO[bytes], fresh: Callable[[], Any]) -> None:
+        self._file, self._fresh, self._stream = file, fresh, fresh()
 
     def readable(self) -> bool:
         return True
@@ -77,7 +77,7 @@ class _Xz(io.RawIOBase):
                     if not block:
                         return 0
                     rest = block.lstrip(b"\0")
-                self._stream = lzma.LZMADecompressor(lzma.FORMAT_XZ, MOST_XZ)
+                self._stream = self._fresh()
             else:
                 rest = self._file.read(io.DEFAULT_BUFFER_SIZE) if self._stream.needs_input else b""
                 if not rest and self._stream.needs_input:
@@ -88,12 +88,17 @@ class _Xz(io.RawIOBase):
 
 
 def _unpacked_xz(file: IO[bytes]) -> io.BufferedReader:
-    return io.BufferedReader(_Xz(file), BLOCK)
+    """In bounded memory, whatever the heads of the streams ask for."""
+    return io.BufferedReader(_Streams(file, lambda: lzma.LZMADecompressor(lzma.FORMAT_XZ, MOST_XZ)), BLOCK)
+
+
+def _unpacked_bzip2(file: IO[bytes]) -> io.BufferedReader:
+    return io.BufferedReader(_Streams(file, bz2.BZ2Decompressor), BLOCK)
 
 
 PACKED: dict[bytes, Callable[[IO[bytes]], Any]] = {
     b"\x1f\x8b": gzip.open,
-    b"BZh": bz2.open,
+    b"BZh": _unpacked_bzip2,
     b"\xfd7zXZ\x00": _unpacked_xz,
 }
 

@@ -212,9 +212,8 @@ def is_table(path: str) -> bool:
 
 def named_in(path: str, elsewhere: str | None) -> list[str]:
     """The regions of a table of networks, as far as they are text. A database doesn't say which it has."""
-    with open(path, "rb") as file:
-        octets = file.read()
-    if DATABASE_MARK in octets[-(1 << 17) :]:
+    octets = whole(path)
+    if DATABASE_MARK in octets[-TAIL:]:
         return []
     names = dict.fromkeys(region.decode() for _, _, region in Networks._rows(path, octets))
     return [*names, *([elsewhere] if elsewhere and elsewhere not in names else [])]
