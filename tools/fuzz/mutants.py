@@ -1,25 +1,28 @@
 #!/usr/bin/env python3
-"""Puts each wrong body of mutants/ into a copy of the sources, and checks that its test or case refuses it.
+"""Puts each wrong body of mutants/ into a copy of the sources, and checks that its test, its case or the prover
+refuses it.
 
     tools/fuzz/mutants.py [--jobs N] [--seconds N] [CRATE | CRATE/NAME]..
 
-The prover lets these bodies pass: a contract allows out of memory at any time, and is silent on speed, streams and
-the texts of faults. So a test has to find them. An edit mutants/CRATE/NAME.edit has lines like those of a must-fail
-edit, and one that names the test or the case that has to refuse it:
+The prover lets most of these bodies pass: a contract allows out of memory at any time, and is silent on speed,
+streams and the texts of faults. So a test has to find them. The others turn a public call that an edit of the gate
+turns already, in another way: the prover has to refuse them. An edit mutants/CRATE/NAME.edit has lines like those of
+a must-fail edit, and one that names what has to refuse it:
 
   file: src/FILE.rt     the file of crates/CRATE that is changed
   test: CRATE NAME      a test, by its own name, of this crate or of one above it
   case: NAME            or a case of checks/hsplan, run on the unproved hsplan
   stream: TEXT          or the cases of checks/hsplan-stream that have the text in their words, their log or their
                         last line, and that need no plan, run on the unproved hsplan-stream
+  prover:               or the prover, as it does a must-fail edit
   refused: N            optional: the allocation of the test, counted from 1, that is refused while it runs
   old: TEXT             a text that stands in the file once
   new: TEXT             what stands in its place
 
-Nothing is proved: `rt try` runs the tests and the programs with checks. First each test and each case that an edit
+For tests and cases nothing is proved: `rt try` runs the tests and the programs with checks. First each test and each case that an edit
 names has to pass on the sources as they stand. An edit is refused where its test fails, or where a case that it names
 has another output or another end. Sources that do not compile, and a run without an end, refuse nothing. If crates or
-edits are named, only these are tried.
+edits are named, only these are tried. `rt must-fail` tries those of the prover, over proofs of the crates.
 """
 from __future__ import annotations
 
@@ -80,11 +83,11 @@ def read_mutant(path: str) -> Mutant:
             old.append(text)
         elif key == "new" and len(old) == len(new) + 1:
             new.append(text)
-        elif key in ("file", "test", "case", "stream", "refused") and key not in found:
+        elif key in ("file", "test", "case", "stream", "prover", "refused") and key not in found:
             found[key] = text.strip()
         else:
             raise ValueError(f"{path}: this is not a line of an edit: {line}")
-    kinds = [key for key in ("test", "case", "stream") if key in found]
+    kinds = [key for key in ("test", "case", "stream", "prover") if key in found]
     if "file" not in found or len(kinds) != 1 or not new or len(old) != len(new):
         raise ValueError(f"{path}: a line is missing, or there is one too many")
     if kinds == ["test"] and len(found["test"].split()) != 2 or "refused" in found and kinds != ["test"]:
@@ -278,6 +281,8 @@ def check_forms(room: Room, mutants: list[Mutant]) -> None:
     """Checks that each old text stands once and each case is there, before an hour goes into runs."""
     for mutant in mutants:
         changed(mutant)
+        if mutant.kind == "prover":
+            continue
         is_there = mutant.by in room.cases if mutant.kind == "case" else room.wanted(mutant)
         if not is_there:
             raise ValueError(f"mutants/{mutant.crate}/{mutant.name}.edit: no {mutant.kind} {mutant.by}")
@@ -302,6 +307,21 @@ def all_printed(pool: concurrent.futures.Executor, calls: Iterable[Callable[[], 
     return answers
 
 
+def refused_by_prover(top: str, mutants: list[Mutant]) -> bool:
+    """Whether the prover refuses all of these wrong bodies, as must-fail edits of a copy that has no others."""
+    if not mutants:
+        return True
+    copy = os.path.join(top, "proved")
+    shutil.copytree(programs.TOP, copy, ignore=shutil.ignore_patterns("out", "must-fail", ".git", "release", "examples"))
+    for mutant in mutants:
+        folder = Path(copy, "crates", mutant.crate, "must-fail")
+        folder.mkdir(exist_ok=True)
+        pairs = "".join(f"old: {old}\nnew: {new}\n" for old, new in mutant.pairs)
+        (folder / f"{mutant.name}.edit").write_text(f"file: {mutant.file}\n{pairs}", "utf-8")
+    crates = sorted({it.crate for it in mutants})
+    return subprocess.run(["rt", "must-fail", *crates], cwd=copy, stdin=subprocess.DEVNULL).returncode == 0
+
+
 def main() -> int:
     words = argparse.ArgumentParser(description="Checks that each wrong body of mutants/ is refused.")
     half = max(1, (os.cpu_count() or 1) // 2)
@@ -309,18 +329,22 @@ def main() -> int:
     words.add_argument("--seconds", type=int, default=300, help="how long a test or a case may take (300)")
     words.add_argument("names", nargs="*", metavar="CRATE | CRATE/NAME")
     given = words.parse_args()
-    begun, mutants = time.monotonic(), read_mutants(given.names)
+    begun, every = time.monotonic(), read_mutants(given.names)
+    of_prover = [it for it in every if it.kind == "prover"]
+    mutants = [it for it in every if it.kind != "prover"]
     with tempfile.TemporaryDirectory() as top, concurrent.futures.ThreadPoolExecutor(given.jobs) as pool:
         room = Room(top, given.jobs, given.seconds)
-        check_forms(room, mutants)
+        check_forms(room, every)
         calls = [functools.partial(stands, room, group) for group in grouped(room, mutants)]
         first = all_printed(pool, [functools.partial(room.use, call) for call in calls])
         tries = [functools.partial(is_refused, room, mutant) for mutant in mutants]
         refused = all_printed(pool, [functools.partial(room.use, one) for one in tries])
+        is_proved = refused_by_prover(top, of_prover)
     wrong = refused.count(False) + first.count(False)
     minutes = f"{(time.monotonic() - begun) / 60:.0f} minutes by {given.jobs} jobs"
-    print(f"mutants: {len(mutants)} wrong bodies, {sum(refused)} refused, {wrong} faults, {minutes}")
-    return 1 if wrong or not mutants else 0
+    by_prover = f"of {len(of_prover)} for the prover {'all' if is_proved else 'NOT ALL'} refused"
+    print(f"mutants: {len(mutants)} wrong bodies, {sum(refused)} refused, {wrong} faults; {by_prover}; {minutes}")
+    return 1 if wrong or not is_proved or not every else 0
 
 
 if __name__ == "__main__":
