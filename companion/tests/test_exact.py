@@ -172,9 +172,13 @@ def test_a_terminal_gets_bold_dim_and_coloured_words(monkeypatch: pytest.MonkeyP
     monkeypatch.setattr(text.sys.stdout, "isatty", lambda: True, raising=False)
     monkeypatch.delenv("NO_COLOR", raising=False)
     found = [text.bold("a"), text.dim("a"), text.colored("a", "red"), text.colored("a", "yellow")]
-    assert found == ["\x1b[1ma\x1b[0m", "\x1b[2ma\x1b[0m", "\x1b[31m\x1b[1ma\x1b[0m", "\x1b[33m\x1b[1ma\x1b[0m"]
     said: list[tuple[str, bool]] = []
     monkeypatch.setattr(text.click, "echo", lambda line, err=False, nl=True: said.append((line, nl)))
+    for words in found:
+        text.say(words)
+    shown = ["\x1b[1ma\x1b[0m", "\x1b[2ma\x1b[0m", "\x1b[31m\x1b[1ma\x1b[0m", "\x1b[33m\x1b[1ma\x1b[0m"]
+    assert [line for line, _ in said] == shown
+    said.clear()
     text.say(f"{found[0]}\x1b[2J")
     text.give("a\x07\nb\n")
     text.give(b"\xffc")

@@ -149,11 +149,13 @@ def haproxy(folder: str, **given: Any) -> None:
     inputs = [*read_in(folder, given), said.regions]
     programs = Programs()
     frame = frame_of(words, said)
+    programs.hold([said.regions])
     networks = map_of(said.regions, said.elsewhere, programs)
     service = checked(folder, programs, given)
     targets = targets_of(service, said.urls, programs)
     contents = files_of(service, targets, networks.lines, frame)
     refuse_clashes(inputs, [path_in(words.into, name) for name in contents])
+    programs.insist_held()
     os.makedirs(words.into, exist_ok=True)
     with locked([words.into]):
         refuse_others(words.into, contents)
