@@ -292,8 +292,10 @@ def grouped(room: Room, mutants: list[Mutant]) -> list[list[Mutant]]:
     """Those whose tests or cases can be run at once: of one crate and allocation, or with the same files."""
     groups: defaultdict[tuple[str, ...], list[Mutant]] = defaultdict(list)
     for it in mutants:
-        own = {"test": it.by.split()[0], "case": it.by if it.kind == "case" and room.cases[it.by].files else ""}
-        groups[it.kind, own.get(it.kind, ""), it.refused].append(it)
+        by_case = {"case": [room.cases[it.by]] if it.by in room.cases else [], "stream": room.with_text(it.by)}
+        files = any(case.files for case in by_case.get(it.kind, []))
+        own = it.by.split()[0] if it.kind == "test" else it.by if files else ""
+        groups[it.kind, own, it.refused].append(it)
     return list(groups.values())
 
 
