@@ -19,7 +19,8 @@ a must-fail edit, and one that names what has to refuse it:
   old: TEXT             a text that stands in the file once
   new: TEXT             what stands in its place
 
-For tests and cases nothing is proved: `rt try` runs the tests and the programs with checks. First each test and each case that an edit
+For tests and cases nothing is proved: `rt try` runs the tests and the programs with checks. First each test and each
+case that an edit
 names has to pass on the sources as they stand. An edit is refused where its test fails, or where a case that it names
 has another output or another end. Sources that do not compile, and a run without an end, refuse nothing. If crates or
 edits are named, only these are tried. `rt must-fail` tries those of the prover, over proofs of the crates.

@@ -212,6 +212,8 @@ def is_table(path: str) -> bool:
 
 def named_in(path: str, elsewhere: str | None) -> list[str]:
     """The regions of a table of networks, as far as they are text. A database doesn't say which it has."""
+    if DATABASE_MARK in _tail(path):
+        return []
     octets = whole(path)
     if DATABASE_MARK in octets[-TAIL:]:
         return []
