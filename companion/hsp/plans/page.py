@@ -94,7 +94,7 @@ class Fact:
 
 @dataclass(frozen=True)
 class FactTable:
-    """A table of texts below a title and a note. Its name tells it from others."""
+    """A table of texts below a title and a note. Its name distinguishes it from others."""
 
     name: str
     title: str

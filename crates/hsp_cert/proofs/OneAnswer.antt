@@ -4,6 +4,7 @@ use Rattle.std.proofs.Common.{◌∙◌, arith, inl, inr, append_assoc, Ok, Err}
 use Rattle.std.specs.List.{AllByRecursion}
 use Rattle.std.proofs.lemmas.List.{append-nil}
 use Rattle.std.proofs.lemmas.Option.{same_Some}
+use Rattle.hsp_text.proofs.Lists.{all_front, all_back}
 use Rattle.hsp_cert.specs.declared.item.Word.TheVariants as word
 use Rattle.hsp_cert.specs.declared.item.Item.{Item}
 use Rattle.hsp_cert.specs.declared.item.Item.TheVariants as item
@@ -15,7 +16,6 @@ use Rattle.hsp_cert.specs.Lexing.{item_in}
 use Rattle.hsp_cert.specs.Drafts.{Drafted}
 use Rattle.hsp_cert.specs.Steps.{step, start, claimed}
 use Rattle.hsp_cert.specs.Reading.{LinesStand, HasNoEnd, IsBadLine, IsEnded, IsAfterEnd, HasOneAnswer, HasOneSpelling}
-use Rattle.hsp_cert.proofs.ListSteps.{all_front, all_back}
 use Rattle.hsp_cert.proofs.LineCuts.{Unbroken, by_recursion, same_line, no_line, first_line, GoesOn, fronts}
 use Rattle.hsp_cert.proofs.WholeRuns.{run, run-append, run-none, run_whole, ended}
 use Rattle.hsp_cert.proofs.LinesRead.{ReadsBack, claim_back, claim_unbroken, up_to}

@@ -10,7 +10,7 @@ use Rattle.hsp_transport.specs.Kinds.{Link, link_of}
 use Rattle.hsp_transport.specs.Sums.{sum_below}
 use Rattle.hsp_transport.proofs.KindPrices.{of_all}
 use Rattle.hsp_transport.proofs.Rowwise.{allowed_by, by_row, by_rows, when}
-use Rattle.hsp_transport.proofs.Summing.{by_place, sum_below_same}
+use Rattle.hsp_transport.proofs.Summing.{by_place, sum_below_same, sum_by_map}
 use Rattle.hsp_instance.specs.Instance.{Row, Server}
 use Rattle.hsp_instance.specs.declared.arc.Arc.{Arc}
 use Rattle.hsp_instance.proofs.Lists.{all_so}
@@ -32,7 +32,7 @@ use Rattle.hsp_classes.proofs.ClassKinds.{least_ascend, own_least}
 use Rattle.hsp_classes.proofs.Flows.{class_table, flow, loads, total_cost}
 use Rattle.hsp_classes.proofs.GivenClasses.{given_classes}
 use Rattle.hsp_classes.proofs.LeastPay.{all_pay}
-use Rattle.hsp_classes.proofs.Lists.{same_sum, sum_map}
+use Rattle.hsp_classes.proofs.Lists.{same_sum}
 use Rattle.hsp_classes.proofs.Networks.{network_there}
 use Rattle.hsp_classes.proofs.Once.{sum_none}
 use Rattle.hsp_classes.proofs.Served.{sends_all}
@@ -73,7 +73,7 @@ module _ (at : Service) (plan : Best) (rows : List Row) where
       ≡ sum_by (λ (a : Arc). g (link a) (flow at plan (row_at table k) a.server)) (least_of at plan (row_at table k))
   over_links g k l =
       ap (sum_by (λ (b : Link). g b (class_plan k b.site))) (links_are at (least_of at plan) table k l)
-      ∙ sum_map (λ (b : Link). g b (class_plan k b.site)) link (least_of at plan (row_at table k))
+      ∙ sum_by_map (λ (b : Link). g b (class_plan k b.site)) link (least_of at plan (row_at table k))
       ∙ same_sum _ _ (least_of at plan (row_at table k))
       (all_so (λ (a : Arc). class_plan k a.site ≡ flow at plan (row_at table k) a.server) _
       (least_of at plan (row_at table k)) (λ a e. ap (g (link a)) e) (planned_is k l))

@@ -4,8 +4,8 @@ use Rattle.std.proofs.Common.{All, Option, Some, None, sum_by, refl, ap, ap₂, 
 use Rattle.std.specs.List.{AllByRecursion, list_any}
 use Rattle.std.proofs.lemmas.List.Elements.{recursion_from_All}
 use Rattle.std.proofs.lemmas.List.Sums.{sum_by-cons}
-use Rattle.hsp_transport.proofs.Rowwise.{same_by, sum_by_none, sum_by_when, when, when_here, when_zero}
-use Rattle.hsp_transport.proofs.Summing.{sum_by_add}
+use Rattle.hsp_transport.proofs.Rowwise.{same_by, sum_by_none, sum_by_when, when, when_here, when_zero, when_same}
+use Rattle.hsp_transport.proofs.Summing.{sum_by_add, sum_by_map}
 use Rattle.hsp_instance.specs.Instance.{Row}
 use Rattle.hsp_instance.specs.declared.arc.Arc.{Arc}
 use Rattle.hsp_instance.proofs.Lists.{all_so}
@@ -18,15 +18,10 @@ use Rattle.hsp_classes.specs.Shown.{IsService}
 use Rattle.hsp_classes.proofs.ClassKinds.{by_class, classes_are_kinds, is_same_class, least_kept, of_class, own_least}
 use Rattle.hsp_classes.proofs.ClassKinds.{alike_to, same_least, same_of}
 use Rattle.hsp_classes.proofs.GivenClasses.{IsGiven, class_sums}
-use Rattle.hsp_classes.proofs.Lists.{same_sum, sum_map, sum_turned}
+use Rattle.hsp_classes.proofs.Lists.{same_sum, sum_turned}
 use Rattle.hsp_classes.proofs.Once.{sum_once}
 use Rattle.hsp_classes.proofs.ServerArcs.{IsOwn}
 use Rattle.hsp_classes.proofs.TableSums.{once_apart, table_any, table_apart, table_sum}
-
--- a condition on numbers that are equal where it holds
-pub when_same : (t : Bool) (v w : ℕ) → (t ≡ true → v ≡ w) → when t v ≡ when t w
-when_same true v w same = same refl
-when_same false v w same = refl
 
 -- what counts at a server for an amount: nothing for none, and for two amounts what counts for each
 pub record IsLinear (f : ℕ → ℕ → ℕ) : Type 0 where
@@ -78,7 +73,7 @@ module _ (f : ℕ → ℕ → ℕ) (linear : IsLinear f) where
     of_one t c given =
         sum_by_when (is_of at plan c t) (λ (a : Arc). f a.server (class_load a.server c)) (least_of at plan t)
         ∙ when_same (is_of at plan c t) _ _ (λ e.
-        sym (sum_map (λ j. f j (class_load j c)) (λ (a : Arc). a.server) (least_of at plan t))
+        sym (sum_by_map (λ j. f j (class_load j c)) (λ (a : Arc). a.server) (least_of at plan t))
         ∙ ap (sum_by (λ j. f j (class_load j c))) (sym (of_class at plan c t e).1)
         ∙ class_sums f c given)
 

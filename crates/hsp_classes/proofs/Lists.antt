@@ -1,8 +1,7 @@
 -- What holds of all elements of a list, and sums over lists in two orders.
-use Rattle.std.proofs.Common.{◌≡◌, ℕ, ◌+◌, ◌∙◌, Bool, true, false, List, [], ◌∷◌, filter, map, sum_by, refl, ap, ap₂}
+use Rattle.std.proofs.Common.{◌≡◌, ℕ, ◌+◌, ◌∙◌, Bool, true, false, List, [], ◌∷◌, filter, sum_by, refl, ap, ap₂}
 use Rattle.std.proofs.Common.{sym}
 use Rattle.std.specs.List.{AllByRecursion}
-use Rattle.std.proofs.lemmas.List.Folds.{fold-map}
 use Rattle.std.proofs.lemmas.List.Sums.{sum_by-cons}
 use Rattle.hsp_transport.proofs.Rowwise.{same_by, sum_by_none}
 use Rattle.hsp_transport.proofs.Summing.{sum_by_add}
@@ -35,10 +34,6 @@ pub same_sum : {A : Type 0} (f g : A → ℕ) (xs : List A) → AllByRecursion (
 same_sum f g [] all = refl
 same_sum f g (x ∷ xs) all =
     sum_by-cons f x xs ∙ ap₂ (λ m n. m + n) all.0 (same_sum f g xs all.1) ∙ sym (sum_by-cons g x xs)
-
--- a sum over what a function gives is one over what it is given
-pub sum_map : {A B : Type 0} (f : B → ℕ) (h : A → B) (xs : List A) → sum_by f (map h xs) ≡ sum_by (λ x. f (h x)) xs
-sum_map f h xs = fold-map (λ s b. s + f b) h 0 xs
 
 -- a sum over two lists may be taken in either order
 pub sum_turned : {A B : Type 0} (f : A → B → ℕ) (xs : List A) (ys : List B)

@@ -1,14 +1,14 @@
 -- A row of the table of classes sends what it asks for.
 use Rattle.std.proofs.Common.{◌≡◌, ℕ, ◌+◌, ◌<◌, ◌∙◌, Bool, true, false, List, [], ◌∷◌, length, All}
 use Rattle.std.proofs.Common.{sum, sum_by, refl, ap, sym, subst, arith}
-use Rattle.std.specs.List.{list_any}
 use Rattle.std.proofs.lemmas.List.Elements.{All-from_recursion, recursion_from_All}
-use Rattle.hsp_transport.proofs.Rowwise.{same_by, sum_by_none, when, when_zero}
+use Rattle.hsp_transport.proofs.Rowwise.{same_by, sum_by_none, when, when_zero, when_same}
 use Rattle.hsp_instance.specs.Instance.{Row}
 use Rattle.hsp_instance.specs.declared.arc.Arc.{Arc}
 use Rattle.hsp_kinds.specs.Rows.{Service, with_count_of}
 use Rattle.hsp_kinds.proofs.ByTables.{no_row, row_at}
 use Rattle.hsp_price_text.specs.Claim.{Best, Class, is_best}
+use Rattle.hsp_check.proofs.Shortages.{any_same}
 use Rattle.hsp_classes.specs.Least.{is_of, least_of, only_arc, servers_of}
 use Rattle.hsp_classes.specs.Shown.{IsService}
 use Rattle.hsp_classes.specs.Sums.{asked_of}
@@ -16,16 +16,11 @@ use Rattle.hsp_classes.specs.Verdict.{IsPlaced}
 use Rattle.hsp_classes.proofs.ByRow.{no_class, one_of}
 use Rattle.hsp_classes.proofs.ClassKinds.{alike_to, by_class, classes_are_kinds, is_same_class, least_kept}
 use Rattle.hsp_classes.proofs.ClassKinds.{least_servers, same_least, same_of}
-use Rattle.hsp_classes.proofs.Flows.{IsLinear, at_only, class_table, flow, row_sum, when_same}
+use Rattle.hsp_classes.proofs.Flows.{IsLinear, at_only, class_table, flow, row_sum}
 use Rattle.hsp_classes.proofs.GivenClasses.{IsGiven, class_amounts, given_classes}
 use Rattle.hsp_classes.proofs.Lists.{all_both, same_sum}
 use Rattle.hsp_classes.proofs.Once.{sum_none, sum_once, sum_only}
 use Rattle.hsp_classes.proofs.TableSums.{once_apart, table_all, table_apart, table_sum}
-
--- tests that agree find the same
-any_alike : {A : Type 0} (f g : A → Bool) → ((x : A) → f x ≡ g x) → (xs : List A) → list_any f xs ≡ list_any g xs
-any_alike f g same [] = refl
-any_alike f g same (x ∷ xs) = rw (same x, any_alike f g same xs) refl
 
 -- each amount is itself
 itself : IsLinear (λ j v. v)
@@ -38,8 +33,8 @@ module _ (at : Service) (plan : Best) (is : IsService at) (fits : is_best plan �
   placed_with a b [] own other = omega (arith, own, other)
   placed_with a b (x ∷ []) own other = tt
   placed_with a b (x ∷ z ∷ more) own other =
-      any_alike (λ c. is_of at plan c (with_count_of a b)) (λ c. is_of at plan c a)
-      (λ c. sym (alike_to at plan c a (with_count_of a b) ((classes_are_kinds at plan).kept a b))) plan.classes ∙ own
+      any_same (λ c. is_of at plan c (with_count_of a b)) (λ c. is_of at plan c a) plan.classes
+      (λ k c l. sym (alike_to at plan _ a (with_count_of a b) ((classes_are_kinds at plan).kept a b))) ∙ own
 
   -- so the rows of the table are placed
   placed : All (λ row. IsPlaced at plan row (least_of at plan row)) rows

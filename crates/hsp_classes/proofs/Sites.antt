@@ -6,10 +6,11 @@ use Rattle.std.proofs.lemmas.Bool.{and_left, cases_eq, or_from}
 use Rattle.std.proofs.lemmas.List.Sums.{sum_by-cons}
 use Rattle.hsp_transport.specs.Kinds.{Link, links_to}
 use Rattle.hsp_transport.proofs.Rowwise.{when, when_here, when_there}
+use Rattle.hsp_transport.proofs.Summing.{sum_by_map}
 use Rattle.hsp_instance.specs.Instance.{IsAscending}
 use Rattle.hsp_instance.specs.declared.arc.Arc.{Arc}
 use Rattle.hsp_check.proofs.RowLinks.{link}
-use Rattle.hsp_classes.proofs.Lists.{all_both, all_kept, sum_map}
+use Rattle.hsp_classes.proofs.Lists.{all_both, all_kept}
 
 abbrev IsAfter : ℕ → Arc → Type 0
 IsAfter s later = s < later.site
@@ -64,7 +65,7 @@ one_to_site (x ∷ xs) up s = elim (cases_eq x.site s) [
       omega (
         arith,
         sum_by-cons (λ (b : Link). when (b.site == s) 1) (link x) (map link xs),
-        sum_map (λ (b : Link). when (b.site == s) 1) link xs,
+        sum_by_map (λ (b : Link). when (b.site == s) 1) link xs,
         none_at (λ b. 1) s xs (subst (λ v. AllByRecursion (IsAfter v) xs) e up.0),
         ap (λ t. when (t == s) 1) e,
         when_here s 1,

@@ -29,7 +29,7 @@ pub trait Program {
     /// The line of the sums.
     ghost sums_text: { Self.Sums → List ℕ };
 
-    /// The line of a failure that no run tells of, for which no memory is needed; of a fault no octets.
+    /// The line of a failure that no run reports, for which no memory is needed; of a fault no octets.
     fn own_line(failure: &Failure<Self::Fault>) -> &'static [u8]
         ensures { result.now ≡ own_text name failure.now };
 

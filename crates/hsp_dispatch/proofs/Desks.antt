@@ -4,6 +4,7 @@ use Rattle.std.proofs.Common.{Err, IfOk, arith, refl, sym, ap}
 use Rattle.std.specs.List.{slice_get}
 use Rattle.std.proofs.lemmas.List.{append-nil, append_assoc, map_push}
 use Rattle.std.proofs.lemmas.Option.{slice_get-map}
+use Rattle.hsp_text.proofs.Lists.{zip_push}
 use Rattle.hsp_csv.specs.Records.{Fields}
 use Rattle.hsp_instance.specs.Instance.{Instance, Server}
 use Rattle.hsp_check.specs.Plan.{Plan}
@@ -26,7 +27,7 @@ use Rattle.hsp_dispatch.specs.declared.answer.Given.TheVariants as given
 use Rattle.hsp_dispatch.specs.declared.form.Form.{Form}
 use Rattle.hsp_dispatch.proofs.Counting.{counted_answer, counted_more}
 use Rattle.hsp_dispatch.proofs.Each.{each_parts}
-use Rattle.hsp_dispatch.proofs.Lists.{none_from, zip_push}
+use Rattle.hsp_dispatch.proofs.Lists.{none_from}
 use Rattle.hsp_dispatch.proofs.FrontLaws.{answered_by, left_on}
 use Rattle.hsp_dispatch.proofs.Resting.{answer_after, answers_more, rest_more, rest_none}
 

@@ -1,7 +1,7 @@
 -- Lists, element by element.
 use Rattle.std.proofs.Common.{◌≡◌, ◌≤◌, ◌∙◌, ◌++◌, ◌+◌, ℕ, zero, suc, List, [], ◌∷◌, length, take, None, Some, arith}
 use Rattle.std.proofs.Common.{ap}
-use Rattle.std.specs.List.{AllByRecursion, AllZip, slice_get}
+use Rattle.std.specs.List.{AllZip, slice_get}
 use Rattle.std.proofs.lemmas.List.{take_more}
 use Rattle.std.proofs.lemmas.Option.{get_or_from_slice_get, same_Some, slice_get_within}
 
@@ -17,14 +17,6 @@ pub none_from : {A : Type 0} (xs : List A) (k : ℕ) → slice_get xs k ≡ None
 none_from [] k none = omega arith
 none_from (x ∷ xs) zero none = absurd (cc)
 none_from (x ∷ xs) (suc k) none = omega (arith, none_from xs k none)
-
--- what holds of two lists place by place, with one element more in each
-pub zip_push : {A B : Type 0} (R : A → B → Type 0) (xs : List A) (ys : List B) (x : A) (y : B) → AllZip R xs ys → R x y
-    → AllZip R (xs ++ x ∷ []) (ys ++ y ∷ [])
-zip_push R [] [] x y all is = (is, tt)
-zip_push R [] (b ∷ ys) x y all is = absurd all
-zip_push R (a ∷ xs) [] x y all is = absurd all
-zip_push R (a ∷ xs) (b ∷ ys) x y all is = (all.0, zip_push R xs ys x y all.1 is)
 
 -- what holds of two lists side by side holds at each place
 pub zip_at : {A B : Type 0} (R : A → B → Type 0) (xs : List A) (ys : List B) (k : ℕ) (x : A) (y : B) → AllZip R xs ys

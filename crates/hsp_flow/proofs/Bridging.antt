@@ -1,5 +1,5 @@
 -- The plan that is made from a flow gives each arc what flows on it, and nothing to a pair that no arc joins.
-use Rattle.std.proofs.Common.{◌≡◌, ℕ, zero, suc, ◌+◌, ◌<◌, ◌==◌, ◌∙◌, Bool, true, false, List, [], ◌∷◌, length}
+use Rattle.std.proofs.Common.{◌≡◌, ℕ, ◌+◌, ◌<◌, ◌==◌, ◌∙◌, Bool, true, false, List, [], ◌∷◌, length}
 use Rattle.std.proofs.Common.{slice_index, slice_index_or, if◌then◌else◌, refl, ap₂, sym, inl, inr, arith, eq-eqb}
 use Rattle.std.proofs.Common.{eqb-true, ne_eqb}
 use Rattle.std.specs.Prelude.{◌&&◌}
@@ -10,17 +10,11 @@ use Rattle.std.proofs.lemmas.Bool.{cases_eq, cases_Bool, and_parts, and_from}
 use Rattle.hsp_cert.specs.declared.use_line.UseLine.{UseLine}
 use Rattle.hsp_check.specs.declared.arc.NetworkArc.{NetworkArc}
 use Rattle.hsp_check.specs.Uses.{table}
-use Rattle.hsp_transport.proofs.Summing.{sum_below_zero, sum_below_one}
+use Rattle.hsp_transport.proofs.Summing.{sum_below_zero, sum_below_one, sum_below_first}
 use Rattle.hsp_network.specs.Sums.{sum_below}
 use Rattle.hsp_flow.specs.Ordered.{AreOrdered}
 use Rattle.hsp_flow.specs.Planning.{use_of, uses_of}
 use Rattle.hsp_flow.proofs.Ordering.{no_arc, one_place}
-
--- the first term apart from the others
-pub first_apart : (n : ℕ) (f : ℕ → ℕ) → sum_below (suc n) f ≡ f 0 + sum_below n (λ k. f (suc k))
-first_apart zero f = omega arith
-first_apart (suc n) f =
-    let rest : sum_below (suc n) f ≡ f 0 + sum_below n (λ k. f (suc k)) = first_apart n f in omega arith
 
 abbrev pub arc : List NetworkArc → ℕ → NetworkArc
 arc arcs k = slice_index_or arcs k no_arc
@@ -54,7 +48,8 @@ table_is (a ∷ arcs) (flow ∷ flows) i s many =
     let g = λ (u : UseLine). if u.row == i && u.site == s then u.count else 0 in
     sum_by-append g (use_of a flow) (uses_of arcs flows)
     ∙ ap₂ (λ m n. m + n) (one_use a flow i s) (table_is arcs flows i s (omega arith))
-    ∙ sym (first_apart (length arcs) (λ k. if leads i s (arc (a ∷ arcs) k) then slice_index (flow ∷ flows) k else 0))
+    ∙ sym
+    (sum_below_first (length arcs) (λ k. if leads i s (arc (a ∷ arcs) k) then slice_index (flow ∷ flows) k else 0))
 
 module _ (arcs : List NetworkArc) (flows : List ℕ) (many : length flows ≡ length arcs) where
   -- a pair that no arc joins gets nothing

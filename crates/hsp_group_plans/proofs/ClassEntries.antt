@@ -16,6 +16,7 @@ use Rattle.std.proofs.lemmas.Cmp.{nat_list_cmp_total, tied_itself}
 use Rattle.std.proofs.lemmas.Map.Lookups.{exact_bytes}
 use Rattle.hsp_kinds.proofs.Tabling.{both_equal}
 use Rattle.hsp_groups.specs.Groups.{Group}
+use Rattle.hsp_groups.proofs.RowLeast.{same_test}
 use Rattle.hsp_group_plans.specs.ClassSums.{AddsFlow, Entries, added, amounts_at, amounts_with, is_key_of, key_cmp}
 use Rattle.hsp_group_plans.specs.declared.classes.ClassKey.{ClassKey}
 
@@ -27,16 +28,10 @@ then_equal Equal Equal e = (refl, refl)
 then_equal Equal Greater e = cc
 then_equal Greater p e = cc
 
--- tests that imply each other are equal
-same_tests : (x y : Bool) → (x ≡ true → y ≡ true) → (y ≡ true → x ≡ true) → x ≡ y
-same_tests true y there back = sym (there refl)
-same_tests false true there back = back refl
-same_tests false false there back = refl
-
 -- keys that compare alike are of one region and have the same servers
 pub at_key : (a b : ClassKey) → is_at (key_cmp a) b ≡ is_key_of a.region.items a.servers.items b
 at_key a b =
-    same_tests (is_at (key_cmp a) b) (is_key_of a.region.items a.servers.items b) (λ t.
+    same_test (is_at (key_cmp a) b) (is_key_of a.region.items a.servers.items b) (λ t.
     let parts = then_equal (slice_cmp nat_cmp a.region.items b.region.items)
     (slice_cmp nat_cmp a.servers.items b.servers.items) t in
     (both_equal b.region.items a.region.items b.servers.items a.servers.items).1 (

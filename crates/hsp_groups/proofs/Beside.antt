@@ -31,16 +31,6 @@ pub zip_made : {A B : Type 0} (f : A → B) (xs : List A) → zip xs (map f xs) 
 zip_made f [] = refl
 zip_made f (x ∷ xs) = ap (λ t. (x, f x) ∷ t) (zip_made f xs)
 
--- what holds of all of two lists in a row holds of all of the first
-pub all_front : {A : Type 0} (P : A → Type 0) (xs ys : List A) → AllByRecursion P (xs ++ ys) → AllByRecursion P xs
-all_front P [] ys all = tt
-all_front P (x ∷ xs) ys all = (all.0, all_front P xs ys all.1)
-
--- and of all of the second
-pub all_back : {A : Type 0} (P : A → Type 0) (xs ys : List A) → AllByRecursion P (xs ++ ys) → AllByRecursion P ys
-all_back P [] ys all = all
-all_back P (x ∷ xs) ys all = all_back P xs ys all.1
-
 -- what holds of all that a function gives
 pub all_given : {A B : Type 0} (Q : B → Type 0) (f : A → B) (xs : List A) → AllByRecursion Q (map f xs)
     → AllByRecursion (λ x. Q (f x)) xs

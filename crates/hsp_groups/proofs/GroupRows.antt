@@ -1,11 +1,11 @@
 -- Rows and their groups: what sums over rows are over groups, and what a group's least arcs are.
-use Rattle.std.proofs.Common.{◌≡◌, ℕ, ◌<◌, ◌∙◌, ◌&&◌, Bool, true, false, List, [], ◌∷◌, All, length, sum_by}
-use Rattle.std.proofs.Common.{refl, ap, ap₂, sym, subst, slice_index_or, arith}
+use Rattle.std.proofs.Common.{◌≡◌, ℕ, ◌<◌, ◌∙◌, ◌&&◌, Bool, true, List, [], ◌∷◌, All, length, sum_by}
+use Rattle.std.proofs.Common.{ap, ap₂, sym, subst, slice_index_or, arith}
 use Rattle.std.specs.List.{AllByRecursion, AllZip, list_any}
 use Rattle.std.specs.Str.{bytes_eq}
 use Rattle.std.proofs.lemmas.List.Elements.{All-from_recursion, recursion_from_All}
 use Rattle.std.proofs.lemmas.List.Folds.{Any-from_list_any}
-use Rattle.hsp_transport.proofs.Rowwise.{when}
+use Rattle.hsp_transport.proofs.Rowwise.{when, when_same}
 use Rattle.hsp_instance.specs.Instance.{IsAscending, Row}
 use Rattle.hsp_instance.specs.declared.arc.Arc.{Arc}
 use Rattle.hsp_instance.proofs.Lists.{all_so}
@@ -25,11 +25,6 @@ use Rattle.hsp_groups.proofs.LeastFlows.{AreApart}
 use Rattle.hsp_groups.proofs.Parted.{once_apart, sum_parted}
 use Rattle.hsp_groups.proofs.RowLeast.{least_kept}
 use Rattle.hsp_groups.proofs.RowPairs.{alike_so, with_first}
-
--- a condition on numbers that are equal where it holds
-pub when_same : (t : Bool) (v w : ℕ) → (t ≡ true → v ≡ w) → when t v ≡ when t w
-when_same true v w same = same refl
-when_same false v w same = refl
 
 module _ (at : Service) (plan : Best) where
   -- the least arcs that a row keeps

@@ -7,8 +7,8 @@ use Rattle.std.proofs.lemmas.Bool.{false_from_ne_true}
 use Rattle.std.proofs.lemmas.List.Elements.{recursion_from_All}
 use Rattle.std.proofs.lemmas.List.Folds.{list_any_none}
 use Rattle.std.proofs.lemmas.List.Sums.{sum_by-cons}
-use Rattle.hsp_transport.proofs.Rowwise.{same_by, sum_by_none, sum_by_when, when, when_zero}
-use Rattle.hsp_transport.proofs.Summing.{sum_by_add}
+use Rattle.hsp_transport.proofs.Rowwise.{same_by, sum_by_none, sum_by_when, when, when_zero, when_same}
+use Rattle.hsp_transport.proofs.Summing.{sum_by_add, sum_by_map}
 use Rattle.hsp_instance.specs.Instance.{Row}
 use Rattle.hsp_instance.specs.declared.arc.Arc.{Arc}
 use Rattle.hsp_instance.proofs.Lists.{all_so}
@@ -17,13 +17,13 @@ use Rattle.hsp_kinds.proofs.Tabling.{both_equal}
 use Rattle.hsp_price_text.specs.Claim.{Best, Class}
 use Rattle.hsp_classes.specs.Least.{is_least, least_of, only_arc, pay_over, servers_of}
 use Rattle.hsp_classes.specs.Sums.{cost_at, sends}
-use Rattle.hsp_classes.proofs.Lists.{all_both, same_sum, sum_map, sum_turned}
+use Rattle.hsp_classes.proofs.Lists.{all_both, same_sum, sum_turned}
 use Rattle.hsp_classes.proofs.Once.{AtMostOnce, sum_none, sum_once}
 use Rattle.hsp_groups.specs.Groups.{AreGroupsOf, Group, asked_by, is_in}
 use Rattle.hsp_groups.specs.Rows.{KeptRow}
 use Rattle.hsp_groups.specs.Solved.{AreClassesOf, HasClass, flow_to, is_part, is_same, least_servers, sent_by}
 use Rattle.hsp_groups.proofs.Beside.{zip_made}
-use Rattle.hsp_groups.proofs.GroupRows.{AreLeast, IsKeptAs, Stands, by_group, least_by, least_in, when_same}
+use Rattle.hsp_groups.proofs.GroupRows.{AreLeast, IsKeptAs, Stands, by_group, least_by, least_in}
 use Rattle.hsp_groups.proofs.LeastFlows.{sum_passing}
 use Rattle.hsp_groups.proofs.Parted.{once_apart}
 use Rattle.hsp_groups.proofs.RowPairs.{sum_alike}
@@ -95,7 +95,7 @@ module _ (at : Service) (plan : Best) (over : Arc → ℕ → ℕ) (to : List �
     class_counts sent is least class amounts =
         ap (sum_by (λ (s : ℕ × ℕ). to class.region s.0 s.1))
         (ap (zip class.servers) amounts ∙ zip_made (sent_by at plan sent class) class.servers)
-        ∙ sum_map (λ (s : ℕ × ℕ). to class.region s.0 s.1) (λ j. (j, sent_by at plan sent class j)) class.servers
+        ∙ sum_by_map (λ (s : ℕ × ℕ). to class.region s.0 s.1) (λ j. (j, sent_by at plan sent class j)) class.servers
         ∙ same_by _ _ class.servers (λ j.
         sum_amounts (to class.region j) (weighs.none_to class.region j) (weighs.adds_to class.region j)
         (λ own. is_part at plan class own.0) (λ own. flow_to j own) sent)
@@ -112,7 +112,7 @@ module _ (at : Service) (plan : Best) (over : Arc → ℕ → ℕ) (to : List �
             ∙ when_same (is_part at plan class own.0) _ _ (λ e.
             let p = (both_equal class.region own.0.region class.servers (least_servers at plan own.0)).0 e in
             ap₂ (λ r js. sum_by (λ j. to r j (flow_to j own)) js) p.0 p.1
-            ∙ sum_map (λ j. to own.0.region j (flow_to j own)) (λ (a : Arc). a.server) (least_by at plan own.0)
+            ∙ sum_by_map (λ j. to own.0.region j (flow_to j own)) (λ (a : Arc). a.server) (least_by at plan own.0)
             ∙ same_sum (λ (a : Arc). to own.0.region a.server (flow_to a.server own))
             (λ (a : Arc). over a (flow_to a.server own)) (least_by at plan own.0)
             (all_so (Stands at plan own.0.region) _ (least_by at plan own.0)
@@ -251,7 +251,7 @@ module _ (at : Service) (plan : Best) (over : Arc → ℕ → ℕ) (to : List �
               (rows_count rows kept groups are-kept are
               ∙ ap (sum_by (λ (group : Group). at_only over group.demand (only_arc (least_by at plan group))))
               (sym (firsts groups flows))
-              ∙ sum_map (λ (group : Group). at_only over group.demand (only_arc (least_by at plan group)))
+              ∙ sum_by_map (λ (group : Group). at_only over group.demand (only_arc (least_by at plan group)))
               (λ (own : Group × List ℕ). own.0) (sent_of groups flows)) classes_count
               ∙ sym
               (sum_by_add (λ own. at_only over own.0.demand (only_arc (least_by at plan own.0)))

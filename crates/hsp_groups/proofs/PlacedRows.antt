@@ -1,6 +1,6 @@
 -- Rows with no arc ask for nothing, and rows with several least arcs have a class.
 use Rattle.std.proofs.Common.{◌≡◌, ℕ, ◌<◌, ◌≤◌, ◌∙◌, true, List, [], ◌∷◌, All, length, sum_by, slice_index_or}
-use Rattle.std.proofs.Common.{Bool, refl, ap, sym, subst, arith}
+use Rattle.std.proofs.Common.{refl, ap, sym, subst, arith}
 use Rattle.std.specs.Prelude.{⊤}
 use Rattle.std.specs.List.{AllByRecursion, list_any}
 use Rattle.std.proofs.lemmas.List.Elements.{All-from_recursion, recursion_from_All}
@@ -12,6 +12,7 @@ use Rattle.hsp_instance.specs.Instance.{Row}
 use Rattle.hsp_instance.specs.declared.arc.Arc.{Arc}
 use Rattle.hsp_kinds.specs.Rows.{Service}
 use Rattle.hsp_price_text.specs.Claim.{Best}
+use Rattle.hsp_check.proofs.Shortages.{any_same}
 use Rattle.hsp_classes.specs.Least.{is_of, least_arcs, least_of, pay_over, servers_of}
 use Rattle.hsp_classes.specs.Shown.{IsService}
 use Rattle.hsp_classes.specs.Verdict.{IsPlaced}
@@ -24,11 +25,6 @@ use Rattle.hsp_groups.proofs.GroupSums.{HasLeast, all_met}
 use Rattle.hsp_groups.proofs.PlanSums.{kept_as, sent, sent_all, sent_least}
 use Rattle.hsp_groups.proofs.RowPairs.{all_alike}
 use Rattle.hsp_groups.proofs.SentFlows.{IsSent, from_sent}
-
--- tests that agree find the same
-any_same : {A : Type 0} (f g : A → Bool) → ((x : A) → f x ≡ g x) → (xs : List A) → list_any f xs ≡ list_any g xs
-any_same f g same [] = refl
-any_same f g same (x ∷ xs) = rw (same x, any_same f g same xs) refl
 
 module _ (at : Service) (plan : Best) where
   -- a row in memory is placed
@@ -43,8 +39,8 @@ module _ (at : Service) (plan : Best) where
   placed_as row kept is [] none = sym is.count ∙ none
   placed_as row kept is (a ∷ []) any = tt
   placed_as row kept is (a ∷ b ∷ more) some =
-      any_same (λ class. is_of at plan class row) (λ class. is_of_kept at plan class kept)
-      (λ class. same_class at plan class row kept is) plan.classes ∙ some
+      any_same (λ class. is_of at plan class row) (λ class. is_of_kept at plan class kept) plan.classes
+      (λ k c l. same_class at plan _ row kept is) ∙ some
 
   -- a group is placed
   abbrev IsGroupPlaced : Group → Type 0
@@ -65,8 +61,8 @@ module _ (at : Service) (plan : Best) where
       by_least (a ∷ []) one has all e = subst (IsPlacedKept row) (sym e) tt
       by_least (a ∷ b ∷ more) several has all e =
           subst (IsPlacedKept row) (sym e)
-          (any_same (λ class. is_of_kept at plan class row) (λ class. is_part at plan class group)
-          (λ class. class_of_group at plan class group row own same) plan.classes ∙ has)
+          (any_same (λ class. is_of_kept at plan class row) (λ class. is_part at plan class group) plan.classes
+          (λ k c l. class_of_group at plan _ group row own same) ∙ has)
 
 module _ (at : Service) (rows : List Row) (kept : List KeptRow) (groups : List Group) (flow : PricedFlow) (plan : Best)
     (is : IsService at) (are : AreRows at rows kept) (shown : IsPlanOfGroups at kept groups flow plan) where

@@ -1,12 +1,13 @@
 -- What the certificate of a plan of groups brings to servers and costs, and what its classes send.
-use Rattle.std.proofs.Common.{◌≡◌, ℕ, ◌+◌, ◌*◌, ◌==◌, ◌∙◌, Bool, true, false, List, All, Option, Some, None, map, sum}
+use Rattle.std.proofs.Common.{◌≡◌, ℕ, ◌+◌, ◌*◌, ◌==◌, ◌∙◌, List, All, Option, Some, None, map, sum}
 use Rattle.std.proofs.Common.{sum_by, zip, refl, ap, ap₂, sym, mul-add, mul-zero}
 use Rattle.std.specs.List.{AllByRecursion, AllZip}
 use Rattle.std.proofs.lemmas.List.Elements.{All-from_recursion, recursion_from_All}
-use Rattle.hsp_transport.proofs.Rowwise.{same_by, sum_by_when, when, when_zero}
+use Rattle.hsp_transport.proofs.Rowwise.{same_by, sum_by_when, when, when_zero, when_add, when_turned}
 use Rattle.hsp_network.specs.Network.{numbered}
 use Rattle.hsp_network.specs.declared.network.PricedFlow.{PricedFlow}
 use Rattle.hsp_transport.specs.Flow.{load}
+use Rattle.hsp_transport.proofs.Summing.{sum_by_map}
 use Rattle.hsp_instance.specs.Instance.{Row}
 use Rattle.hsp_instance.specs.declared.arc.Arc.{Arc}
 use Rattle.hsp_instance.proofs.Lists.{all_so}
@@ -16,7 +17,7 @@ use Rattle.hsp_classes.specs.Least.{is_of, least_of, only_arc}
 use Rattle.hsp_classes.specs.Shown.{IsService}
 use Rattle.hsp_classes.specs.Sums.{asked_of, brings, class_cost, class_load, cost_at, cost_in_all, costs, load_at}
 use Rattle.hsp_classes.specs.Sums.{row_cost, row_load, sends}
-use Rattle.hsp_classes.proofs.Lists.{same_sum, sum_map}
+use Rattle.hsp_classes.proofs.Lists.{same_sum}
 use Rattle.hsp_groups.specs.Groups.{Group, asked_by, is_in}
 use Rattle.hsp_groups.specs.Rows.{KeptRow}
 use Rattle.hsp_groups.specs.Solved.{AreRows, IsPlanOfGroups, cost_of, is_part, sent_by}
@@ -44,23 +45,13 @@ over_cost a v = a.cost * v
 abbrev to_cost : Service → List ℕ → ℕ → ℕ → ℕ
 to_cost at r j v = cost_at at r j * v
 
--- conditions on two amounts
-when_adds : (t : Bool) (m n : ℕ) → when t (m + n) ≡ when t m + when t n
-when_adds true m n = refl
-when_adds false m n = refl
-
--- a condition inside another may stand outside
-when_turned : (s t : Bool) (v : ℕ) → when s (when t v) ≡ when t (when s v)
-when_turned true t v = refl
-when_turned false t v = sym (when_zero t)
-
 -- what counts at a server
 server_weighs : (at : Service) (j : ℕ) → IsWeight at (over_server j) (to_server j)
 server_weighs at j = record {
   none = λ a. when_zero (a.server == j);
-  adds = λ a m n. when_adds (a.server == j) m n;
+  adds = λ a m n. when_add (a.server == j) m n;
   none_to = λ r i. when_zero (i == j);
-  adds_to = λ r i m n. when_adds (i == j) m n;
+  adds_to = λ r i m n. when_add (i == j) m n;
   same = λ r a n e. refl;
 }
 
@@ -151,11 +142,11 @@ module _ (at : Service) (rows : List Row) (kept : List KeptRow) (groups : List G
       sum class.amounts ≡ sum_by (λ own. when (is_part at plan class own.0) own.0.demand) sent
   amounts_sent class amounts =
       ap sum amounts
-      ∙ sum_map (λ v. v) (sent_by at plan sent class) class.servers
+      ∙ sum_by_map (λ v. v) (sent_by at plan sent class) class.servers
       ∙ sym
       (ap (sum_by (λ (s : ℕ × ℕ). s.1))
       (ap (zip class.servers) amounts ∙ zip_made (sent_by at plan sent class) class.servers)
-      ∙ sum_map (λ (s : ℕ × ℕ). s.1) (λ j. (j, sent_by at plan sent class j)) class.servers)
+      ∙ sum_by_map (λ (s : ℕ × ℕ). s.1) (λ j. (j, sent_by at plan sent class j)) class.servers)
       ∙ class_counts at plan (λ a v. v) (λ r j v. v) (amount_weighs at) sent sent_all sent_least class amounts
       ∙ same_sum _ _ sent
       (all_so (IsSent at plan) _ sent (λ own s. ap (λ v. when (is_part at plan class own.0) v) s.met) sent_all)
@@ -187,7 +178,7 @@ module _ (at : Service) (rows : List Row) (kept : List KeptRow) (groups : List G
       (all_so (λ (class : Class). class.amounts ≡ map (sent_by at plan sent class) class.servers) _ plan.classes
       (λ class amounts.
       amounts_sent class amounts
-      ∙ sym (sum_map (λ (group : Group). when (is_part at plan class group) group.demand) (λ own. own.0) sent)
+      ∙ sym (sum_by_map (λ (group : Group). when (is_part at plan class group) group.demand) (λ own. own.0) sent)
       ∙ ap (sum_by (λ (group : Group). when (is_part at plan class group) group.demand))
       (firsts groups flow.flows.items)
       ∙ asked_is class)

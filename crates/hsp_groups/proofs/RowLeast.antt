@@ -10,7 +10,7 @@ use Rattle.hsp_classes.specs.Least.{is_least, least_arcs}
 use Rattle.hsp_groups.specs.Rows.{KeptArc, KeptRow, arcs_in, kept_if, kept_in, with_least}
 
 -- two tests that follow from each other are the same
-same_test : (s t : Bool) → (s ≡ true → t ≡ true) → (t ≡ true → s ≡ true) → s ≡ t
+pub same_test : (s t : Bool) → (s ≡ true → t ≡ true) → (t ≡ true → s ≡ true) → s ≡ t
 same_test true t there back = sym (there refl)
 same_test false true there back = back refl
 same_test false false there back = refl

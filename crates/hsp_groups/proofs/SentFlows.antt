@@ -6,7 +6,9 @@ use Rattle.std.specs.List.{AllByRecursion, flat_map, slice_get}
 use Rattle.std.proofs.lemmas.List.{length-append, length-drop, length-map, length-take}
 use Rattle.std.proofs.lemmas.List.Sums.{sum_by-append, sum_by-cons}
 use Rattle.std.proofs.lemmas.Slice.Zip.{firsts-zip}
+use Rattle.hsp_text.proofs.Lists.{all_front, all_back}
 use Rattle.hsp_transport.proofs.Rowwise.{same_by, sum_by_none, when, when_here, when_there}
+use Rattle.hsp_transport.proofs.Summing.{sum_by_map}
 use Rattle.hsp_instance.specs.declared.arc.Arc.{Arc}
 use Rattle.hsp_instance.proofs.Lists.{all_map, all_so}
 use Rattle.hsp_check.specs.declared.arc.NetworkArc.{NetworkArc}
@@ -14,10 +16,9 @@ use Rattle.hsp_check.specs.Instance.{arc_of, arcs_from}
 use Rattle.hsp_kinds.specs.Rows.{Service}
 use Rattle.hsp_price_text.specs.Claim.{Best}
 use Rattle.hsp_classes.specs.Least.{is_least, pay_over, price_at}
-use Rattle.hsp_classes.proofs.Lists.{sum_map}
 use Rattle.hsp_groups.specs.Groups.{Group}
 use Rattle.hsp_groups.specs.Solved.{flows_by}
-use Rattle.hsp_groups.proofs.Beside.{all_back, all_front, all_given, zip_append, zip_map}
+use Rattle.hsp_groups.proofs.Beside.{all_given, zip_append, zip_map}
 use Rattle.hsp_groups.proofs.RowLeast.{low_least}
 
 -- the arcs of each group
@@ -101,7 +102,7 @@ own_source : (i : ℕ) (arcs : List Arc) (flows : List ℕ)
     → sum_by (from_source i) (zip (map (arc_of i) arcs) flows) ≡ sum_by (λ (x : Arc × ℕ). x.1) (zip arcs flows)
 own_source i arcs flows =
     ap (sum_by (from_source i)) (zip_map (arc_of i) arcs flows)
-    ∙ sum_map (from_source i) (λ (x : Arc × ℕ). (arc_of i x.0, x.1)) (zip arcs flows)
+    ∙ sum_by_map (from_source i) (λ (x : Arc × ℕ). (arc_of i x.0, x.1)) (zip arcs flows)
     ∙ same_by _ _ (zip arcs flows) (λ x. when_here i x.1)
 
 -- and nothing for another
@@ -109,7 +110,7 @@ other_source : (i k : ℕ) → (i ≡ k → ⊥) → (arcs : List Arc) (flows : 
     → sum_by (from_source k) (zip (map (arc_of i) arcs) flows) ≡ 0
 other_source i k ne arcs flows =
     ap (sum_by (from_source k)) (zip_map (arc_of i) arcs flows)
-    ∙ sum_map (from_source k) (λ (x : Arc × ℕ). (arc_of i x.0, x.1)) (zip arcs flows)
+    ∙ sum_by_map (from_source k) (λ (x : Arc × ℕ). (arc_of i x.0, x.1)) (zip arcs flows)
     ∙ same_by _ (λ x. 0) (zip arcs flows) (λ x. when_there i k x.1 ne)
     ∙ sum_by_none (zip arcs flows)
 

@@ -1,5 +1,5 @@
 -- Sums over sets of elements that have no element in common, and over those elements of a list that are flagged.
-use Rattle.std.proofs.Common.{◌≡◌, ℕ, zero, suc, ◌+◌, ◌<◌, ◌≤◌, inl, inr, Bool, true, false, List, [], ◌∷◌, length}
+use Rattle.std.proofs.Common.{◌≡◌, ℕ, zero, suc, ◌<◌, ◌≤◌, inl, inr, Bool, true, false, List, [], ◌∷◌, length}
 use Rattle.std.proofs.Common.{map, sum_by, slice_index, slice_index_or, All, refl, arith}
 use Rattle.std.specs.List.{AllByRecursion, AllPairs, items_where_true, list_any}
 use Rattle.std.proofs.lemmas.Bool.{cases_Bool, false_from_ne_true, or_from, or_parts}
@@ -8,7 +8,7 @@ use Rattle.std.proofs.lemmas.List.Sums.{sum_by-cons}
 use Rattle.hsp_transport.specs.Lists.{flag_at}
 use Rattle.hsp_transport.specs.Sums.{sum_below}
 use Rattle.hsp_transport.proofs.Rowwise.{when}
-use Rattle.hsp_transport.proofs.Summing.{sum_by_le_all}
+use Rattle.hsp_transport.proofs.Summing.{sum_by_le_all, sum_below_first}
 use Rattle.hsp_classes.proofs.Lists.{sum_turned}
 use Rattle.hsp_classes.proofs.Once.{AtMostOnce, sum_none, sum_once}
 
@@ -77,12 +77,6 @@ all_chosen P (true ∷ flags) (x ∷ xs) each =
     (each zero x (omega arith) refl, all_chosen P flags xs (λ i d l t. each (suc i) d (omega arith) t))
 all_chosen P (false ∷ flags) (x ∷ xs) each = all_chosen P flags xs (λ i d l t. each (suc i) d (omega arith) t)
 
--- the first term apart from the others
-first_apart : (n : ℕ) (f : ℕ → ℕ) → sum_below (suc n) f ≡ f 0 + sum_below n (λ k. f (suc k))
-first_apart zero f = omega arith
-first_apart (suc n) f =
-    let rest : sum_below (suc n) f ≡ f 0 + sum_below n (λ k. f (suc k)) = first_apart n f in omega arith
-
 -- what the flagged places add up to
 pub sum_chosen : {A : Type 0} (f : A → ℕ) (flags : List Bool) (xs : List A) → length flags ≡ length xs
     → sum_below (length xs) (λ i. when (flag_at flags i) (slice_index (map f xs) i))
@@ -93,13 +87,13 @@ sum_chosen f (flag ∷ flags) [] many = absurd (omega arith)
 sum_chosen f (true ∷ flags) (x ∷ xs) many =
     omega (
       arith,
-      first_apart (length xs) (λ i. when (flag_at (true ∷ flags) i) (slice_index (map f (x ∷ xs)) i)),
+      sum_below_first (length xs) (λ i. when (flag_at (true ∷ flags) i) (slice_index (map f (x ∷ xs)) i)),
       sum_chosen f flags xs (omega arith),
       sum_by-cons f x (items_where_true flags xs),
     )
 sum_chosen f (false ∷ flags) (x ∷ xs) many =
     omega (
       arith,
-      first_apart (length xs) (λ i. when (flag_at (false ∷ flags) i) (slice_index (map f (x ∷ xs)) i)),
+      sum_below_first (length xs) (λ i. when (flag_at (false ∷ flags) i) (slice_index (map f (x ∷ xs)) i)),
       sum_chosen f flags xs (omega arith),
     )

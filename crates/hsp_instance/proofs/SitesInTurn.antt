@@ -26,6 +26,14 @@ entry_at : (entries : List SiteEntry) (i : ℕ) (name : List ℕ) (source : Site
     → slice_get entries i ≡ Some (record { name = name; source = source })
 entry_at entries i name source named sourced = grind arith
 
+-- the entries that are left begin with the one in turn
+pub left_from : (entries : List SiteEntry) (i : ℕ) (name : List ℕ) (source : SiteSource)
+    → option_map (λ (s : SiteEntry). s.name) (slice_get entries i) ≡ Some name
+    → option_map (λ (s : SiteEntry). s.source) (slice_get entries i) ≡ Some source
+    → drop i entries ≡ record { name = name; source = source } ∷ drop (i + 1) entries
+left_from entries i name source named sourced =
+    drop_at entries i (record { name = name; source = source }) (entry_at entries i name source named sourced)
+
 -- the sites of all entries are those of what is left after the sites so far
 abbrev pub GoesOn : Option (List HandleValue) → List SiteEntry → ℕ → List Site → Type 0
 GoesOn values entries i earlier =
@@ -38,10 +46,6 @@ module _ (values : Option (List HandleValue)) (entries : List SiteEntry) (i befo
     (named : option_map (λ (s : SiteEntry). s.name) (slice_get entries i) ≡ Some name)
     (sourced : option_map (λ (s : SiteEntry). s.source) (slice_get entries i) ≡ Some source)
     (so_far : GoesOn values entries i earlier) where
-  -- the entries that are left begin with this one
-  left : drop i entries ≡ record { name = name; source = source } ∷ drop (i + 1) entries
-  left = drop_at entries i (record { name = name; source = source }) (entry_at entries i name source named sourced)
-
   -- a site goes by how many sites and servers came before it
   moved : (site : Result Site BuildFault) → IsSiteOf i before name (site_octets values i source) site
       → IsSiteOf (length earlier) (servers_of earlier) name (site_octets values (length earlier) source) site
@@ -50,14 +54,18 @@ module _ (values : Option (List HandleValue)) (entries : List SiteEntry) (i befo
   -- one site more
   pub next_goes_on : (site : Site) → IsSiteOf i before name (site_octets values i source) (Ok site)
       → GoesOn values entries (i + 1) (earlier ++ site ∷ [])
-  next_goes_on site is answer rest = so_far answer (rw left (Ok site, moved (Ok site) is, rest))
+  next_goes_on site is answer rest =
+      so_far answer (rw (left_from entries i name source named sourced) (Ok site, moved (Ok site) is, rest))
 
   -- the fault of a site is the first
   pub fault_is_first : (fault : BuildFault)
       → Stands OutOfMemory (λ (s : Site). s) (IsSiteOf i before name (site_octets values i source)) (Err fault)
       → Stands OutOfMemory (λ (s : List Site). s) (AreSitesAfter values [] entries) (Err fault)
   fault_is_first fault (inl memory) = inl memory
-  fault_is_first fault (inr is) = inr (so_far (Err fault) (rw left (Err fault, moved (Err fault) is, refl)))
+  fault_is_first fault (inr is) =
+      inr
+      (so_far (Err fault)
+      (rw (left_from entries i name source named sourced) (Err fault, moved (Err fault) is, refl)))
 
 -- no identifier is told twice, so the servers have distinct ones
 others : (id : ℕ) (servers : List SiteServer) → has_id id servers ≡ false

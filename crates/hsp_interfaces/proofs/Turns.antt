@@ -1,5 +1,5 @@
 -- Sites in turn, by their records.
-use Rattle.std.proofs.Common.{◌≡◌, ◌++◌, ◌∷◌, [], ◌+◌, ℕ, List, Option, Some, drop, length, option_map, refl, arith}
+use Rattle.std.proofs.Common.{◌≡◌, ◌++◌, [], ◌+◌, ℕ, List, Option, Some, drop, length, option_map, refl}
 use Rattle.std.proofs.Common.{append_assoc, ◌≤◌, Result, Ok, Err}
 use Rattle.std.proofs.lemmas.List.{append-nil, drop_all}
 use Rattle.std.specs.Prelude.{slice_get}
@@ -12,7 +12,7 @@ use Rattle.hsp_record.specs.declared.fault.RecordFault.TheVariants.{IndexTwice, 
 use Rattle.hsp_record.specs.declared.fault.RecordFault.TheVariants.{Trailing, Truncated}
 use Rattle.hsp_tables.specs.Settings.{SiteEntry, SiteSource}
 use Rattle.hsp_instance.specs.Building.{site_octets}
-use Rattle.hsp_instance.proofs.Lists.{drop_at}
+use Rattle.hsp_instance.proofs.SitesInTurn.{left_from}
 use Rattle.hsp_interfaces.specs.Interfaces.{AreRows, HasRecord, HaveRecords, IsRecordOf, IsTable, header_line}
 use Rattle.hsp_interfaces.specs.Interfaces.{record_rows}
 
@@ -33,34 +33,23 @@ ends values entries i text whole so_far =
     let none : drop i entries ≡ [] = drop_all i entries whole in
     rw (append-nil text) at (so_far [] (rw none refl))
 
--- an entry by its name and its source
-entry_at : (entries : List SiteEntry) (i : ℕ) (name : List ℕ) (source : SiteSource)
-    → option_map (λ (s : SiteEntry). s.name) (slice_get entries i) ≡ Some name
-    → option_map (λ (s : SiteEntry). s.source) (slice_get entries i) ≡ Some source
-    → slice_get entries i ≡ Some (record { name = name; source = source })
-entry_at entries i name source named sourced = grind arith
-
 module _ (values : Option (List HandleValue)) (entries : List SiteEntry) (i : ℕ) (name : List ℕ) (source : SiteSource)
     (named : option_map (λ (s : SiteEntry). s.name) (slice_get entries i) ≡ Some name)
     (sourced : option_map (λ (s : SiteEntry). s.source) (slice_get entries i) ≡ Some source) where
-  -- the entries that are left begin with this one
-  left : drop i entries ≡ record { name = name; source = source } ∷ drop (i + 1) entries
-  left = drop_at entries i (record { name = name; source = source }) (entry_at entries i name source named sourced)
-
   -- so its octets spell a record
   pub record_there : HaveRecords values i (drop i entries) → HasRecord values i source
-  record_there have = (rw left at have).0
+  record_there have = (rw (left_from entries i name source named sourced) at have).0
 
   -- and those of the entries behind it do
   pub records_behind : HaveRecords values i (drop i entries) → HaveRecords values (i + 1) (drop (i + 1) entries)
-  records_behind have = (rw left at have).1
+  records_behind have = (rw (left_from entries i name source named sourced) at have).1
 
   -- the rows of one site more
   pub rows_more : (text text' : List ℕ) (site : records.Site) → IsRecordOf values i source site
       → text' ≡ text ++ record_rows name site → GoesOn values entries i text → GoesOn values entries (i + 1) text'
   rows_more text text' site is e so_far rest rows =
       let all : AreRows values i (drop i entries) (record_rows name site ++ rest) =
-      rw left (site, is, rest, rows, refl) in
+      rw (left_from entries i name source named sourced) (site, is, rest, rows, refl) in
       rw (e, append_assoc text (record_rows name site) rest) (so_far (record_rows name site ++ rest) all)
 
 -- octets that spell a record have no fault, so memory ran out

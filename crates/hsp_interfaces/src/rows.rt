@@ -1,22 +1,14 @@
 // The rows of service interfaces.
 
 ghost use Rattle.std.specs.Prelude.{◌≡◌, ◌++◌, ◌∷◌, [], OnOk};
-ghost use Rattle.hex.specs.Hex.{encode_lower};
 ghost use Rattle.hsp_record.specs.Site.{Interface};
 ghost use Rattle.hsp_interfaces.specs.Interfaces.{interface_fields, interface_rows, record_rows, server_fields};
 ghost use Rattle.hsp_interfaces.specs.Interfaces.{server_numbers, server_rows};
 
 use hsp_record::{ServerRecord, SiteRecord};
+use hsp_runs::push_address;
 use hsp_text::push_whole;
 use std::alloc::{AllocError, Global};
-
-fn push_address(out: &mut Vec<u8>, address: [u8; 16]) -> Result<(), AllocError>
-    ensures { OnOk result (out.new.items ≡ out.old.items ++ encode_lower address) }
-{
-    let mut digits = [0u8; 32];
-    hex::encode_to_slice(address.as_slice(), &mut digits).unwrap();
-    out.extend_from_slice(&digits)
-}
 
 // Appends a site's name, and a server's place and identifier.
 fn push_server_numbers(

@@ -1,6 +1,9 @@
 -- Regions: what the rows of one share.
-use Rattle.std.specs.Prelude.{◌++◌, ◌==◌, ℕ, List, [], ◌∷◌, length, map, slice_index_or, if◌then◌else◌}
+use Rattle.std.specs.Prelude.{◌≡◌, ◌++◌, ◌==◌, ℕ, List, [], ◌∷◌, length, map, slice_index_or, if◌then◌else◌}
+use Rattle.hsp_instance.specs.Building.{arcs_from}
+use Rattle.hsp_instance.specs.RowArcs.{row_named}
 use Rattle.hsp_instance.specs.declared.arc.Arc.{Arc}
+use Rattle.hsp_kinds.specs.Rows.{Service}
 use Rattle.hsp_kept_rows.specs.declared.region.SiteCost.{SiteCost}
 
 -- a region's name, and the site and the cost of each arc of its rows
@@ -27,3 +30,7 @@ region_at regions number = slice_index_or regions number no_region
 abbrev pub with_region : List RegionArcs → ℕ → List ℕ → List Arc → List RegionArcs
 with_region regions number name arcs =
     if number == length regions then regions ++ region_with name arcs ∷ [] else regions
+
+-- a region has the sites and costs of the service
+abbrev pub HasShape : Service → RegionArcs → Type 0
+HasShape at region = region.shape ≡ shape_of (arcs_from at.costs (row_named region.name [] 0) 0 0 at.sites)

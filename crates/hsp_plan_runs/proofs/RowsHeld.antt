@@ -1,16 +1,15 @@
 -- A row that is held, behind those that are.
-use Rattle.std.proofs.Common.{◌≡◌, ◌≤◌, ◌<◌, ◌+◌, ◌^◌, ◌∙◌, ◌∷◌, ◌++◌, ◌==◌, ◌⊎◌}
-use Rattle.std.proofs.Common.{ℕ, zero, suc, true, false, List, [], Option, None, Some, ap, arith, inl, inr}
+use Rattle.std.proofs.Common.{◌≡◌, ◌≤◌, ◌<◌, ◌+◌, ◌^◌, ◌∙◌, ◌∷◌, ◌++◌, ◌⊎◌}
+use Rattle.std.proofs.Common.{ℕ, zero, suc, true, List, [], Option, None, Some, ap, arith, inl, inr}
 use Rattle.std.proofs.Common.{length, map, refl, subst, sym}
-use Rattle.std.specs.Prelude.{if◌then◌else◌}
-use Rattle.std.specs.List.{AllByRecursion, AllZip, list_any, slice_get}
+use Rattle.std.specs.List.{AllByRecursion, list_any, slice_get}
 use Rattle.std.specs.Str.{bytes_eq}
-use Rattle.std.proofs.lemmas.Bool.{cases_eq, eq-eqb, ne_eqb}
+use Rattle.std.proofs.lemmas.Bool.{eq-eqb, ne_eqb}
 use Rattle.std.proofs.lemmas.List.{length-append, length-map, map-append}
 use Rattle.std.proofs.lemmas.List.Elements.{All-from_recursion}
 use Rattle.std.proofs.lemmas.List.Sums.{sum_by_push}
 use Rattle.std.proofs.lemmas.Option.{slice_get_within}
-use Rattle.hsp_text.proofs.Lists.{all_push}
+use Rattle.hsp_text.proofs.Lists.{zip_push}
 use Rattle.hsp_text.specs.declared.limits.TheConstants.{MOST_REGIONS, MOST_SERVERS}
 use Rattle.hsp_tables.specs.Costs.{CostEntry}
 use Rattle.hsp_instance.specs.Building.{arc_to, arcs_from, cost_of}
@@ -20,32 +19,17 @@ use Rattle.hsp_instance.specs.declared.arc.Arc.{Arc}
 use Rattle.hsp_instance.proofs.ArcsWithin.{arcs_within}
 use Rattle.hsp_tally.proofs.KindCounts.{few_regions, region_added}
 use Rattle.hsp_kinds.specs.Rows.{Service}
-use Rattle.hsp_classes.specs.Shown.{IsService}
-use Rattle.hsp_groups.specs.Rows.{IsRow, KeptArc, KeptRow}
-use Rattle.hsp_kept_rows.specs.Entries.{AreServers, loose_arc}
+use Rattle.hsp_groups.specs.Rows.{IsRow, KeptRow}
+use Rattle.hsp_kept_rows.specs.Entries.{AreServers}
 use Rattle.hsp_kept_rows.specs.Held.{CanPush, HeldRows, loose_row, with_row}
-use Rattle.hsp_kept_rows.specs.Regions.{RegionArcs, no_region, region_at, region_with, shape_of, with_region}
-use Rattle.hsp_kept_rows.specs.declared.region.SiteCost.{SiteCost}
-use Rattle.hsp_kept_rows.proofs.SameShapes.{same_shape}
+use Rattle.hsp_kept_rows.specs.Regions.{RegionArcs, no_region, region_at, region_with, with_region, HasShape}
+use Rattle.hsp_kept_rows.proofs.LooseRows.{bare, own_shape, region_is, shapes_with}
 use Rattle.hsp_grouping.specs.Grouping.{asked_in}
 use Rattle.hsp_price_check.specs.Passed.{capped}
 use Rattle.hsp_price_check.proofs.Capping.{kept_more}
 use Rattle.hsp_price_check.proofs.RegionPlaces.{among_at, place_low, placed_before}
-use Rattle.hsp_plan_runs.specs.Holding.{AreHeldBy, HasHeld, HasShape, IsHolder}
+use Rattle.hsp_plan_runs.specs.Holding.{AreHeldBy, HasHeld, IsHolder}
 use Rattle.hsp_plan_runs.specs.declared.holder.RowHolder.{RowHolder}
-
--- rows that stand side by side, with one more of each
-zip_push : {A B : Type 0} (R : A → B → Type 0) (xs : List A) (ys : List B) (x : A) (y : B) → AllZip R xs ys → R x y
-    → AllZip R (xs ++ x ∷ []) (ys ++ y ∷ [])
-zip_push R [] [] x y all is = (is, tt)
-zip_push R [] (b ∷ ys) x y all is = absurd all
-zip_push R (a ∷ xs) [] x y all is = absurd all
-zip_push R (a ∷ xs) (b ∷ ys) x y all is = (all.0, zip_push R xs ys x y all.1 is)
-
--- the arcs of a row none of whose arcs is kept
-bare : (arcs : List Arc) → map (λ (a : KeptArc). a.arc) (map loose_arc arcs) ≡ arcs
-bare [] = refl
-bare (arc ∷ arcs) = ap (λ more. arc ∷ more) (bare arcs)
 
 -- an arc at most leads to a site
 few_to : (handle : List ℕ) (n first : ℕ) (site : Site) (cost : Option ℕ)
@@ -121,26 +105,14 @@ module _ (at : Service) (rows : List Row) (found after : ArcsInTurn) (held : Hel
       (λ (list : List (List ℕ)). (list_any (bytes_eq region) list ≡ true) ⊎ (length list < MOST_REGIONS))
       are.regions_are known)
 
-  -- its arcs have the sites and costs of the region
-  own_shape : shape_of after.arcs ≡ shape_of (arcs_from at.costs (row_named region [] 0) 0 0 at.sites)
-  own_shape =
-      ap shape_of (own_arcs 0)
-      ∙ same_shape at.costs (row_named region handle 0) (row_named region [] 0) 0 0 at.sites refl
-
   -- a region that is held already has them, too
   own_region : number < length held.regions → region_at held.regions number ≡ region_with region after.arcs
   own_region less =
-      let own = region_at held.regions number in
       let before = stood (regions_of rows) region number place (omega (arith, less, many)) in
-      let name : own.name ≡ region =
-      named_at held.regions number region (ap (λ list. slice_get list number) are.names ∙ before) in
-      let shape : HasShape at own = All-from_recursion (HasShape at) held.regions are.shapes number no_region less in
-      let same : own.shape ≡ shape_of after.arcs =
-      shape ∙ ap (λ own_name. shape_of (arcs_from at.costs (row_named own_name [] 0) 0 0 at.sites)) name
-      ∙ sym own_shape in
-      let with_name : List ℕ → RegionArcs = λ own_name. record { name = own_name; shape = own.shape } in
-      let with_shape : List SiteCost → RegionArcs = λ own_shape. record { name = region; shape = own_shape } in
-      ap with_name name ∙ ap with_shape same
+      let own = region_at held.regions number in
+      let has : HasShape at own = All-from_recursion (HasShape at) held.regions are.shapes number no_region less in
+      region_is at region after.arcs (own_shape at region handle after.arcs (own_arcs 0)) own has
+      (named_at held.regions number region (ap (λ list. slice_get list number) are.names ∙ before))
 
   -- the row can be pushed
   pub can_push : length held.rows < 2 ^ 32 → CanPush held number region after.arcs
@@ -178,15 +150,6 @@ module _ (at : Service) (rows : List Row) (found after : ArcsInTurn) (held : Hel
             ∙ ap (λ list. list ++ region ∷ []) are.names)
       ]
 
-  -- so have the regions with that of the row the sites and costs of the service
-  shapes_more : AllByRecursion (HasShape at) (with_region held.regions number region after.arcs)
-  shapes_more =
-      elim (number == length held.regions) as (λ b.
-      AllByRecursion (HasShape at) (if b then held.regions ++ region_with region after.arcs ∷ [] else held.regions)) [
-        | true ↦ all_push (HasShape at) held.regions (region_with region after.arcs) are.shapes own_shape
-        | false ↦ are.shapes
-      ]
-
   -- and then the rows with it are held
   pub one_more : (count sum : ℕ) → sum ≡ capped (asked + count)
       → AreHeldBy at (rows ++ row_named region handle count ∷ []) after
@@ -204,7 +167,9 @@ module _ (at : Service) (rows : List Row) (found after : ArcsInTurn) (held : Hel
         few_regions = subst (λ (list : List (List ℕ)). length list ≤ MOST_REGIONS) (sym (region_added rows row)) few;
         room = are.room;
         names = names_more ∙ sym (region_added rows row);
-        shapes = shapes_more;
+        shapes =
+            shapes_with at region after.arcs (own_shape at region handle after.arcs (own_arcs 0)) held.regions number
+            are.shapes;
         rows_are = zip_push (IsRow at) rows held.rows row own are.rows_are one;
         asked_is =
             is ∙ ap (λ n. capped (n + count)) are.asked_is ∙ kept_more (asked_in held.rows) count

@@ -3,21 +3,16 @@ use Rattle.std.specs.Prelude.{◌≡◌, ◌≤◌, ℕ, [], List, length, map}
 use Rattle.std.specs.List.{AllByRecursion}
 use Rattle.hsp_tables.specs.Costs.{AreCosts}
 use Rattle.hsp_text.specs.declared.limits.TheConstants.{MOST_REGIONS}
-use Rattle.hsp_instance.specs.Building.{arcs_from}
 use Rattle.hsp_instance.specs.Instance.{Row, regions_of}
-use Rattle.hsp_instance.specs.RowArcs.{ArcsInTurn, row_named}
+use Rattle.hsp_instance.specs.RowArcs.{ArcsInTurn}
 use Rattle.hsp_kinds.specs.Rows.{Service}
 use Rattle.hsp_classes.specs.Shown.{IsService}
 use Rattle.hsp_groups.specs.Solved.{AreRows}
 use Rattle.hsp_kept_rows.specs.Held.{HeldRows}
-use Rattle.hsp_kept_rows.specs.Regions.{RegionArcs, shape_of}
+use Rattle.hsp_kept_rows.specs.Regions.{HasShape}
 use Rattle.hsp_grouping.specs.Grouping.{asked_in}
 use Rattle.hsp_price_check.specs.Passed.{capped}
 use Rattle.hsp_plan_runs.specs.declared.holder.RowHolder.{RowHolder}
-
--- a region has the sites and costs of the service
-abbrev pub HasShape : Service → RegionArcs → Type 0
-HasShape at region = region.shape ≡ shape_of (arcs_from at.costs (row_named region.name [] 0) 0 0 at.sites)
 
 -- These rows of a service are held, with the arcs that are found for them. They name no more regions than they may, and
 -- it is known how many queries they ask for together.

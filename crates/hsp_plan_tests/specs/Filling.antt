@@ -1,18 +1,13 @@
 -- Rows of a service, as they are added one by one.
-use Rattle.std.specs.Prelude.{◌≡◌, ◌≤◌, ◌*◌, ℕ, [], List, length}
+use Rattle.std.specs.Prelude.{◌≡◌, ◌≤◌, ◌*◌, ℕ, List, length}
 use Rattle.std.specs.List.{AllByRecursion}
-use Rattle.hsp_instance.specs.Building.{arcs_from}
 use Rattle.hsp_instance.specs.Instance.{Row}
-use Rattle.hsp_instance.specs.RowArcs.{ArcsInTurn, row_named}
+use Rattle.hsp_instance.specs.RowArcs.{ArcsInTurn}
 use Rattle.hsp_kinds.specs.Rows.{Service}
 use Rattle.hsp_groups.specs.Solved.{AreRows}
 use Rattle.hsp_kept_rows.specs.Held.{HeldRows}
-use Rattle.hsp_kept_rows.specs.Regions.{RegionArcs, shape_of}
+use Rattle.hsp_kept_rows.specs.Regions.{HasShape}
 use Rattle.hsp_grouping.specs.Grouping.{asked_in}
-
--- a region has the sites and costs of the service
-abbrev pub HasShape : Service → RegionArcs → Type 0
-HasShape at region = region.shape ≡ shape_of (arcs_from at.costs (row_named region.name [] 0) 0 0 at.sites)
 
 -- rows of the service are held, each of which asks for at most a million queries
 pub record HasRows (at : Service) (held : HeldRows) : Type 0 where

@@ -1,5 +1,5 @@
 -- The least pay over arcs, and the arcs over which it is paid.
-use Rattle.std.proofs.Common.{◌≡◌, ◌≤◌, ◌<◌, ◌+◌, ◌⊎◌, ◌∙◌, ◌∷◌, [], ℕ, Bool, true, false, List, length, min, take}
+use Rattle.std.proofs.Common.{◌≡◌, ◌≤◌, ◌<◌, ◌+◌, ◌⊎◌, ◌∙◌, ◌∷◌, [], ℕ, true, false, List, length, min, take}
 use Rattle.std.proofs.Common.{get_or, filter, inl, inr, refl, sym, arith}
 use Rattle.std.specs.Prelude.{◌==◌, ◌||◌, ◌^◌, ◌-◌, nat_le}
 use Rattle.std.specs.List.{AllByRecursion, list_all, list_any}
@@ -11,16 +11,11 @@ use Rattle.hsp_text.proofs.Lists.{all_push}
 use Rattle.hsp_instance.proofs.Lists.{all_so}
 use Rattle.hsp_instance.specs.declared.arc.Arc.{Arc}
 use Rattle.hsp_classes.specs.Least.{is_least, least_arcs}
+use Rattle.hsp_classes.proofs.Lists.{same_kept}
 
 -- what stands past the end of arcs
 abbrev pub no_arc : Arc
 no_arc = record { site = 0; server = 0; cost = 0 }
-
--- tests that agree on all elements keep the same
-kept_same : {A : Type 0} (f g : A → Bool) (xs : List A) → AllByRecursion (λ x. f x ≡ g x) xs
-    → filter f xs ≡ filter g xs
-kept_same f g [] all = refl
-kept_same f g (x ∷ xs) all = rw (all.0, kept_same f g xs all.1) refl
 
 module _ {A : Type 0} (pay : A → ℕ) where
   -- with one element more, none pays less than the smaller of the least so far and its own pay
@@ -84,6 +79,6 @@ pub least_kept : (pay : Arc → ℕ) (arcs : List Arc) (least : ℕ) → AllByRe
     → filter (λ arc. pay arc == least) arcs ≡ least_arcs pay arcs
 least_kept pay arcs least none (inl empty) = rw empty refl
 least_kept pay arcs least none (inr some) =
-    kept_same (λ arc. pay arc == least) (is_least pay arcs) arcs
+    same_kept (λ arc. pay arc == least) (is_least pay arcs) arcs
     (all_so (λ arc. least ≤ pay arc) (λ arc. (pay arc == least) ≡ is_least pay arcs arc) arcs
     (same_test pay arcs least none some) none)

@@ -5,14 +5,13 @@ use Rattle.std.specs.List.{flat_map}
 use Rattle.std.proofs.lemmas.List.{map-append}
 use Rattle.std.proofs.lemmas.List.Sums.{sum_by-append, sum_by-cons}
 use Rattle.hsp_transport.specs.Sums.{sum_below}
-use Rattle.hsp_transport.proofs.Summing.{by_key, sum_below_same, sum_below_zero, sum_by_le_all}
+use Rattle.hsp_transport.proofs.Summing.{by_key, sum_below_same, sum_below_zero, sum_by_le_all, sum_by_map}
 use Rattle.hsp_transport.proofs.Rowwise.{same_by, turned}
 use Rattle.hsp_check.specs.Plan.{is_on}
 use Rattle.hsp_kinds.specs.Rows.{Service}
 use Rattle.hsp_price_text.specs.Claim.{Best, Class}
 use Rattle.hsp_classes.specs.Least.{host_at}
 use Rattle.hsp_classes.specs.Sums.{class_load, host_load_at, load_at, sends}
-use Rattle.hsp_classes.proofs.Lists.{sum_map}
 use Rattle.hsp_dispatch.specs.Fronts.{share}
 use Rattle.hsp_dispatch.proofs.FrontShares.{share_le, shares_add_up}
 use Rattle.hsp_price_dispatch.specs.Holding.{left_where}
@@ -56,7 +55,7 @@ pub left_is : (fronts front : ℕ) (test : ℕ → Bool) (classes : List Class)
     ≡ sent_where (share fronts front) test (all_sends classes)
 left_is fronts front test classes =
     ap (left_where test) (cells_are fronts front classes)
-    ∙ sum_map (λ (cell : Cell). if test cell.server then cell.left else 0) (cell_of fronts front) (all_sends classes)
+    ∙ sum_by_map (λ (cell : Cell). if test cell.server then cell.left else 0) (cell_of fronts front) (all_sends classes)
 
 -- the amounts of all classes at a server
 pub load_is : (at : Service) (plan : Best) (j : ℕ)

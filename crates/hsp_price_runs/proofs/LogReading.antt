@@ -8,7 +8,7 @@ use Rattle.hsp_instance.specs.Instance.{Row}
 use Rattle.hsp_stream.specs.KindsLog.{OfLeft, OfLog, form_of}
 use Rattle.hsp_stream.specs.declared.fault.StreamFault.{StreamFault}
 use Rattle.hsp_stream.specs.declared.kinds_log.CountForm.{CountForm}
-use Rattle.hsp_stream.proofs.KindsReading.{at_start}
+use Rattle.hsp_stream.proofs.KindsReading.{at_start, left_more}
 use Rattle.hsp_price_runs.specs.LogRows.{log_rows, rows_with, with_record}
 use Rattle.hsp_price_runs.specs.Passing.{IsOverSome, TakesRecord as TakesRow}
 use Rattle.hsp_price_runs.proofs.RowsTaken.{read_record, record_more, row_taken}
@@ -39,14 +39,6 @@ module _ {X : Type 0} (HasTaken : X → List Row → X → Type 0) (form : Count
 
   module _ {R : Type 0} (remaining : R → Option (List ℕ)) (first now next : Reader R) (n : ℕ) (taker : X)
       (fields : Fields) (so_far : TakenSoFar remaining first now n taker) where
-    -- the records that are left are fewer by the one that was read
-    left_more : TakesRecord remaining now next true fields → IsKnown remaining first
-        → (records_left remaining first ≡ so_far.done ++ fields ∷ records_left remaining next) × IsKnown remaining next
-    left_more takes known =
-        let before = so_far.left known in
-        let after = takes before.1 in
-        (before.0 ∙ ap (λ l. so_far.done ++ l) after.0, after.1)
-
     -- it has taken the rows so far
     pub some_taken : IsOverSome HasTaken taker
     some_taken = (fresh, so_far.rows, so_far.taken)
@@ -63,7 +55,7 @@ module _ {X : Type 0} (HasTaken : X → List Row → X → Type 0) (form : Count
         record {
           done = so_far.done ++ fields ∷ [];
           left = λ known.
-              let after = left_more takes known in
+              let after = left_more remaining first now next so_far.done fields so_far.left takes known in
               (after.0 ∙ sym (append_assoc so_far.done (fields ∷ []) (records_left remaining next)), after.1);
           rows = so_far.rows ++ read.row ∷ [];
           are = λ more.
@@ -78,7 +70,7 @@ module _ {X : Type 0} (HasTaken : X → List Row → X → Type 0) (form : Count
         → OfLeft remaining first (λ records. rows_with form 0 [] records ≡ Err e)
     one_bad e takes is = (
       so_far.done ++ fields ∷ records_left remaining next,
-      λ known. sym (left_more takes known).0,
+      λ known. sym (left_more remaining first now next so_far.done fields so_far.left takes known).0,
       sym (so_far.are (fields ∷ records_left remaining next))
           ∙ ap
           (λ (r : Result (List Row) StreamFault). r >>= λ after.

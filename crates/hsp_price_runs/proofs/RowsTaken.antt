@@ -1,11 +1,10 @@
 -- A record of a log, as the row that it spells.
-use Rattle.std.proofs.Common.{◌≡◌, ◌∙◌, ◌<◌, ◌≤◌, ◌+◌, ◌++◌, ◌⊎◌, inl, inr, nat_le, ℕ, false, List, [], ◌∷◌, length}
-use Rattle.std.proofs.Common.{Option, Some, Result, Ok, Err, ap, refl, sym, arith}
-use Rattle.std.proofs.lemmas.Bool.Decides.{nat_tests}
+use Rattle.std.proofs.Common.{◌≡◌, ◌∙◌, ◌≤◌, ◌+◌, ◌++◌, ◌⊎◌, inl, inr, ℕ, List, [], ◌∷◌, length}
+use Rattle.std.proofs.Common.{Option, Some, Result, Ok, Err, ap, refl, sym}
 use Rattle.hsp_csv.specs.Records.{Fields}
 use Rattle.hsp_text.specs.Answers.{◌>>=◌, or_fault, fault_as}
 use Rattle.hsp_text.specs.declared.limits.TheConstants.{MOST_REGIONS}
-use Rattle.hsp_text.proofs.Steps.{le_true}
+use Rattle.hsp_text.proofs.Steps.{le_true, le_false}
 use Rattle.hsp_instance.specs.Instance.{Row, regions_of}
 use Rattle.hsp_price_check.specs.Checking.{HasTooMany}
 use Rattle.hsp_price_check.specs.declared.fault.PassFault.{PassFault}
@@ -18,10 +17,6 @@ use Rattle.hsp_stream.specs.declared.fault.StreamFault.TheVariants.{Log, OutOfMe
 use Rattle.hsp_stream.specs.declared.kinds_log.CountForm.{CountForm}
 use Rattle.hsp_price_runs.specs.LogRows.{row_in, rows_with, with_record, with_row}
 use Rattle.hsp_price_runs.specs.Passing.{StopsAt, fault_of_pass}
-
--- the test of a greater number fails
-le_false : (a b : ℕ) → b < a → nat_le a b ≡ false
-le_false a b h = grind (arith, nat_tests)
 
 -- a row is taken where it makes no region too many
 pub row_taken : (n : ℕ) (rows : List Row) (row : Row) → length (regions_of (rows ++ row ∷ [])) ≤ MOST_REGIONS

@@ -7,12 +7,12 @@ use Rattle.std.proofs.lemmas.List.{append-nil, nil_from_length}
 use Rattle.std.proofs.lemmas.Bool.{eqb-true}
 use Rattle.std.proofs.lemmas.Option.{same_Some}
 use Rattle.hsp_text.specs.Lines.{IsUnbroken}
-use Rattle.hsp_text.proofs.Lists.{all_append}
+use Rattle.hsp_text.proofs.Lists.{all_append, all_front, all_back}
 use Rattle.hsp_cert.specs.Text.{unlines}
 use Rattle.hsp_cert.specs.declared.fault.CertFault.TheVariants as fault
 use Rattle.hsp_cert.proofs.LineCuts.{GoesOn, Unbroken, by_recursion, first_line, fronts, no_line, same_line}
 use Rattle.hsp_cert.proofs.LineCuts.{unlines-append}
-use Rattle.hsp_cert.proofs.ListSteps.{all_back, all_front, some_left}
+use Rattle.hsp_cert.proofs.ListSteps.{some_left}
 use Rattle.hsp_price_text.specs.Language.{Agrees, HasEnded, HasNoEnd, IsAfterEnd, IsBadLine, IsEnd, Language}
 use Rattle.hsp_price_text.specs.Language.{LinesStand, Machine, MeansIn, Stepped, run, stepped, text_in}
 

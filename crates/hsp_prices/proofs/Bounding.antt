@@ -1,25 +1,17 @@
 -- Weak duality for prices that count in parts of a unit.
-use Rattle.std.proofs.Common.{◌≡◌, ℕ, ◌+◌, ◌*◌, ◌≤◌, ◌∙◌, inl, inr, List, [], ◌∷◌, sum_by, ap, sym, arith}
-use Rattle.std.proofs.Common.{mul-add, mul-zero, mul-one, mul_assoc, mul-le-mul_left}
+use Rattle.std.proofs.Common.{◌≡◌, ℕ, ◌+◌, ◌*◌, ◌≤◌, ◌∙◌, inl, inr, List, sum_by, arith}
+use Rattle.std.proofs.Common.{mul-add, mul-one, mul_assoc, mul-le-mul_left}
 use Rattle.std.proofs.lemmas.Bool.{cases_lt}
-use Rattle.std.proofs.lemmas.List.Sums.{sum_by-cons}
 use Rattle.hsp_transport.specs.Network as theory
 use Rattle.hsp_transport.specs.Flow.{IsFeasible}
 use Rattle.hsp_transport.specs.Sums.{times}
 use Rattle.hsp_transport.proofs.Duality.{prices_bound}
-use Rattle.hsp_transport.proofs.Summing.{sum_by_same_all}
+use Rattle.hsp_transport.proofs.Summing.{sum_by_same_all, sum_by_times}
 use Rattle.hsp_check.specs.declared.arc.NetworkArc.{NetworkArc}
 use Rattle.hsp_check.specs.Network.{Network, IsNetwork}
 use Rattle.hsp_check.specs.Plan.{Plan, Feasible, planned, total}
 use Rattle.hsp_prices.specs.Bounds.{HasNoNegativeReducedCost, full_takings}
 use Rattle.hsp_prices.specs.Bounds.{PricesBoundPlans, GapsBoundPlans, SmallGapsShowBest}
-
--- a factor of all terms is one of the sum
-times_out : {A : Type 0} (k : ℕ) (f : A → ℕ) (xs : List A) → sum_by (λ a. k * f a) xs ≡ k * sum_by f xs
-times_out k f [] = sym (mul-zero k)
-times_out k f (x ∷ xs) =
-    sum_by-cons (λ a. k * f a) x xs ∙ ap (λ s. k * f x + s) (times_out k f xs) ∙ sym (mul-add k (f x) (sum_by f xs))
-    ∙ sym (ap (λ s. k * s) (sum_by-cons f x xs))
 
 -- the network whose costs count in parts of a unit
 abbrev in_parts : Network → ℕ → theory.Network NetworkArc
@@ -41,7 +33,7 @@ module _ (n : Network) (unit : ℕ) (u p q : List ℕ) (is : IsNetwork n)
   bound y feasible =
       let low = prices_bound (in_parts n unit) parts u p q reduced (planned y) flow in
       let cost : sum_by (λ a. unit * a.cost * planned y a) n.arcs ≡ unit * total n y =
-      sum_by_same_all _ _ n.arcs (λ k d l. mul_assoc unit _ _) ∙ times_out unit (λ a. a.cost * planned y a) n.arcs in
+      sum_by_same_all _ _ n.arcs (λ k d l. mul_assoc unit _ _) ∙ sum_by_times unit (λ a. a.cost * planned y a) n.arcs in
       omega arith
     where
       parts : theory.IsNetwork (in_parts n unit)

@@ -29,4 +29,4 @@ pub use locate::{Locate, locate_run};
 pub use plan::{PlanText, plan_run};
 pub use readings::{settings_in, sites_in, sites_of, values_in};
 pub use report::{ReportKind, report_run};
-pub use site::site_run;
+pub use site::{push_address, site_run};

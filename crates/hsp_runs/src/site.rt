@@ -51,7 +51,8 @@ fn push_counts(out: &mut Vec<u8>, site: &SiteRecord) -> Result<(), AllocError>
     push_counted(out, b"servers", site.server_count())
 }
 
-fn push_address(out: &mut Vec<u8>, address: [u8; 16]) -> Result<(), AllocError>
+/// Appends the 16 octets of an address in 32 lower-case hexadecimal digits, most significant first.
+pub fn push_address(out: &mut Vec<u8>, address: [u8; 16]) -> Result<(), AllocError>
     ensures { OnOk result (out.new.items ≡ out.old.items ++ encode_lower address) }
 {
     let mut digits = [0u8; 32];

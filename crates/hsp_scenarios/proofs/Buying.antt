@@ -10,10 +10,9 @@ use Rattle.hsp_transport.specs.Flow.{is_on}
 use Rattle.hsp_transport.specs.Sums.{sum_below}
 use Rattle.hsp_transport.proofs.Duality.{cut_shows_none, split_host}
 use Rattle.hsp_transport.proofs.Rowwise.{same_by, sum_below_times, turned, when}
-use Rattle.hsp_transport.proofs.Summing.{sum_below_add, sum_below_le, sum_below_same, sum_by_le_all}
+use Rattle.hsp_transport.proofs.Summing.{sum_below_add, sum_below_le, sum_below_same, sum_by_le_all, sum_by_times}
 use Rattle.hsp_scenarios.specs.Purchases.{IsServed, Lack, Purchase, SetsShowLeast, lacking}
 use Rattle.hsp_scenarios.specs.Purchases.{may_help, weight_at, weighed}
-use Rattle.hsp_scenarios.proofs.Adding.{sum_by_times}
 
 module _ (host_of : ℕ → Option ℕ) (limits : List ℕ) (count : ℕ)
     (hosts : (j h : ℕ) → j < count → host_of j ≡ Some h → h < length limits) where

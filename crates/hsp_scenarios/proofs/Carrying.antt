@@ -10,13 +10,14 @@ use Rattle.hsp_transport.specs.Plans.{Feasible, Plan, is_allowed, planned}
 use Rattle.hsp_transport.specs.Kinds.{AreAlikeIn, AreKinds, HasOneArcASite, Link, link_of, links_of, links_to}
 use Rattle.hsp_transport.specs.Sums.{sum_below}
 use Rattle.hsp_transport.proofs.Rowwise.{allowed_by, by_kinds, by_rows, same_by, sum_below_times, when, when_zero}
+use Rattle.hsp_transport.proofs.Rowwise.{sum_below_when}
 use Rattle.hsp_transport.proofs.Pooling.{allowed_alike, kind_sends, pool_feasible, pooled_alike, sent_is, weighed}
 use Rattle.hsp_transport.proofs.Spreading.{over_sites}
-use Rattle.hsp_transport.proofs.Summing.{sum_below_add, sum_below_same, sum_by_add}
+use Rattle.hsp_transport.proofs.Summing.{sum_below_add, sum_below_same, sum_by_add, sum_by_map, sum_by_times}
 use Rattle.hsp_scenarios.specs.Moves.{Today}
 use Rattle.hsp_scenarios.specs.Portions.{ArePortions, Portions, is_away, joined, priced, sent_away}
 use Rattle.hsp_scenarios.specs.Nearest.{cost_of}
-use Rattle.hsp_scenarios.proofs.Adding.{below_turned, below_when, sum_by_map, sum_by_times}
+use Rattle.hsp_scenarios.proofs.Adding.{below_turned}
 
 -- the network where nothing costs anything
 abbrev pub free : {A : Type 0} → Network A → Network A
@@ -59,7 +60,7 @@ pub over_all : {A : Type 0} (t : Today A) (p : Portions A) → ArePortions t p �
 over_all t p are y =
     sum_below_same (length t.network.demands) _ _ (λ i l.
     below_turned t.sites (length p.network.demands) (λ s k. when (p.source_of k == i) (y k s))
-    ∙ sum_below_same (length p.network.demands) _ _ (λ k m. below_when (p.source_of k == i) t.sites (y k)))
+    ∙ sum_below_same (length p.network.demands) _ _ (λ k m. sum_below_when (p.source_of k == i) t.sites (y k)))
     ∙ sym
     (by_kinds (length t.network.demands) p.source_of (λ i k. sum_below t.sites (y k)) (length p.network.demands)
     are.inside)

@@ -8,12 +8,12 @@ use Rattle.hsp_transport.specs.Plans.{Feasible, Plan, is_allowed, planned}
 use Rattle.hsp_transport.specs.Kinds.{together}
 use Rattle.hsp_transport.specs.Spread.{beside}
 use Rattle.hsp_transport.specs.Sums.{sum_below}
-use Rattle.hsp_transport.proofs.Rowwise.{when, when_zero}
+use Rattle.hsp_transport.proofs.Rowwise.{when, when_zero, sum_below_when}
 use Rattle.hsp_transport.proofs.Spreading.{along_rows}
 use Rattle.hsp_transport.proofs.Summing.{sum_below_le, sum_below_same}
 use Rattle.hsp_scenarios.specs.Moves.{Today}
 use Rattle.hsp_scenarios.specs.Portions.{ArePortions, Portions, at_home, is_home, joined}
-use Rattle.hsp_scenarios.proofs.Adding.{below_turned, below_when}
+use Rattle.hsp_scenarios.proofs.Adding.{below_turned}
 use Rattle.hsp_scenarios.proofs.Homes.{home_within}
 use Rattle.hsp_scenarios.proofs.Carrying.{allowed_is, sent_source}
 
@@ -70,4 +70,4 @@ module _ {A : Type 0} (t : Today A) (p : Portions A) (are : ArePortions t p) (x 
       sent_source t p are (joined p (kept p x))
       (λ r s off. omega (arith, feasible.allowed r s off, kept_joined p x r s)) i l
       ∙ below_turned t.sites (length p.network.demands) (λ s k. when (p.source_of k == i) (kept p x k s))
-      ∙ sum_below_same (length p.network.demands) _ _ (λ k m. below_when (p.source_of k == i) t.sites (kept p x k))
+      ∙ sum_below_same (length p.network.demands) _ _ (λ k m. sum_below_when (p.source_of k == i) t.sites (kept p x k))

@@ -10,7 +10,7 @@ use Rattle.hsp_transport.specs.Plans.{Feasible, Plan, is_allowed, planned}
 use Rattle.hsp_transport.specs.Kinds.{AreKinds, IsPooled, IsSpread, together}
 use Rattle.hsp_transport.specs.Spread.{spread}
 use Rattle.hsp_transport.specs.Sums.{sum_below}
-use Rattle.hsp_transport.proofs.Rowwise.{same_by, when, when_here}
+use Rattle.hsp_transport.proofs.Rowwise.{same_by, when, when_here, when_add}
 use Rattle.hsp_transport.proofs.Pooling.{within_alike}
 use Rattle.hsp_transport.proofs.Spreading.{is_spread, part_below}
 use Rattle.hsp_transport.proofs.Summing.{sum_below_add, sum_below_le, sum_below_same, sum_by_add, sum_by_le_all}
@@ -23,11 +23,6 @@ use Rattle.hsp_scenarios.proofs.Homes.{rest_away}
 use Rattle.hsp_scenarios.proofs.Carrying.{are_kinds, cost_joined, free, free_one, joined_alike, over_all}
 use Rattle.hsp_scenarios.proofs.Carrying.{sent_portion}
 use Rattle.hsp_scenarios.proofs.Keeping.{homed, kept, kept_allowed, kept_joined, kept_sent, kept_within}
-
--- a condition on a sum is one on each term
-when_sum : (t : Bool) (v w : ℕ) → when t (v + w) ≡ when t v + when t w
-when_sum true v w = refl
-when_sum false v w = refl
 
 module _ {A : Type 0} (t : Today A) (p : Portions A) (are : ArePortions t p) (x : Plan)
     (feasible : Feasible t.site t.network x) where
@@ -191,7 +186,7 @@ module _ {A : Type 0} (t : Today A) (p : Portions A) (are : ArePortions t p) (x 
   split_joined i s l =
       let of = λ (y : Plan) (k : ℕ). when (p.source_of k == i) (y k s) in
       let sums : joined p split i s ≡ joined p at i s + joined p rest i s =
-      sum_below_same count _ _ (λ k m. when_sum (p.source_of k == i) (at k s) (rest k s))
+      sum_below_same count _ _ (λ k m. when_add (p.source_of k == i) (at k s) (rest k s))
       ∙ sum_below_add count (of at) (of rest) in
       omega (arith, sums, rest_joined i s l, kept_joined p x i s)
 

@@ -13,6 +13,18 @@ use Rattle.hsp_stream.specs.declared.fault.StreamFault.TheVariants.{Log}
 use Rattle.hsp_stream.specs.declared.kinds_log.CountForm.{CountForm}
 use Rattle.hsp_stream.proofs.KindsRows.{row_more}
 
+-- the records that are left are fewer by the one that was read
+pub left_more : {R : Type 0} (remaining : R → Option (List ℕ)) (first now next : Reader R) (done : List Fields)
+    (fields : Fields)
+    → (IsKnown remaining first → (records_left remaining first ≡ done ++ records_left remaining now)
+    × IsKnown remaining now)
+    → TakesRecord remaining now next true fields → IsKnown remaining first
+    → (records_left remaining first ≡ done ++ fields ∷ records_left remaining next) × IsKnown remaining next
+left_more remaining first now next done fields left takes known =
+    let before = left known in
+    let after = takes before.1 in
+    (before.0 ∙ ap (λ l. done ++ l) after.0, after.1)
+
 -- ---- the rows
 
 module _ (costs : List CostEntry) (sites : List Site) (form : CountForm) (table : List Row) where
@@ -32,14 +44,6 @@ module _ (costs : List CostEntry) (sites : List Site) (form : CountForm) (table 
 
   module _ {R : Type 0} (remaining : R → Option (List ℕ)) (first now next : Reader R) (row : ℕ) (rows : List Row)
       (fields : Fields) (so_far : ReadSoFar remaining first now row rows) where
-    -- the records that are left are fewer by the one that was read
-    left_more : TakesRecord remaining now next true fields → IsKnown remaining first
-        → (records_left remaining first ≡ so_far.done ++ fields ∷ records_left remaining next) × IsKnown remaining next
-    left_more takes known =
-        let before = so_far.left known in
-        let after = takes before.1 in
-        (before.0 ∙ ap (λ l. so_far.done ++ l) after.0, after.1)
-
     -- a record more is read and joined
     pub one_read : (joined : List Row) → TakesRecord remaining now next true fields
         → with_record costs sites form row rows fields ≡ Ok joined
@@ -47,7 +51,7 @@ module _ (costs : List CostEntry) (sites : List Site) (form : CountForm) (table 
     one_read joined takes is = record {
       done = so_far.done ++ fields ∷ [];
       left = λ known.
-          let after = left_more takes known in
+          let after = left_more remaining first now next so_far.done fields so_far.left takes known in
           (after.0 ∙ sym (append_assoc so_far.done (fields ∷ []) (records_left remaining next)), after.1);
       joined = λ more.
           sym (row_more costs sites form row rows joined fields more is) ∙ so_far.joined (fields ∷ more)
@@ -60,7 +64,7 @@ module _ (costs : List CostEntry) (sites : List Site) (form : CountForm) (table 
         → OfLeft remaining first (λ records. rows_from costs sites form 0 table records ≡ Err fault)
     one_bad fault takes is = (
       so_far.done ++ fields ∷ records_left remaining next,
-      λ known. sym (left_more takes known).0,
+      λ known. sym (left_more remaining first now next so_far.done fields so_far.left takes known).0,
       sym (so_far.joined (fields ∷ records_left remaining next))
           ∙ ap
           (λ (r : Result (List Row) StreamFault). r >>= λ after.

@@ -1,7 +1,6 @@
 -- Rows of a table that are kept in a map by their keys, in the order of insertion.
-use Rattle.std.proofs.Common.{◌≡◌, ◌∙◌, ◌<◌, ◌≤◌, ℕ, Bool, true, false, List, [], ◌∷◌, ◌++◌, is_some, Option, None, Ok}
+use Rattle.std.proofs.Common.{◌≡◌, ◌∙◌, ◌<◌, ℕ, Bool, true, false, List, [], ◌∷◌, ◌++◌, is_some, Option, None, Ok}
 use Rattle.std.proofs.Common.{Err, length, map, nat_le, nat_lt, refl, sym, ap, arith}
-use Rattle.std.proofs.lemmas.Bool.Decides.{nat_tests}
 use Rattle.std.proofs.lemmas.List.{length-map, map-append}
 use Rattle.std.proofs.lemmas.Map.Made.{is_some-lookup}
 use Rattle.std.specs.List.{list_any}
@@ -10,10 +9,10 @@ use Rattle.indexmap.specs.IndexMap.{IndexMap, insert_entry}
 use Rattle.indexmap.proofs.CallerLemmas.{insert_entry-new}
 use Rattle.hsp_csv.specs.Records.{Fields}
 use Rattle.hsp_text.specs.declared.limits.TheConstants.{MOST_REGIONS}
+use Rattle.hsp_text.proofs.Steps.{le_false}
 use Rattle.hsp_tables.specs.declared.fault.TableFault.TheVariants.{RowTwice, TooManyRegions}
 use Rattle.hsp_tables.specs.InTurn.{with_row}
 use Rattle.hsp_tables.specs.Table.{Table, regions_of, row_at, seen_with}
-use Rattle.hsp_tables.proofs.KeyedReading.{nat_le-over}
 use Rattle.hsp_tables.proofs.TableLaws.{regions_of-append}
 
 -- what is not there is none
@@ -49,7 +48,7 @@ module _ {K Row S : Type 0} (table : Table Row) (entry : K × ℕ → Row) (eq :
     first_tests : (nat_le table.most_rows (length rows) ≡ false) × (table.row_in number fields ≡ Ok (entry e))
         × (list_any (table.same_key (entry e)) rows ≡ there)
     first_tests = (
-      rw (length-map m.entries entry) (nat_le-over table.most_rows (length m.entries) is.room),
+      rw (length-map m.entries entry) (le_false table.most_rows (length m.entries) is.room),
       is.spells,
       among m.entries ∙ sym (is_some-lookup (eq key) m.entries) ∙ sym is.looked,
     )

@@ -1,5 +1,5 @@
 -- Rows that are read in turn by their numbers and keys are just those that the items spell.
-use Rattle.std.proofs.Common.{◌≡◌, ◌∙◌, ◌≤◌, ◌<◌, ◌+◌, ℕ, Bool, false, List, [], ◌∷◌, ◌++◌, length, nat_le, Result, Ok}
+use Rattle.std.proofs.Common.{◌≡◌, ◌∙◌, ◌≤◌, ◌<◌, ◌+◌, ℕ, Bool, false, List, [], ◌∷◌, ◌++◌, length, Result, Ok}
 use Rattle.std.proofs.Common.{append_assoc, refl, sym, ap, arith}
 use Rattle.std.proofs.lemmas.Bool.Decides.{nat_tests}
 use Rattle.std.proofs.lemmas.List.{append-nil, length-append}
@@ -8,7 +8,7 @@ use Rattle.std.specs.List.{AllByRecursion, IsDistinct, list_any}
 use Rattle.hsp_tables.specs.declared.fault.TableFault.{TableFault}
 use Rattle.hsp_tables.specs.InTurn.{AreKeyed, Reading, ReadsAsSpelled, SpellInTurn, keyed_after, rows_after, with_row}
 use Rattle.hsp_tables.proofs.TurnLaws.{keyed_and_one, none_keyed, row_joins, rows_keep}
-use Rattle.hsp_text.proofs.Steps.{first_step}
+use Rattle.hsp_text.proofs.Steps.{first_step, le_false}
 
 -- a row in the middle, of rows of which something holds
 middle : {Row : Type 0} (P : Row → Type 0) (a : List Row) (row : Row) (b : List Row) → AllByRecursion P (a ++ row ∷ b)
@@ -27,10 +27,6 @@ new_among same laws (x ∷ earlier) row rest apart =
       laws.symm row x ∙ middle (λ y. same x y ≡ false) earlier row rest apart.0,
       new_among same laws earlier row rest apart.1,
     ) refl
-
--- a number is not above a greater one
-pub nat_le-over : (m n : ℕ) → n < m → nat_le m n ≡ false
-nat_le-over m n below = grind (arith, nat_tests)
 
 module _ (Item Row : Type 0) (most : ℕ) (many : TableFault) (row_in : ℕ → Item → Result Row TableFault)
     (same : Row → Row → Bool) (twice : ℕ → TableFault) where
@@ -57,7 +53,7 @@ module _ (Item Row : Type 0) (most : ℕ) (many : TableFault) (row_in : ℕ → 
         let room : length earlier < most = omega (arith, length-append earlier (row ∷ rows), few) in
         let here : row_in (length earlier) item ≡ Ok row = rw (← numbered) spelled.0 in
         let new : list_any (same row) earlier ≡ false = new_among same laws earlier row rows apart in
-        let next : with_row read earlier item ≡ Ok (earlier ++ row ∷ []) = rw (nat_le-over _ _ room, here, new) refl in
+        let next : with_row read earlier item ≡ Ok (earlier ++ row ∷ []) = rw (le_false _ _ room, here, new) refl in
         let later : rows_after read (earlier ++ row ∷ []) more ≡ Ok ((earlier ++ row ∷ []) ++ rows) =
         all_are_read (number + 1) (earlier ++ row ∷ []) more rows
         (omega (arith, length-append earlier (row ∷ []), numbered)) spelled.1 (rw parts few) (rw parts apart) in

@@ -1,5 +1,5 @@
 -- Steps and tests by which definitions go on.
-use Rattle.std.proofs.Common.{◌≡◌, ◌<◌, ◌≤◌, ℕ, true, Result, Ok, Err, nat_le, nat_lt, refl, arith}
+use Rattle.std.proofs.Common.{◌≡◌, ◌<◌, ◌≤◌, ℕ, true, Result, Ok, Err, nat_le, nat_lt, refl, arith, false}
 use Rattle.std.proofs.lemmas.Bool.Decides.{nat_tests}
 use Rattle.hsp_text.specs.Answers.{◌>>=◌}
 
@@ -16,3 +16,7 @@ le_true a b h = grind (arith, nat_tests)
 -- the test of a smaller number passes
 pub lt_true : (a b : ℕ) → a < b → nat_lt a b ≡ true
 lt_true a b h = grind (arith, nat_tests)
+
+-- the test of a greater number fails
+pub le_false : (a b : ℕ) → b < a → nat_le a b ≡ false
+le_false a b h = grind (arith, nat_tests)

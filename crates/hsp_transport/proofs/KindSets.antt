@@ -9,8 +9,8 @@ use Rattle.hsp_transport.specs.Network.{Network, IsNetwork}
 use Rattle.hsp_transport.specs.Flow.{is_on}
 use Rattle.hsp_transport.specs.Cut.{capacity_of, demand_of, reaches}
 use Rattle.hsp_transport.specs.Kinds.{AreKinds, Link, ShortSetsAreKept, links_in, links_of}
-use Rattle.hsp_transport.proofs.Summing.{sum_below_same, sum_below_le, sum_below_zero}
-use Rattle.hsp_transport.proofs.Rowwise.{when, by_kinds}
+use Rattle.hsp_transport.proofs.Summing.{sum_below_same, sum_below_le}
+use Rattle.hsp_transport.proofs.Rowwise.{when, by_kinds, sum_below_when, when_turned}
 
 -- an arc leads to the server
 abbrev pub leads_to : List Link → ℕ → Bool
@@ -98,24 +98,15 @@ row_of_kind (suc rows) kind set k e = elim (or_cases (kind rows == k && set rows
   | inr more ↦ let r = row_of_kind rows kind set k more in (r.0, omega (arith, r.1), r.2, r.3)
 ]
 
--- two conditions may be asked in either order
-swapped : (s t : Bool) (v : ℕ) → when s (when t v) ≡ when t (when s v)
-swapped s t v = grind arith
-
 module _ {A : Type 0} (site : A → ℕ) (n m : Network A) (kind : ℕ → ℕ) (n-is : IsNetwork n) (m-is : IsNetwork m)
     (are : AreKinds site n m kind) where
-  -- a condition on each term is a condition on the sum
-  sum_when : (t : Bool) (f : ℕ → ℕ) (rows : ℕ) → sum_below rows (λ i. when t (f i)) ≡ when t (sum_below rows f)
-  sum_when true f rows = refl
-  sum_when false f rows = sum_below_zero rows (λ i. 0) (λ i l. refl)
-
   -- rows of a set of kinds ask for what the kinds ask for
   asked : (set : ℕ → Bool) → demand_of n (λ i. set (kind i)) ≡ demand_of m set
   asked set =
       by_kinds (length m.demands) kind (λ k i. when (set k) (slice_index n.demands i)) (length n.demands) are.inside
       ∙ sum_below_same (length m.demands) _ _ (λ k l.
-      sum_below_same (length n.demands) _ _ (λ i r. swapped (kind i == k) (set k) (slice_index n.demands i))
-      ∙ sum_when (set k) (λ i. when (kind i == k) (slice_index n.demands i)) (length n.demands)
+      sum_below_same (length n.demands) _ _ (λ i r. when_turned (kind i == k) (set k) (slice_index n.demands i))
+      ∙ sum_below_when (set k) (length n.demands) (λ i. when (kind i == k) (slice_index n.demands i))
       ∙ ap (λ v. when (set k) v) (sym (are.demands k l)))
 
   -- what rows of chosen kinds reach, their kinds reach

@@ -25,6 +25,25 @@ when_there i k v ne = rw (ne_eqb i k ne)
 pub when_zero : (t : Bool) → when t 0 ≡ 0
 when_zero t = grind arith
 
+-- a condition on numbers that are equal where it holds
+pub when_same : (t : Bool) (v w : ℕ) → (t ≡ true → v ≡ w) → when t v ≡ when t w
+when_same true v w same = same refl
+when_same false v w same = refl
+
+-- a condition on a sum is one on each term
+pub when_add : (t : Bool) (v w : ℕ) → when t (v + w) ≡ when t v + when t w
+when_add true v w = refl
+when_add false v w = refl
+
+-- two conditions may be asked in either order
+pub when_turned : (s t : Bool) (v : ℕ) → when s (when t v) ≡ when t (when s v)
+when_turned s t v = grind arith
+
+-- a condition on each term is one on the sum
+pub sum_below_when : (t : Bool) (n : ℕ) (f : ℕ → ℕ) → sum_below n (λ i. when t (f i)) ≡ when t (sum_below n f)
+sum_below_when true n f = refl
+sum_below_when false n f = sum_below_zero n (λ i. 0) (λ i l. refl)
+
 -- only one of many terms
 one_term : (n i : ℕ) (f : ℕ → ℕ) → i < n → sum_below n (λ k. when (i == k) (f k)) ≡ f i
 one_term n i f l =

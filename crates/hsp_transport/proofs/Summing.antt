@@ -1,10 +1,11 @@
 -- Sums over the numbers below a bound, and over lists.
 use Rattle.std.proofs.Common.{◌≡◌, ℕ, zero, suc, ◌+◌, ◌*◌, ◌<◌, ◌≤◌, ◌==◌, inl, inr, List, [], ◌∷◌, length, sum_by, All}
 use Rattle.std.proofs.Common.{if◌then◌else◌, refl, ap, ap₂, sym, ◌∙◌, arith, mul-zero, mul-add, eq-eqb, ne_eqb, add-one}
-use Rattle.std.proofs.Common.{take, take_all, slice_index_or}
+use Rattle.std.proofs.Common.{take, take_all, slice_index_or, map}
 use Rattle.std.proofs.lemmas.List.Sums.{sum_by-cons, sum_by_more}
 use Rattle.std.proofs.lemmas.List.Elements.{All-head, All-tail}
 use Rattle.std.proofs.lemmas.Bool.{cases_eq}
+use Rattle.std.proofs.lemmas.List.Folds.{fold-map}
 use Rattle.hsp_transport.specs.Sums.{sum_below}
 
 -- sums of equal terms
@@ -35,6 +36,12 @@ sum_below_add zero f g = refl
 sum_below_add (suc n) f g =
     let a : sum_below n (λ k. f k + g k) ≡ sum_below n f + sum_below n g = sum_below_add n f g in
     omega arith
+
+-- the first term apart from the others
+pub sum_below_first : (n : ℕ) (f : ℕ → ℕ) → sum_below (suc n) f ≡ f 0 + sum_below n (λ k. f (suc k))
+sum_below_first zero f = omega arith
+sum_below_first (suc n) f =
+    let rest : sum_below (suc n) f ≡ f 0 + sum_below n (λ k. f (suc k)) = sum_below_first n f in omega arith
 
 -- only one term
 pub sum_below_one : (n : ℕ) (f : ℕ → ℕ) (i : ℕ) → i < n → ((k : ℕ) → k < n → (k ≡ i → ⊥) → f k ≡ 0)
@@ -75,6 +82,13 @@ module _ {A : Type 0} where
       let b : sum_by (λ a. f a + g a) xs ≡ sum_by f xs + sum_by g xs = sum_by_add f g xs in
       omega (arith, sum_by-cons f x xs, sum_by-cons g x xs, sum_by-cons (λ a. f a + g a) x xs)
 
+  -- a factor of all terms is one of their sum
+  pub sum_by_times : (k : ℕ) (f : A → ℕ) (xs : List A) → sum_by (λ a. k * f a) xs ≡ k * sum_by f xs
+  sum_by_times k f [] = sym (mul-zero k)
+  sum_by_times k f (x ∷ xs) =
+      sum_by-cons (λ a. k * f a) x xs ∙ ap (λ s. k * f x + s) (sum_by_times k f xs)
+      ∙ sym (mul-add k (f x) (sum_by f xs)) ∙ sym (ap (λ s. k * s) (sum_by-cons f x xs))
+
   -- a weight that depends only on a key: the sum over the elements is the sum over the keys
   pub by_key : (key : A → ℕ) (f : A → ℕ) (w : ℕ → ℕ) (n : ℕ) (xs : List A) → All (λ a. key a < n) xs →
       sum_by (λ a. w (key a) * f a) xs ≡ sum_below n (λ k. w k * sum_by (λ a. if key a == k then f a else 0) xs)
@@ -99,6 +113,10 @@ module _ {A : Type 0} where
       ≡ sum_below n (λ k. w k * at k) + sum_below n (λ k. w k * rest k) =
       sum_below_add n (λ k. w k * at k) (λ k. w k * rest k) in
       sum_by-cons (λ a. w (key a) * f a) x xs ∙ ap₂ (λ m n. m + n) (sym (one ∙ w-here)) a ∙ sym sums ∙ sym split
+
+-- a sum over what a function gives is one over what it is given
+pub sum_by_map : {A B : Type 0} (g : B → ℕ) (f : A → B) (xs : List A) → sum_by g (map f xs) ≡ sum_by (λ x. g (f x)) xs
+sum_by_map g f xs = fold-map (λ s b. s + g b) f 0 xs
 
 -- the sum over a list is the sum over its places
 module _ {A : Type 0} (g : A → ℕ) (d : A) (xs : List A) where

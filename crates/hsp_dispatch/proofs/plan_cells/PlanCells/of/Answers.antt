@@ -1,8 +1,9 @@
 use Rattle.std.proofs.Common.{◌≡◌, Some, arith, length, refl, take}
 use Rattle.std.specs.List.{slice_get}
 use Rattle.std.proofs.lemmas.Option.{slice_get_read}
+use Rattle.hsp_text.proofs.Lists.{zip_push}
 use Rattle.hsp_dispatch.specs.Standings.{Names}
-use Rattle.hsp_dispatch.proofs.Lists.{take_next, zip_push}
+use Rattle.hsp_dispatch.proofs.Lists.{take_next}
 use Rattle.hsp_dispatch.proofs.plan_cells.PlanCells.of.Goals as goal
 
 pub loop-row-preserved : goal.loop-row-preserved
