@@ -4,6 +4,7 @@ from __future__ import annotations
 
 import csv
 import io
+import os
 import random
 import re
 import subprocess
@@ -443,3 +444,19 @@ def test_one_purchase_serves_all_losses_of_a_log(hsp: Hsp, day: Path, monkeypatc
     printed = hsp("survive", str(day), "--buy", "--no-save", status=3).stdout
     assert "buy   room for 5,174 queries more at 5 servers serves every loss" in printed
     assert "no purchase below 5,174 does, by 2 short sets of weight 1" in printed
+
+
+@pytest.mark.parametrize("kind", ["pipe", "folder", "device"])
+def test_an_hour_whose_demand_is_no_file_is_refused(hsp: Hsp, tmp_path: Path, kind: str) -> None:
+    folder = drawn_day(random.Random(11), tmp_path / "it", 4)
+    demand = folder / "h02/demand.csv"
+    demand.unlink()
+    if kind == "pipe":
+        os.mkfifo(demand)
+    elif kind == "folder":
+        demand.mkdir()
+    else:
+        demand.symlink_to("/dev/zero")
+    said = hsp("day", str(folder), status=1).stderr
+    assert said == f"hsp: {demand}: no regular file; the demand of an hour is read more than once\n"
+    assert not (folder / "h00/plan.txt").exists()

@@ -12,10 +12,12 @@ from pathlib import Path
 
 import pytest
 
-from hsp.base.programs import Missing
+from hsp.base.programs import Missing, Programs
+from hsp.base.unfit import Unfit
 from hsp.plans.proxied import url_of
 from hsp.proxy import runtime
 from hsp.proxy.runtime import Runtime
+from hsp.proxy.steer import read_anew
 
 from conftest import Hsp
 from test_proxy import NETWORKS
@@ -115,6 +117,26 @@ def test_counts_are_not_written_through_a_link(hsp: Hsp, proxy: Path, tmp_path: 
     os.mkfifo(proxy / "steer.json")
     ended = hsp("steer", f"{tmp_path}/two-sites", "--into", str(proxy), "--once", status=1)
     assert "no file of its own" in ended.stderr and (tmp_path / "mine.txt").read_text() == "mine"
+
+
+@pytest.mark.parametrize("kind", ["pipe", "socket", "folder"])
+def test_figures_are_not_written_into_what_is_no_file(hsp: Hsp, proxy: Path, tmp_path: Path, kind: str) -> None:
+    figures = tmp_path / "hsp.prom"
+    own = socket.socket(socket.AF_UNIX)
+    {"pipe": os.mkfifo, "socket": lambda path: own.bind(str(path)), "folder": os.mkdir}[kind](figures)
+    words = ["steer", f"{tmp_path}/two-sites", "--into", str(proxy), "--once", "--metrics", str(figures)]
+    why = "hsp steer writes its figures there anew, time and again"
+    assert hsp(*words, status=1).stderr == f"hsp: {figures}: no regular file; {why}\n"
+    own.close()
+
+
+@pytest.mark.parametrize("kind", ["pipe", "folder"])
+def test_a_folder_is_not_read_anew_from_what_is_no_file(proxy: Path, tmp_path: Path, kind: str) -> None:
+    demand = tmp_path / "two-sites/demand.csv"
+    demand.unlink()
+    {"pipe": os.mkfifo, "folder": os.mkdir}[kind](demand)
+    with pytest.raises(Unfit, match="demand.csv: no regular file; hsp steer reads its files anew"):
+        read_anew(f"{tmp_path}/two-sites", {}, Programs())
 
 
 @pytest.mark.parametrize("words", ["it's", "   ", "a b"])

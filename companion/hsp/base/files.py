@@ -87,6 +87,12 @@ def refuse_no_folder(path: str, what: str) -> None:
         raise Unfit(f"{path}: no folder of its own; {what} there")
 
 
+def refuse_no_file(path: str, why: str) -> None:
+    """Refuses a folder, a pipe, a socket or a device where a file has to be. What isn't there is none of these."""
+    if os.path.exists(path) and not os.path.isfile(path):
+        raise Unfit(f"{path}: no regular file; {why}")
+
+
 def _lock(descriptor: int, folder: str) -> None:
     """Waits until no other run has a folder locked. A folder that its file system can't lock isn't."""
     until = time.monotonic() + PATIENCE

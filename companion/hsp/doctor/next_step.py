@@ -53,7 +53,7 @@ def networks_in(folder: str) -> list[str]:
     found: list[str] = []
     for path in sorted(glob.glob(os.path.join(glob.escape(folder), "*.csv"))):
         with contextlib.suppress(Unfit, OSError):
-            if is_table(path):
+            if os.path.isfile(path) and is_table(path):
                 found += named_in(path, None)
     return list(dict.fromkeys(found))
 

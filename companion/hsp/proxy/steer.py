@@ -14,7 +14,7 @@ from typing import Any
 
 import click
 
-from hsp.base.files import refuse_clashes, replace_all
+from hsp.base.files import refuse_clashes, refuse_no_file, replace_all
 from hsp.base.numbers import queries_of
 from hsp.base.paths import path_in, shell_word
 from hsp.base.programs import Missing, Programs, Refused
@@ -29,6 +29,8 @@ from hsp.proxy.steering import FAULTS, Steering
 from hsp.proxy.watched import Watched
 
 LOCK = "steer.lock"
+# Why figures need a regular file.
+FIGURES = "hsp steer writes its figures there anew, time and again"
 # HAProxy is asked at least once in so many seconds whether a server is lost or has returned.
 TICK = 1.0
 # A day, and a year.
@@ -58,8 +60,10 @@ def _text(fault: BaseException) -> str:
     return fault.message if isinstance(fault, Unfit) else str(fault)
 
 
-def _read(folder: str, given: dict[str, str | None], programs: Programs) -> Service:
+def read_anew(folder: str, given: dict[str, str | None], programs: Programs) -> Service:
     """A folder that is read anew. hsplan's line says what is wrong with it."""
+    for path in read_in(folder, given):
+        refuse_no_file(path, "hsp steer reads its files anew")
     service = read_service(folder, programs, given)
     if not service.sites:
         raise Unfit(f"{service.inputs.settings}: no site, so nobody can answer")
@@ -107,7 +111,7 @@ class _Loop:
         self.watched.are_read()
         programs = Programs()
         try:
-            self.steering.take(_read(self.folder, self.given, programs))
+            self.steering.take(read_anew(self.folder, self.given, programs))
             self._refused = ""
         except FAULTS as fault:
             doctor = f" (hsp doctor {shell_word(self.folder)})" if isinstance(fault, Refused) else ""
@@ -144,6 +148,7 @@ class _Loop:
     def measure(self) -> bool:
         """Writes the figures of the plan in force."""
         if self.metrics and self.steering.state:
+            refuse_no_file(self.metrics, FIGURES)
             replace_all({self.metrics: metrics_text(self.steering.state, time.time()).encode()})
         return True
 
@@ -193,6 +198,8 @@ def _files(folder: str, folders: Collection[str], given: dict[str, str | None], 
         maps = [name for name in os.listdir(into) if name.endswith(".map") and name not in written]
         read += [path_in(into, name) for name in (CONFIG, *maps)]
         own += [path_in(into, name) for name in written]
+    if metrics:
+        refuse_no_file(metrics, FIGURES)
     refuse_clashes(read, own + ([metrics] if metrics else []))
 
 

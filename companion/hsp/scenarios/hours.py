@@ -7,6 +7,7 @@ import os
 from collections.abc import Callable, Sequence
 from dataclasses import dataclass, replace
 
+from hsp.base.files import refuse_no_file
 from hsp.base.paths import path_in
 from hsp.base.programs import Certificate, Load, Missing, Refused
 from hsp.base.unfit import Unfit
@@ -111,11 +112,14 @@ def _order(name: str) -> tuple[int, str]:
 def names_in(folder: str, is_week: bool | None = None) -> list[str]:
     """The folders of hours in a folder, in their order: those of a day, or of a week where there are only these."""
     try:
-        there = [name for name in os.listdir(folder) if os.path.isfile(os.path.join(folder, name, NAMES["demand"]))]
+        there = [name for name in os.listdir(folder) if os.path.exists(os.path.join(folder, name, NAMES["demand"]))]
     except OSError:
         there = []
     day, week = (sorted(filter(form.fullmatch, there), key=_order) for form in (OF_DAY, OF_WEEK))
     names = week if is_week or (is_week is None and not day) else day
+    for name in names:
+        demand = path_in(folder, os.path.join(name, NAMES["demand"]))
+        refuse_no_file(demand, "the demand of an hour is read more than once")
     if not names:
         kind = "mon-h00" if is_week else "h00"
         by = "weekday-hour" if is_week else "hour"
