@@ -5,7 +5,8 @@
 
 It installs the program built here where that is newer than its sources, and otherwise the released one. The released
 program is compared with release/SHA256SUMS first. What is installed runs once before the script ends. Where its folder
-isn't in PATH, a line says so.
+isn't in PATH, a line says so. Folders that it makes have the mode 0755 and files 0644 or 0755, whatever the umask is.
+A folder that was there keeps its mode.
 """
 from __future__ import annotations
 
@@ -132,6 +133,7 @@ def main() -> int:
     arguments.add_argument("--uninstall", action="store_true")
     chosen = arguments.parse_args()
     root = os.path.abspath(chosen.destdir + os.path.abspath(os.path.expanduser(chosen.prefix)))
+    os.umask(0o022)  # what is made below the prefix is for all, whatever the umask is
     try:
         if chosen.uninstall:
             return uninstall(root)

@@ -27,6 +27,7 @@ import argparse
 import filecmp
 import os
 import shutil
+import stat
 import subprocess
 import sys
 import tempfile
@@ -187,7 +188,20 @@ def visit(visitor: Visitor) -> list[str]:
     faults += expected(visitor, "make try ARGS='locate --option handle --servers 3 20.500.1234/film-5'", 0, ["1\n"])
     faults += expected(visitor, "make uninstall PREFIX=$HOME/.local && ! test -e $HOME/.local", 0, [])
     print(f"demo, installation and a plan without the kit: {gone:.1f} seconds")
-    return faults
+    return faults + wrong_modes(visitor)
+
+
+def wrong_modes(visitor: Visitor) -> list[str]:
+    """The faults of an installation by someone whose umask keeps others out. All can read and run what it makes, and a
+    folder that was there keeps its mode."""
+    own = [f"{visitor.home}/.local", f"{visitor.home}/.local/share"]
+    faults = expected(visitor, "umask 077; mkdir -p $HOME/.local/share && make install PREFIX=$HOME/.local", 0, [])
+    for at, _, names in os.walk(own[0]):
+        wanted = {at: 0o700 if at in own else 0o755}
+        wanted |= {os.path.join(at, it): 0o755 if os.path.basename(at) == "bin" else 0o644 for it in names}
+        modes = {it: stat.S_IMODE(os.stat(it).st_mode) for it in wanted}
+        faults += [f"{it}: mode {modes[it]:04o}, wanted {mode:04o}" for it, mode in wanted.items() if modes[it] != mode]
+    return faults + expected(visitor, "make uninstall PREFIX=$HOME/.local && rmdir $HOME/.local/share", 0, [])
 
 
 def nothing_fits(visitor: Visitor, before: str, why: str) -> list[str]:
