@@ -4,8 +4,9 @@ from __future__ import annotations
 
 import os
 import re
+import shlex
 import subprocess
-from collections.abc import Iterator
+from collections.abc import Callable, Iterator
 from pathlib import Path
 
 import click
@@ -15,6 +16,7 @@ from hsp.base.groups import Group
 from hsp.cli import main
 from hsp.fleet import answers
 
+from conftest import TOP, Hsp
 from test_sites import invoke
 
 # What the manual page says of each option that has a default or bounds: its default, its least and its greatest value.
@@ -72,6 +74,74 @@ def stated(command: click.Command) -> dict[str, tuple[object, object, object]]:
 
 def test_options_have_their_defaults_and_bounds() -> None:
     assert {name: it for name, command in commands(main) if (it := stated(command))} == OPTIONS
+
+
+# Words that can't all be followed, and the line that names them.
+GROUPS = "(?P<client>\\S+) (?P<handle>\\S+)"
+COUNTING = {"demand": ["access.log", "--regions", "networks.csv"], "fleet demand": ["a", "--regions", "networks.csv"]}
+LINES = "it is of the lines, and none are printed"
+FIELDS = ("--client", "--handle", "--path", "--time")
+PLANNED = ("--once", "--every 2", "--period 60", "--metrics F")
+GIVEN = ("--settings", "--demand", "--costs", "--capacity", "--values")
+REFUSED = [
+    ("plan", "--csv --json", "--csv and --json don't go together: each takes the place of the lines"),
+    ("plan", "--no-save -o F", "-o and --no-save don't go together: no certificate is kept"),
+    ("plan", "--no-save --output F", "-o and --no-save don't go together: no certificate is kept"),
+    ("plan", "--csv --more", "--more does nothing with --csv: the table has shares only"),
+    ("plan", "--csv --all", f"--all does nothing with --csv: {LINES}"),
+    ("plan", "--json --all", "--all does nothing with --json: JSON has all of them"),
+    ("plan", "--csv --unit ms", f"--unit does nothing with --csv: {LINES}"),
+    ("plan", "--json --unit ms", f"--unit does nothing with --json: {LINES}"),
+    ("whatif", "--points 9", "--points needs --server"),
+    ("whatif", "--from 1", "--from needs --server"),
+    ("whatif", "--to 1", "--to needs --server"),
+    (
+        "whatif",
+        "--server a:1 --step 10",
+        "--step does nothing with --server: it is of more room at each full server",
+    ),
+    ("grow", "--json --unit ms", f"--unit does nothing with --json: {LINES}"),
+    ("survive", "--no-save --into F", "--into and --no-save don't go together: no fallback plan is kept"),
+    ("survive", "--csv --buy", "--buy does nothing with --csv: the table has losses only"),
+    ("survive", "--csv --all", "--all does nothing with --csv: the table has all losses"),
+    ("survive", "--csv --unit ms", f"--unit does nothing with --csv: {LINES}"),
+    ("day", "--no-save -o F", "-o and --no-save don't go together: no page is kept"),
+    ("day", "--csv --all", f"--all does nothing with --csv: {LINES}"),
+    (
+        "day",
+        "--csv --no-save --unit ms",
+        "--unit does nothing with --csv and --no-save: it is of the lines and of the page",
+    ),
+    ("steer", "--into F --once --every 2", "--every does nothing with --once: there is one plan"),
+    *(
+        ("steer", f"--into F --status {words}", f"{words.split()[0]} does nothing with --status: nothing is planned")
+        for words in (*PLANNED, *(f"{word} F" for word in GIVEN))
+    ),
+    *((name, "--handle a --path b", "--handle and --path don't go together") for name in COUNTING),
+    *(
+        (name, f"--format {form} {word} x", f"{word} does nothing with --format {form}")
+        for name in COUNTING
+        for form in ("server", "proxy")
+        for word in FIELDS
+    ),
+    *(
+        (name, f"--regex '{GROUPS}' {word} x", f"{word} does nothing with --regex")
+        for name in COUNTING
+        for word in FIELDS
+    ),
+    *((name, f"--regex '{GROUPS}' --format json", "--format does nothing with --regex") for name in COUNTING),
+]
+
+
+@pytest.mark.parametrize("command, words, line", REFUSED)
+def test_an_option_that_does_nothing_is_refused(
+    hsp: Hsp, example: Callable[[str], Path], monkeypatch: pytest.MonkeyPatch, command: str, words: str, line: str
+) -> None:
+    folder = example("bring-in")
+    monkeypatch.chdir(folder)
+    ended = hsp(*command.split(), *COUNTING.get(command, []), *shlex.split(words), status=2)
+    assert ended.stderr.splitlines()[-1].startswith(f"Error: {line}") and not ended.stdout
+    assert sorted(os.listdir(folder)) == sorted(os.listdir(TOP / "examples/bring-in")), "nothing is written"
 
 
 def test_a_new_service_has_sites_that_answer_both_ways(tmp_path: Path) -> None:

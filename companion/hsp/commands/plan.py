@@ -15,6 +15,7 @@ import click
 
 from hsp.base.ends import SHORTAGE
 from hsp.base.files import refuse_clashes, replace_all
+from hsp.base.options import LINES, apart, idle
 from hsp.base.paths import path_in
 from hsp.base.programs import Programs
 from hsp.base.text import colored, give, say
@@ -168,6 +169,13 @@ def keep(service: Service, programs: Programs, path: str, near: Near | None) -> 
 @click.option("--no-save", is_flag=True, help="keep no certificate")
 @click.option("--csv", "as_csv", is_flag=True, help="only how many queries of each region go to each site")
 @click.option("--json", "as_json", is_flag=True, help="the same sums for other programs")
+@apart("--csv", "--json", "each takes the place of the lines")
+@apart("-o", "--no-save", "no certificate is kept")
+@idle("--more", "--csv", why="the table has shares only")
+@idle("--all", "--csv", why=LINES)
+@idle("--all", "--json", why="JSON has all of them")
+@idle("--unit", "--csv", why=LINES)
+@idle("--unit", "--json", why=LINES)
 def plan(folder: str, **given: Any) -> None:
     """Plans, checks and shows the plan in some ten lines.
 

@@ -5,6 +5,7 @@ from __future__ import annotations
 import click
 
 from hsp.base.files import refuse_clashes
+from hsp.base.options import idle, needs
 from hsp.base.programs import Programs
 from hsp.base.text import give, say
 from hsp.commands.shared import OUTPUT, progress, write
@@ -29,6 +30,10 @@ from hsp.plans.whatif import lines as case_lines
 @click.option("--unit", help="of costs, such as ms")
 @click.option("--csv", "as_csv", is_flag=True, help="for other programs")
 @click.option("--chart", metavar="FILE", type=OUTPUT, help="a picture of the costs, SVG")
+@needs("--from", "--server")
+@needs("--to", "--server")
+@needs("--points", "--server")
+@idle("--step", "--server", why="it is of more room at each full server")
 def whatif(
     folder: str,
     server: str | None,

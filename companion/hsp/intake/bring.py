@@ -16,6 +16,8 @@ from hsp.base.bounds import whole
 from hsp.base.files import Outputs, create, locked, refuse_clashes, replace_all, together
 from hsp.base.grammar import GREATEST_CAPACITY, GREATEST_UNIT, LOG_HEAD
 from hsp.base.numbers import listed, some
+from hsp.base.options import apart, idle
+from hsp.base.options import given as words_given
 from hsp.base.paths import path_in, shell_word
 from hsp.base.programs import Inputs, Programs
 from hsp.base.text import give, is_utf8, say, show_progress
@@ -138,6 +140,8 @@ def sites(paths: tuple[str, ...], into: str | None, names: tuple[str, ...], capa
 
 def form_of(given: dict[str, Any]) -> Form:
     """The form of the logs by the options."""
+    if given["format"] in ("server", "proxy"):
+        refuse_fields(given["format"])
     pattern = None
     if given["regex"]:
         try:
@@ -151,6 +155,12 @@ def form_of(given: dict[str, Any]) -> Form:
     prefixes = frozenset(os.fsencode(prefix.rstrip("/").upper()) for prefix in given["prefix"])
     names = given["client"], given["handle"], given["path"] or ""
     return Form(given["format"], *names, pattern, prefixes, given["time"])
+
+
+def refuse_fields(form: str) -> None:
+    """Refuses the names of fields for logs of a form that has none."""
+    for option in sorted(FIELDS & words_given()):
+        raise click.UsageError(f"{option} does nothing with --format {form}: its lines have no names of fields")
 
 
 class Moment(click.ParamType):
@@ -358,6 +368,8 @@ BY_HOURS = click.option(
     callback=by_of,
     help="of a MaxMind database; or hour or weekday-hour: a table of each",
 )
+# The options that name fields of JSON and of tables.
+FIELDS = {"--client", "--handle", "--path", "--time"}
 FORM_OPTIONS = [
     click.option(
         "--format", type=click.Choice(["auto", *FORMS]), default="auto", show_default=True, help="of the logs"
@@ -394,6 +406,9 @@ KINDS_OPTIONS = [
 
 def with_forms(command: Command, by: Callable[[Any], Any] = OF_DATABASE) -> Command:
     """Adds the options that say how logs are read, and how their rows are joined."""
+    command = apart("--handle", "--path", "a line has either a handle or a path")(command)
+    for word in sorted({"--format", *FIELDS}):
+        command = idle(word, "--regex", why="its groups say what a line has")(command)
     for option in reversed([*FORM_OPTIONS, by, *KINDS_OPTIONS]):
         command = option(command)
     return command

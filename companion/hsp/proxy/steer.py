@@ -16,12 +16,13 @@ import click
 
 from hsp.base.files import refuse_clashes, refuse_no_file, replace_all
 from hsp.base.numbers import queries_of
+from hsp.base.options import Run, idle
 from hsp.base.paths import path_in, shell_word
 from hsp.base.programs import Missing, Programs, Refused
 from hsp.base.text import give, say
 from hsp.base.unfit import Unfit
 from hsp.doctor.service_folder import read_in, sound, with_files
-from hsp.plans.service import Service, read_service
+from hsp.plans.service import NAMES, Service, read_service
 from hsp.proxy.config import CONFIG, COSTS, PLAN, PRICES, SITES, socket_in
 from hsp.proxy.proxies import Proxies
 from hsp.proxy.standing import STATE, line_of, metrics_text, state_in, table_lines
@@ -216,6 +217,13 @@ def _show(folders: Collection[str]) -> None:
         say(f"{own.folder} doesn't answer; its last counts are among these")
 
 
+def beside_status(run: Run) -> Run:
+    """Refuses what is of plans where only loads are printed."""
+    for option in ("--once", "--every", "--period", "--metrics", *(f"--{role}" for role in (*NAMES, "values"))):
+        run = idle(option, "--status", why="nothing is planned")(run)
+    return run
+
+
 @click.command()
 @with_files
 @click.option(
@@ -246,6 +254,8 @@ def _show(folders: Collection[str]) -> None:
 @click.option("--metrics", metavar="FILE", help="figures for Prometheus' textfile collector")
 @click.option("--once", is_flag=True, help="one plan, and the end")
 @click.option("--status", is_flag=True, help="only prints the loads of now against plan and capacity")
+@idle("--every", "--once", why="there is one plan")
+@beside_status
 def steer(folder: str, folders: tuple[str, ...], every: float, period: float, **given: Any) -> None:
     """Keeps the plan in step by which HAProxy answers.
 

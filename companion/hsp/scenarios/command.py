@@ -11,6 +11,7 @@ import click
 
 from hsp.base.ends import SHORTAGE
 from hsp.base.numbers import queries_of, some
+from hsp.base.options import LINES, apart, idle
 from hsp.base.paths import path_in, shell_word
 from hsp.base.programs import Missing
 from hsp.base.text import give, say
@@ -60,6 +61,7 @@ def _asking(folder: str, programs: Judged, given: dict[str, str | None], unit: s
 )
 @click.option("--unit", help="of costs, such as ms")
 @click.option("--json", "as_json", is_flag=True, help="the same for other programs")
+@idle("--unit", "--json", why=LINES)
 def grow(folder: str, percents: tuple[int, ...], unit: str | None, as_json: bool, **given: str | None) -> None:
     """Shows how far the demand can grow before something is short.
 
@@ -134,6 +136,10 @@ def _first(service: Service, programs: Judged, portions: Portions | None) -> Non
 @click.option("--unit", help="of costs, such as ms")
 @click.option("--all", "every", is_flag=True, help="all losses, and all servers of a purchase")
 @click.option("--csv", "as_csv", is_flag=True, help="all losses, for other programs")
+@apart("--into", "--no-save", "no fallback plan is kept")
+@idle("--buy", "--csv", why="the table has losses only")
+@idle("--all", "--csv", why="the table has all losses")
+@idle("--unit", "--csv", why=LINES)
 def survive(folder: str, **given: Any) -> None:
     """Plans for each site, server and machine that may be lost.
 

@@ -14,6 +14,7 @@ import click
 from hsp.base.ends import SHORTAGE
 from hsp.base.files import refuse_clashes, refuse_no_folder, replace_all
 from hsp.base.numbers import some
+from hsp.base.options import LINES, apart, idle
 from hsp.base.paths import path_in
 from hsp.base.text import give, say
 from hsp.base.unfit import Unfit
@@ -152,6 +153,9 @@ def _day(service: Service, hours: Sequence[Hour], is_near: bool, programs: Judge
 )
 @click.option("--no-save", is_flag=True, help="keep no plan and no page")
 @click.option("--csv", "as_csv", is_flag=True, help="the hours, for other programs")
+@apart("-o", "--no-save", "no page is kept")
+@idle("--all", "--csv", why=LINES)
+@idle("--unit", "--csv", "--no-save", why="it is of the lines and of the page")
 def day(folder: str, **given: Any) -> None:
     """Plans each hour of a day or of a week.
 

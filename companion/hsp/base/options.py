@@ -1,0 +1,61 @@
+"""Options that do nothing beside others, or without them. A command refuses these in one line, with status 2."""
+
+from __future__ import annotations
+
+import functools
+from collections.abc import Callable
+from typing import Any, TypeVar, cast
+
+import click
+from click.core import ParameterSource
+
+Run = TypeVar("Run", bound=Callable[..., Any])
+# Why an option does nothing where a table or JSON is printed.
+LINES = "it is of the lines, and none are printed"
+
+
+def given() -> set[str]:
+    """The options of the running command that stand among its words, by all of their spellings."""
+    context = click.get_current_context()
+    there = (it for it in context.command.params if it.name and is_word(context, it.name))
+    return {spelling for it in there for spelling in it.opts}
+
+
+def is_word(context: click.Context, name: str) -> bool:
+    return context.get_parameter_source(name) is ParameterSource.COMMANDLINE
+
+
+def _before(refused: Callable[[set[str]], str]) -> Callable[[Run], Run]:
+    """Looks at the words before a command runs."""
+
+    def over(run: Run) -> Run:
+        @functools.wraps(run)
+        def first(*words: Any, **more: Any) -> Any:
+            line = refused(given())
+            if line:
+                raise click.UsageError(line)
+            return run(*words, **more)
+
+        return cast(Run, first)
+
+    return over
+
+
+def idle(option: str, *beside: str, why: str) -> Callable[[Run], Run]:
+    """Refuses an option that does nothing where all of the others are given."""
+    line = f"{option} does nothing with {' and '.join(beside)}: {why}"
+    return _before(lambda there: line if there.issuperset((option, *beside)) else "")
+
+
+def needs(option: str, other: str) -> Callable[[Run], Run]:
+    """Refuses an option that does nothing without another one."""
+    return _before(lambda there: f"{option} needs {other}" if option in there and other not in there else "")
+
+
+def apart(option: str, other: str, why: str) -> Callable[[Run], Run]:
+    """Refuses two options of which only one can be followed."""
+    line = f"{option} and {other} don't go together: {why}"
+    return _before(lambda there: line if there.issuperset((option, other)) else "")
+
+
+__all__ = ["LINES", "Run", "apart", "given", "idle", "is_word", "needs"]
