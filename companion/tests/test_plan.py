@@ -6,6 +6,8 @@ import csv
 import io
 import json
 import os
+import re
+import shutil
 import subprocess
 import sys
 from collections.abc import Callable
@@ -181,3 +183,73 @@ def test_what_hsplan_refuses_later_is_a_line_and_its_status(
 )
 def test_a_part_is_nothing_or_all_only_where_it_is(share: float, words: str) -> None:
     assert part(share) == words
+
+
+NEAR = {"near/demand.csv", "near/costs.csv", "near/plan.txt"}
+LESS = {"capacity-less-reserve.csv", "settings-less-reserve.toml"}
+UNITS = {"capacity-in-units.csv", "settings-in-units.toml"}
+
+
+def kept_in(folder: Path) -> set[str]:
+    """The files that runs have kept beside a plan."""
+    names = {str(path.relative_to(folder)) for path in folder.rglob("*") if path.is_file()}
+    return names & (NEAR | LESS | UNITS | {"near/mine"})
+
+
+@pytest.fixture
+def limited(example: Example) -> Path:
+    """A service whose machines have limits."""
+    folder = example("two-sites")
+    (folder / "settings.toml").write_bytes((folder / "hosts.toml").read_bytes())
+    return folder
+
+
+def test_a_plain_plan_takes_away_what_an_earlier_one_kept(hsp: Hsp, limited: Path) -> None:
+    hsp("plan", str(limited))
+    hsp("plan", str(limited), "--near", str(limited), "--reserve", "1")
+    assert kept_in(limited) == NEAR | LESS
+    for words in (["--no-save"], ["-o", f"{limited}/other.txt"]):
+        hsp("plan", str(limited), *words)
+        assert kept_in(limited) == NEAR | LESS, "another plan still stands by them"
+    hsp("plan", str(limited), "--reserve", "1")
+    assert kept_in(limited) == LESS and not (limited / "near").exists()
+    counted = re.sub(r",(\d+)$", r",\g<1>0", (limited / "capacity.csv").read_text(), flags=re.M)
+    (limited / "capacity.csv").write_text(counted)
+    settings = (limited / "settings.toml").read_text()
+    (limited / "settings.toml").write_text(settings.replace("limit = 2000", "limit = 20000"))
+    (limited / "hsp.toml").write_text('[demand]\nrows = "handles"\nunit = 10\n')
+    hsp("plan", str(limited))
+    assert kept_in(limited) == UNITS
+    (limited / "hsp.toml").unlink()
+    hsp("plan", str(limited))
+    assert kept_in(limited) == set()
+
+
+def test_what_is_read_or_of_others_stays_beside_a_plain_plan(hsp: Hsp, limited: Path, tmp_path: Path) -> None:
+    hsp("plan", str(limited))
+    hsp("plan", str(limited), "--near", str(limited), "--reserve", "1")
+    less = f"{limited}/capacity-less-reserve.csv", f"{limited}/settings-less-reserve.toml"
+    hsp("plan", str(limited), "--capacity", less[0], "--settings", less[1])
+    assert kept_in(limited) == LESS
+    (limited / "near").mkdir()
+    for name in NEAR | {"near/mine"}:
+        (limited / name).write_text("mine")
+    hsp("plan", str(limited))
+    assert kept_in(limited) == NEAR | {"near/mine"}, "that is no folder of hsp's"
+    shutil.move(limited / "near", tmp_path / "other")
+    (tmp_path / "other/mine").unlink()
+    (limited / "near").symlink_to(tmp_path / "other")
+    (limited / "capacity-less-reserve.csv").symlink_to(limited / "capacity.csv")
+    hsp("plan", str(limited))
+    assert len(list((tmp_path / "other").iterdir())) == 3 and (limited / "capacity-less-reserve.csv").is_symlink()
+
+
+def test_what_plans_of_hours_stand_by_is_named_as_old(hsp: Hsp, limited: Path) -> None:
+    hsp("plan", str(limited), "--reserve", "1")
+    (limited / "mon-h05").mkdir()
+    assert "\nold " not in hsp("plan", str(limited), "--reserve", "1").stdout
+    (limited / "mon-h05/plan.txt").write_text("a plan")
+    files = " and ".join(f"{limited}/{name}" for name in sorted(LESS))
+    last = hsp("plan", str(limited)).stdout.splitlines()[-1]
+    assert last == f"old   {files}: of plans of hours, or of an earlier plan; not of this one"
+    assert kept_in(limited) == LESS

@@ -14,7 +14,8 @@ from typing import Any, NoReturn
 import click
 
 from hsp.base.ends import SHORTAGE
-from hsp.base.files import refuse_clashes, replace_all
+from hsp.base.files import locked, refuse_clashes, replace_all
+from hsp.base.numbers import listed
 from hsp.base.options import LINES, apart, idle
 from hsp.base.paths import path_in
 from hsp.base.programs import Programs
@@ -38,7 +39,8 @@ from hsp.plans.plans import (
 from hsp.plans.service import Server, Service
 from hsp.plans.terminal import head, plan_lines, shortage_lines
 from hsp.scenarios.ahead import Ahead
-from hsp.scenarios.in_force import files_beside
+from hsp.scenarios.earlier import forget
+from hsp.scenarios.in_force import PLAN, files_beside
 from hsp.scenarios.judged import Judged
 from hsp.scenarios.near_plan import Near, near_plan
 from hsp.scenarios.reserve import RESERVE, reserved
@@ -149,8 +151,16 @@ def keep(service: Service, programs: Programs, path: str, near: Near | None) -> 
     refuse_clashes(service.own_inputs.files(), contents)
     for name in contents:
         os.makedirs(os.path.dirname(name) or ".", exist_ok=True)
-    replace_all({path: service.certificate.text.encode(), **contents})
-    return lines
+    contents = {path: service.certificate.text.encode(), **contents}
+    if path != path_in(service.folder, PLAN):
+        replace_all(contents)
+        return lines
+    read = [*service.own_inputs.files(), *([near.held.path, *near.beside] if near and near.held else [])]
+    with locked([service.folder]):
+        replace_all(contents)
+        old = forget(service.folder, contents, read)
+    named = f"old   {listed(old)}: of plans of hours, or of an earlier plan; not of this one"
+    return [*lines, named] if old else lines
 
 
 @click.command()

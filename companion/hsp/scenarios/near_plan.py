@@ -16,6 +16,8 @@ from hsp.scenarios.nearest import Portions, TooMany, keys_of, moved_between
 
 # The folder beside a plan with the tables of its portions and their plan.
 FOLDER = "near"
+# Its files.
+KEPT = (NAMES["demand"], NAMES["costs"], PLAN)
 
 
 @dataclass(frozen=True)
@@ -64,13 +66,8 @@ class Near:
             return {}
         folder = path_in(os.path.dirname(plan), FOLDER)
         refuse_no_folder(folder, "what shows that a plan is near is written")
-        sources = {
-            NAMES["demand"]: self.portions.demand,
-            NAMES["costs"]: self.portions.costs,
-            PLAN: self.portions_plan,
-        }
         found = {}
-        for name, source in sources.items():
+        for name, source in zip(KEPT, (self.portions.demand, self.portions.costs, self.portions_plan)):
             with open(source, "rb") as file:
                 found[path_in(folder, name)] = file.read()
         return found
