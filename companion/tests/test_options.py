@@ -38,8 +38,8 @@ OPTIONS = {
         "--step": (10.0, 0.1, 1000),
     },
     "sites": {"--capacity": (0, 0, 1_000_000_000)},
-    "export haproxy": {"--watch": ("127.0.0.1:8405", None, None)},
-    "steer": {"--every": (10.0, 0.1, 86_400), "--period": (3600.0, 1, 31_622_400)},
+    "export haproxy": {"--watch": ("127.0.0.1:8405", None, None), **RESERVE},
+    "steer": {"--every": (10.0, 0.1, 86_400), "--period": (3600.0, 1, 31_622_400), **RESERVE},
     "plan": RESERVE,
     "view": RESERVE,
     "grow": {"--percent": ((10, 20, 50), 1, 100_000)},
@@ -81,7 +81,7 @@ GROUPS = "(?P<client>\\S+) (?P<handle>\\S+)"
 COUNTING = {"demand": ["access.log", "--regions", "networks.csv"], "fleet demand": ["a", "--regions", "networks.csv"]}
 LINES = "it is of the lines, and none are printed"
 FIELDS = ("--client", "--handle", "--path", "--time")
-PLANNED = ("--once", "--every 2", "--period 60", "--metrics F")
+PLANNED = ("--once", "--every 2", "--period 60", "--metrics F", "--reserve 2")
 GIVEN = ("--settings", "--demand", "--costs", "--capacity", "--values")
 REFUSED = [
     ("plan", "--csv --json", "--csv and --json don't go together: each takes the place of the lines"),

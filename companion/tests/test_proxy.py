@@ -525,6 +525,29 @@ def test_a_value_list_has_the_same_urls(hsp: Hsp, two: Path, tmp_path: Path) -> 
     assert "  http-request redirect code 307 location http://192.0.2.11:8000%[pathq]" in one
 
 
+@pytest.mark.parametrize("settings", ["settings.toml", "hosts.toml"])
+def test_an_export_less_a_reserve_is_that_of_less_capacity(
+    hsp: Hsp, two: Path, tmp_path: Path, settings: str
+) -> None:
+    """The map is that of the capacities that hsp plan --reserve keeps. Where a reserve is forgotten, a line says so."""
+    (two / "settings.toml").write_bytes((two / settings).read_bytes())
+    words = ["--regions", str(two / "networks.csv")]
+    hsp("plan", str(two), "--reserve", "0.5")
+    why = "keeps a part of each capacity back, and this plan doesn't: give --reserve, as hsp plan had it"
+    assert f"hsp: {two}/plan.txt {why}" in exported(hsp, two, tmp_path / "plain", *words).splitlines()
+    assert not exported(hsp, two, tmp_path / "less", *words, "--reserve", "0.5")
+    said = hsp("export", "haproxy", str(two), "--into", f"{tmp_path}/less", *words, "--reserve", "0.5").stdout
+    assert ", 0.5% of each capacity kept back; check yes" in said
+    for role, end in (("capacity", "csv"), ("settings", "toml")):
+        if (two / f"{role}-less-reserve.{end}").exists():
+            (two / f"{role}.{end}").write_bytes((two / f"{role}-less-reserve.{end}").read_bytes())
+    assert not exported(hsp, two, tmp_path / "own", *words)
+    own, less, plain = ((tmp_path / name / "plan.map").read_text() for name in ("own", "less", "plain"))
+    assert own == less != plain
+    said = exported(hsp, two, tmp_path / "none", *words, "--reserve", "60", status=3)
+    assert f"not all queries can be served, and there is no plan: hsp plan {two} --reserve 60\n" in said
+
+
 def test_a_demand_in_units_has_the_same_map(hsp: Hsp, two: Path, tmp_path: Path) -> None:
     """Tenfold queries at tenfold capacities have the same shares."""
     exported(hsp, two, tmp_path / "one")

@@ -17,6 +17,7 @@ import time
 from collections import Counter
 from collections.abc import Callable, Iterator
 from dataclasses import dataclass, replace
+from fractions import Fraction
 from pathlib import Path
 from typing import Any
 from urllib.parse import quote
@@ -34,7 +35,7 @@ from hsp.proxy.kinds import kinds_of
 from hsp.proxy.rest import Rest, rest_of, room_of
 from hsp.proxy.runtime import AT_ONCE, Reading, pieces
 from hsp.proxy.standing import Standing, State, kept, kept_in
-from hsp.proxy.steer import _Loop
+from hsp.proxy.steer import _Loop, read_anew
 from hsp.proxy.steering import Steering
 from hsp.proxy.watched import Watched
 
@@ -714,6 +715,23 @@ def test_a_first_start_in_mid_period_counts_what_was_given_before(
     assert 200 * passed / front.uptime() - 12 < loads_of(state)["paris:2"] < 200 * passed / before + 12
     again = json.loads(hsp("steer", str(two), *words, "--once").stdout)
     assert loads_of(again) == loads_of(state), "from now on each query counts once"
+
+
+def test_a_reserve_is_kept_back_from_each_plan(hsp: Hsp, two: Path, into: Path, front: Front) -> None:
+    """Also where the folder is read anew."""
+    before, less = (read_anew(str(two), {}, Programs(), Fraction(part, 200)).capacities for part in (0, 1))
+    assert less == {key: room * 199 // 200 for key, room in before.items()} != before
+    period = period_of(100_000, 99_000)
+    words = ("steer", str(two), "--into", str(into), "--once", "--period", period)
+    hsp("plan", str(two), "--reserve", "0.5")
+    for more, capacities in (([], before), (["--reserve", "0.5"], less)):
+        ended = hsp(*words, *more)
+        servers = json.loads(ended.stdout)["servers"]
+        assert {tuple(name.split(":")): own["capacity"] for name, own in servers.items()} == {
+            (site, str(server)): room for (site, server), room in capacities.items()
+        }
+        assert all(own["planned"] <= own["capacity"] for own in servers.values())
+        assert ("keeps a part of each capacity back" in ended.stderr) is (not more)
 
 
 def test_the_second_steer_of_a_proxy_is_refused(hsp: Hsp, two: Path, into: Path, front: Front) -> None:

@@ -10,7 +10,7 @@ from typing import Any, TypeVar
 import click
 
 from hsp.base.ends import SHORTAGE, ended
-from hsp.base.numbers import listed, some
+from hsp.base.numbers import listed, percent_exactly, some
 from hsp.base.paths import path_in, shell_word
 from hsp.base.programs import Programs
 from hsp.base.text import say, visible
@@ -75,4 +75,5 @@ def sound(
 def refuse_shortage(folder: str, service: Service) -> None:
     """Ends where not all queries of a folder can be served."""
     if not service.certificate.is_plan:
-        ended(SHORTAGE, f"not all queries can be served, and there is no plan: hsp plan {shell_word(folder)}")
+        less = f" --reserve {percent_exactly(service.reserve).removesuffix('%')}" if service.reserve else ""
+        ended(SHORTAGE, f"not all queries can be served, and there is no plan: hsp plan {shell_word(folder)}{less}")

@@ -5,6 +5,7 @@ from __future__ import annotations
 import os
 import re
 from dataclasses import dataclass
+from fractions import Fraction
 from typing import Any
 
 import click
@@ -24,6 +25,7 @@ from hsp.plans.service import Service
 from hsp.proxy.config import CONFIG, LONGEST_SOCKET, SOCKET, Frame, files_of, quoted, refuse_others
 from hsp.proxy.kinds import shares_of
 from hsp.proxy.networks import Map, map_of
+from hsp.scenarios.reserve import RESERVE, forgotten, reserved
 
 LISTEN, WATCH = "127.0.0.1:8080", "127.0.0.1:8405"
 
@@ -92,9 +94,9 @@ def frame_of(words: Words, said: Proxied) -> Frame:
     return Frame(said.listen, words.watch, socket, certificate, authority, trusted, said.check, words.is_proxy)
 
 
-def checked(folder: str, programs: Programs, given: dict[str, str | None]) -> Service:
-    """A folder with its plan, which hsplan has checked. Ends with status 3 where the plan is a shortage."""
-    service = sound(folder, programs, given)
+def checked(folder: str, programs: Programs, given: dict[str, str | None], part: Fraction) -> Service:
+    """A folder with its plan less a reserve, which hsplan has checked. Ends with status 3 where it is a shortage."""
+    service = reserved(sound(folder, programs, given), part, programs)
     if not service.sites:
         raise Unfit(f"{service.inputs.settings}: no site, so nobody can answer")
     refuse_shortage(folder, service)
@@ -137,7 +139,8 @@ def _answers(service: Service) -> str:
 @click.option("--watch", metavar="ADDRESS", default=WATCH, show_default=True, help="of statistics and /metrics")
 @click.option("--socket", metavar="FILE", help=f"of HAProxy's runtime, in place of PROXY/{SOCKET}")
 @click.option("--proxy", "is_proxy", is_flag=True, help="fetch answers from the servers, in place of redirects")
-def haproxy(folder: str, **given: Any) -> None:
+@RESERVE
+def haproxy(folder: str, reserve: Fraction, **given: Any) -> None:
     """Writes files by which HAProxy answers by the plan.
 
     The plan is made and checked anew. HAProxy (2.6 or later) redirects each query to the server that the plan names
@@ -151,7 +154,7 @@ def haproxy(folder: str, **given: Any) -> None:
     frame = frame_of(words, said)
     programs.hold([said.regions])
     networks = map_of(said.regions, said.elsewhere, programs)
-    service = checked(folder, programs, given)
+    service = checked(folder, programs, given, reserve)
     targets = targets_of(service, said.urls, programs)
     contents = files_of(service, targets, networks.lines, frame)
     refuse_clashes(inputs, [path_in(words.into, name) for name in contents])
@@ -161,13 +164,15 @@ def haproxy(folder: str, **given: Any) -> None:
         refuse_others(words.into, contents)
         replace_all({path_in(words.into, name): octets for name, octets in contents.items()})
     is_doctored = PROXY in titles_of(folder)  # then the doctor has named servers of one URL
-    for line in warnings(service, networks, [] if is_doctored else twins(targets)):
+    lines = [*warnings(service, networks, [] if is_doctored else twins(targets)), forgotten(service, programs)]
+    for line in filter(None, lines):
         say(f"hsp: {line}", err=True)
     config = path_in(words.into, CONFIG)
     sizes = [
         _answers(service),
         some(len(targets), "server"),
         some(networks.number, "network"),
+        *filter(None, [service.kept_back]),
     ]
     say(f"{config}  {', '.join(sizes)}; check yes")
     say(f"next: haproxy -c -f {shell_word(config)}")

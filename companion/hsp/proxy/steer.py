@@ -10,6 +10,7 @@ import signal
 import time
 from collections.abc import Callable, Collection, Iterable, Iterator
 from dataclasses import dataclass, field
+from fractions import Fraction
 from typing import Any
 
 import click
@@ -28,8 +29,9 @@ from hsp.proxy.proxies import Proxies
 from hsp.proxy.standing import STATE, line_of, metrics_text, state_in, table_lines
 from hsp.proxy.steering import FAULTS, Steering
 from hsp.proxy.watched import Watched
+from hsp.scenarios.reserve import RESERVE, forgotten, reserved
 
-LOCK = "steer.lock"
+LOCK, NOTHING = "steer.lock", Fraction(0)
 # Why figures need a regular file.
 FIGURES = "hsp steer writes its figures there anew, time and again"
 # HAProxy is asked at least once in so many seconds whether a server is lost or has returned.
@@ -61,11 +63,14 @@ def _text(fault: BaseException) -> str:
     return fault.message if isinstance(fault, Unfit) else str(fault)
 
 
-def read_anew(folder: str, given: dict[str, str | None], programs: Programs) -> Service:
+def read_anew(folder: str, given: dict[str, str | None], programs: Programs, part: Fraction = NOTHING) -> Service:
     """A folder that is read anew. hsplan's line says what is wrong with it."""
     for path in read_in(folder, given):
         refuse_no_file(path, "hsp steer reads its files anew")
-    service = read_service(folder, programs, given)
+    return _with_sites(reserved(read_service(folder, programs, given), part, programs))
+
+
+def _with_sites(service: Service) -> Service:
     if not service.sites:
         raise Unfit(f"{service.inputs.settings}: no site, so nobody can answer")
     return service
@@ -81,6 +86,7 @@ class _Loop:
     every: float
     metrics: str | None
     watched: Watched
+    reserve: Fraction = NOTHING
     # What was said last of faults of each kind, and of each proxy; whether there is a shortage; whether SIGHUP came.
     _said: dict[str, str] = field(default_factory=dict)
     _lost: dict[str, str] = field(default_factory=dict)
@@ -112,7 +118,7 @@ class _Loop:
         self.watched.are_read()
         programs = Programs()
         try:
-            self.steering.take(read_anew(self.folder, self.given, programs))
+            self.steering.take(read_anew(self.folder, self.given, programs, self.reserve))
             self._refused = ""
         except FAULTS as fault:
             doctor = f" (hsp doctor {shell_word(self.folder)})" if isinstance(fault, Refused) else ""
@@ -219,7 +225,8 @@ def _show(folders: Collection[str]) -> None:
 
 def beside_status(run: Run) -> Run:
     """Refuses what is of plans where only loads are printed."""
-    for option in ("--once", "--every", "--period", "--metrics", *(f"--{role}" for role in (*NAMES, "values"))):
+    own = ("--once", "--every", "--period", "--metrics", "--reserve")
+    for option in (*own, *(f"--{role}" for role in (*NAMES, "values"))):
         run = idle(option, "--status", why="nothing is planned")(run)
     return run
 
@@ -254,6 +261,7 @@ def beside_status(run: Run) -> Run:
 @click.option("--metrics", metavar="FILE", help="figures for Prometheus' textfile collector")
 @click.option("--once", is_flag=True, help="one plan, and the end")
 @click.option("--status", is_flag=True, help="only prints the loads of now against plan and capacity")
+@RESERVE
 @idle("--every", "--once", why="there is one plan")
 @beside_status
 def steer(folder: str, folders: tuple[str, ...], every: float, period: float, **given: Any) -> None:
@@ -263,7 +271,7 @@ def steer(folder: str, folders: tuple[str, ...], every: float, period: float, **
     swapped. If this command ends, HAProxy goes on by its last map. Of several proxies the counts are added up, and
     all have one plan.
     """
-    metrics, is_once, is_status = (given.pop(key) for key in ("metrics", "once", "status"))
+    metrics, is_once, is_status, reserve = (given.pop(key) for key in ("metrics", "once", "status", "reserve"))
     if is_status:
         _show(folders)
         return
@@ -272,10 +280,10 @@ def steer(folder: str, folders: tuple[str, ...], every: float, period: float, **
     _files(folder, folders, given, metrics)
     with _alone(folders), contextlib.closing(Programs()) as programs:
         watched = Watched(read_in(folder, given))
-        service = sound(folder, programs, given)
-        if not service.sites:
-            raise Unfit(f"{service.inputs.settings}: no site, so nobody can answer")
-        loop = _Loop(Steering(folders, service, period), folder, given, every, metrics, watched)
+        service = _with_sites(reserved(sound(folder, programs, given), reserve, programs))
+        if line := forgotten(service, programs):
+            say(f"hsp: {line}", err=True)
+        loop = _Loop(Steering(folders, service, period), folder, given, every, metrics, watched, reserve)
         if is_once:
             loop.step()
             loop.measure()

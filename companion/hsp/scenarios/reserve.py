@@ -2,6 +2,7 @@
 
 from __future__ import annotations
 
+import os
 import re
 from dataclasses import replace
 from fractions import Fraction
@@ -9,10 +10,13 @@ from typing import Any
 
 import click
 
+from hsp.base.paths import path_in
 from hsp.base.programs import Programs
 from hsp.base.units import hosts_text, settings_text
+from hsp.plans.answering import less_reserve
 from hsp.plans.plans import capacity_file
 from hsp.plans.service import Service
+from hsp.scenarios.in_force import PLAN
 
 
 NUMBER = re.compile(r"[0-9]{1,3}(\.[0-9]{1,9})?")
@@ -60,4 +64,15 @@ def reserved(service: Service, part: Fraction, programs: Programs) -> Service:
     )
 
 
-__all__ = ["RESERVE", "Percent", "reserved"]
+def forgotten(service: Service, programs: Programs) -> str:
+    """A line where the folder's plan keeps a part of each capacity back, and this plan doesn't."""
+    path = path_in(service.folder, PLAN)
+    if service.reserve or not os.path.isfile(path):
+        return ""
+    less = less_reserve(path, service.inputs)
+    if not less or programs.verdict(less, path) != "yes" or programs.verdict(service.inputs, path) == "yes":
+        return ""
+    return f"{path} keeps a part of each capacity back, and this plan doesn't: give --reserve, as hsp plan had it"
+
+
+__all__ = ["RESERVE", "Percent", "forgotten", "reserved"]
