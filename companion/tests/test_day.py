@@ -7,6 +7,7 @@ import io
 import os
 import random
 import re
+import shutil
 import subprocess
 from fractions import Fraction
 from pathlib import Path
@@ -460,3 +461,24 @@ def test_an_hour_whose_demand_is_no_file_is_refused(hsp: Hsp, tmp_path: Path, ki
     said = hsp("day", str(folder), status=1).stderr
     assert said == f"hsp: {demand}: no regular file; the demand of an hour is read more than once\n"
     assert not (folder / "h00/plan.txt").exists()
+
+
+def test_hours_that_lack_a_plan_are_named_where_plans_are_kept(hsp: Hsp, tmp_path: Path) -> None:
+    """Those without a demand, and those that are short."""
+    folder = drawn_day(random.Random(11), tmp_path / "it", 7)
+    kept = [line for line in hsp("day", str(folder)).stdout.splitlines() if line.startswith("kept")]
+    assert kept[0].startswith("kept  7 plans beside the demands of h00 to h06, ")
+    shutil.rmtree(folder / "h02")
+    (folder / "h06/demand.csv").unlink()
+    for hour in ("h00", "h04"):
+        text = (folder / hour / "demand.csv").read_text()
+        (folder / hour / "demand.csv").write_text(re.sub(r",[0-9]+$", ",999", text, flags=re.M))
+    kept = [line for line in hsp("day", str(folder), status=3).stdout.splitlines() if line.startswith("kept")]
+    assert kept[0].startswith("kept  3 plans beside the demands of h01 to h05 but h02 and h04, ")
+    for hour in ("h01", "h03"):
+        shutil.rmtree(folder / hour)
+    kept = [line for line in hsp("day", str(folder), status=3).stdout.splitlines() if line.startswith("kept")]
+    assert kept[0].startswith("kept  1 plan beside the demand of h05, ")
+    shutil.rmtree(folder / "h05")
+    kept = [line for line in hsp("day", str(folder), status=3).stdout.splitlines() if line.startswith("kept")]
+    assert kept == [f"kept  0 plans; page {folder}/day.html"]

@@ -208,9 +208,10 @@ def _sizes(found: Day) -> str:
 
 def _kept_line(found: Day, folder: str, page: str) -> str:
     plans = sum(plan.is_plan for plan in found.plans)
-    first, last = found.plans[0].hour.name, found.plans[-1].hour.name
+    demands = "demand" if plans == 1 else "demands"
+    beside = f" beside the {demands} of {day_lines.planned_hours(found)}" if plans else ""
     blocks = f", those of blocks in {path_in(folder, BLOCKS)}" if found.blocks else ""
-    return f"kept  {some(plans, 'plan')} beside the demands of {first} to {last}{blocks}; page {page}"
+    return f"kept  {some(plans, 'plan')}{beside}{blocks}; page {page}"
 
 
 def _save(found: Day, folder: str, page: str, programs: Judged) -> None:

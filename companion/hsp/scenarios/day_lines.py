@@ -3,7 +3,7 @@
 from __future__ import annotations
 
 from collections import Counter
-from collections.abc import Iterator, Sequence
+from collections.abc import Collection, Iterator, Sequence
 from dataclasses import dataclass
 from fractions import Fraction
 
@@ -117,8 +117,23 @@ def verdicts(day: Day) -> Iterator[str]:
 def _absent(day: Day) -> list[str]:
     """The hours of the day, or of the week, that have no demand."""
     there = {plan.hour.name for plan in day.plans}
-    own = next(cycle for cycle in CYCLES.values() if there <= set(cycle.names))
-    return [label_of(name) for name in own.names if name not in there]
+    return [label_of(name) for name in _cycle(there) if name not in there]
+
+
+def _cycle(names: Collection[str]) -> list[str]:
+    """The names of all hours of the day, or of the week, of which some are."""
+    return next(cycle.names for cycle in CYCLES.values() if set(names) <= set(cycle.names))
+
+
+def planned_hours(day: Day) -> str:
+    """The folders of the hours that have a plan: from the first to the last, and those between that have none."""
+    there = [plan.hour.name for plan in day.plans if plan.is_plan]
+    if len(there) < 2:
+        return "".join(there)
+    names = _cycle(there)
+    between = names[names.index(there[0]) : names.index(there[-1])]
+    lacking = [name for name in between if name not in there]
+    return f"{there[0]} to {there[-1]}" + (f" but {listed(lacking, NAMED)}" if lacking else "")
 
 
 def _blocks(day: Day) -> str:
@@ -132,4 +147,4 @@ def _blocks(day: Day) -> str:
     return f"block {serve}: {names}; {above}; fewer blocks of hours in a row don't serve them"
 
 
-__all__ = ["Day", "lines", "verdicts"]
+__all__ = ["Day", "lines", "planned_hours", "verdicts"]
