@@ -13,6 +13,7 @@ import click
 import pytest
 
 from hsp.base.groups import Group
+from hsp.base.options import PathName
 from hsp.cli import main
 from hsp.fleet import answers
 
@@ -142,6 +143,41 @@ def test_an_option_that_does_nothing_is_refused(
     ended = hsp(*command.split(), *COUNTING.get(command, []), *shlex.split(words), status=2)
     assert ended.stderr.splitlines()[-1].startswith(f"Error: {line}") and not ended.stdout
     assert sorted(os.listdir(folder)) == sorted(os.listdir(TOP / "examples/bring-in")), "nothing is written"
+
+
+PATHS = [(name, it) for name, command in commands(main) for it in command.params if isinstance(it.type, click.Path)]
+# What else a command needs before it looks at its options.
+NEEDED = {
+    "demand": {"--regions": "r", "logs": "a"},
+    "fleet demand": {"--regions": "r", "logs": "a"},
+    "fleet dispatch": {"--fronts": "1", "folder": ".", "logs": "a"},
+    "export haproxy": {"--into": "p"},
+    "steer": {"--into": "p"},
+    "where": {"folder": ".", "region": "a", "handle": "b"},
+    "sites": {"paths": "a"},
+    "new": {"folder": "a"},
+}
+
+
+def test_each_option_of_a_file_is_a_path() -> None:
+    """A file or a folder stands behind its sign, and is no longer any word."""
+    signs = {"FILE", "FOLDER", "DIR", "OLD", "PROXY", "[DIR]", "LOG..", "FILE..", "[FRONT[@HOST]=]LOG.."}
+    for name, command in commands(main):
+        for it in command.params:
+            if it.metavar in signs:
+                assert isinstance(it.type, PathName), f"{name} {it.name}"
+    assert all(isinstance(it.type, PathName) for _, it in PATHS) and len(PATHS) > 80
+
+
+@pytest.mark.parametrize("name, option", PATHS, ids=[f"{name} {it.opts[0]}" for name, it in PATHS])
+def test_an_empty_path_is_refused(hsp: Hsp, name: str, option: click.Parameter) -> None:
+    """It isn't taken for an option that isn't given, and no file is written or read."""
+    words: list[str] = []
+    for key, value in {**NEEDED.get(name, {}), option.opts[0]: ""}.items():
+        words += [key, value] if key.startswith("-") else [value]
+    said = hsp(*name.split(), *words, status=2).stderr.splitlines()[-1]
+    assert said.startswith("Error: Invalid value for ") and said.endswith(": '' is no path"), said
+    assert option.opts[0] in said or (option.metavar or "") in said
 
 
 def test_a_new_service_has_sites_that_answer_both_ways(tmp_path: Path) -> None:

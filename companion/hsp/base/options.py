@@ -1,4 +1,7 @@
-"""Options that do nothing beside others, or without them. A command refuses these in one line, with status 2."""
+"""Options that are paths, and options that do nothing beside others or without them.
+
+A command refuses an empty path, and what does nothing, in one line, with status 2.
+"""
 
 from __future__ import annotations
 
@@ -12,6 +15,19 @@ from click.core import ParameterSource
 Run = TypeVar("Run", bound=Callable[..., Any])
 # Why an option does nothing where a table or JSON is printed.
 LINES = "it is of the lines, and none are printed"
+
+
+class PathName(click.Path):
+    """A path of a file or a folder. An empty one is refused: it isn't an option that isn't given."""
+
+    def convert(self, value: Any, param: click.Parameter | None, context: click.Context | None) -> Any:
+        if not value:
+            self.fail("'' is no path", param, context)
+        return super().convert(value, param, context)
+
+
+# A file that the command opens itself, and says why where it can't.
+ANY_FILE = PathName(readable=False)
 
 
 def given() -> set[str]:
@@ -58,4 +74,4 @@ def apart(option: str, other: str, why: str) -> Callable[[Run], Run]:
     return _before(lambda there: line if there.issuperset((option, other)) else "")
 
 
-__all__ = ["LINES", "Run", "apart", "given", "idle", "is_word", "needs"]
+__all__ = ["ANY_FILE", "LINES", "PathName", "Run", "apart", "given", "idle", "is_word", "needs"]

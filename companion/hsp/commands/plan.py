@@ -16,7 +16,7 @@ import click
 from hsp.base.ends import SHORTAGE
 from hsp.base.files import locked, refuse_clashes, replace_all
 from hsp.base.numbers import listed
-from hsp.base.options import LINES, apart, idle
+from hsp.base.options import LINES, PathName, apart, idle
 from hsp.base.paths import path_in
 from hsp.base.programs import Programs
 from hsp.base.text import colored, give, say
@@ -170,7 +170,7 @@ def keep(service: Service, programs: Programs, path: str, near: Near | None) -> 
 @click.option(
     "--near",
     metavar="OLD",
-    type=click.Path(),
+    type=PathName(),
     help="of the cheapest plans one that moves the fewest queries from this one",
 )
 @click.option("--more", is_flag=True, help="how far the demand can grow, the worst loss, and what was moved")

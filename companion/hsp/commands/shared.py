@@ -7,15 +7,14 @@ from collections.abc import Callable
 from contextlib import closing
 from dataclasses import replace
 
-import click
-
 from hsp.base.files import replace_all
+from hsp.base.options import PathName
 from hsp.base.text import show_progress
 from hsp.plans.service import Service
 from hsp.scenarios.ahead import Ahead, ahead_of, moved_since
 from hsp.scenarios.judged import Judged
 
-OUTPUT = click.Path(dir_okay=False, readable=False)
+OUTPUT = PathName(dir_okay=False, readable=False)
 
 
 def write(path: str, text: str) -> None:

@@ -13,6 +13,7 @@ import click
 from hsp.base.ends import SHORTAGE
 from hsp.base.files import refuse_clashes
 from hsp.base.numbers import some
+from hsp.base.options import PathName
 from hsp.base.paths import path_in
 from hsp.base.programs import Programs
 from hsp.base.text import say
@@ -88,7 +89,7 @@ def view_of(service: Service, programs: Programs, before: str | None) -> View:
 @click.option(
     "--before",
     metavar="DIR",
-    type=click.Path(exists=True, file_okay=False),
+    type=PathName(exists=True, file_okay=False),
     help="the plan of another folder beside it",
 )
 @RESERVE

@@ -11,6 +11,7 @@ import click
 
 from hsp.base.ends import SHORTAGE, ended
 from hsp.base.numbers import listed, percent_exactly, some
+from hsp.base.options import ANY_FILE, PathName
 from hsp.base.paths import path_in, shell_word
 from hsp.base.programs import Programs
 from hsp.base.text import say, visible
@@ -24,7 +25,7 @@ from hsp.plans.service import NAMES, VALUES, Service
 Command = TypeVar("Command", bound=Callable[..., Any])
 
 
-class Folder(click.Path):
+class Folder(PathName):
     """A folder of a service, which is there."""
 
     def __init__(self) -> None:
@@ -40,7 +41,7 @@ def with_files(command: Command) -> Command:
     """Adds the folder, and the options for other files."""
     for role in ("values", "capacity", "costs", "demand", "settings"):
         words = "the value list that the settings refer to" if role == "values" else f"in place of DIR's {role}"
-        command = click.option(f"--{role}", metavar="FILE", help=words)(command)
+        command = click.option(f"--{role}", metavar="FILE", type=ANY_FILE, help=words)(command)
     return click.argument("folder", metavar="[DIR]", default=".", type=Folder())(command)
 
 

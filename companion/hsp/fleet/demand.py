@@ -11,6 +11,7 @@ import click
 
 from hsp.base.bounds import whole
 from hsp.base.files import locked, together
+from hsp.base.options import ANY_FILE
 from hsp.base.programs import Inputs, Programs
 from hsp.base.text import say
 from hsp.base.unfit import Unfit
@@ -111,10 +112,12 @@ def _span(given: dict[str, Any]) -> Span:
 
 
 @click.command()
-@click.argument("logs", metavar="LOG..", nargs=-1, required=True)
-@click.option("--regions", metavar="FILE", required=True, help="a table network,region, or a MaxMind database")
+@click.argument("logs", metavar="LOG..", nargs=-1, required=True, type=ANY_FILE)
+@click.option(
+    "--regions", metavar="FILE", type=ANY_FILE, required=True, help="a table network,region, or a MaxMind database"
+)
 @click.option("--into", metavar="DIR", type=FOLDER, help="the folder whose demand.csv is written")
-@click.option("-o", "--output", metavar="FILE", help="the table, in place of DIR/demand.csv")
+@click.option("-o", "--output", metavar="FILE", type=ANY_FILE, help="the table, in place of DIR/demand.csv")
 @click.option("--keep", metavar="SUFFIX", help="also the queries of each LOG, in LOG with this suffix")
 @with_forms
 @with_cluster

@@ -16,6 +16,7 @@ import click
 from hsp.base.files import refuse_clashes
 from hsp.base.grammar import GREATEST_UNIT, MOST_FRONTS
 from hsp.base.numbers import listed, some
+from hsp.base.options import ANY_FILE
 from hsp.base.paths import path_in, shell_word
 from hsp.base.programs import Inputs, Missing, Programs
 from hsp.base.text import say
@@ -179,11 +180,11 @@ def by_prices(given: dict[str, Any]) -> None:
 
 @click.command()
 @click.argument("folder", metavar="DIR", type=FOLDER)
-@click.argument("logs", metavar="[FRONT[@HOST]=]LOG..", nargs=-1, required=True)
+@click.argument("logs", metavar="[FRONT[@HOST]=]LOG..", nargs=-1, required=True, type=ANY_FILE)
 @click.option(
     "--fronts", type=click.IntRange(1, MOST_FRONTS), required=True, metavar="N", help="how many fronts the plan has"
 )
-@click.option("--plan", metavar="FILE", help="the certificate, in place of DIR/plan.txt")
+@click.option("--plan", metavar="FILE", type=ANY_FILE, help="the certificate, in place of DIR/plan.txt")
 @click.option("--any-handle", is_flag=True, help="answer by hsplan-stream: any handle, and logs of any length")
 @click.option(
     "--unit",

@@ -11,6 +11,7 @@ import click
 
 from hsp.base.ends import BROKEN, ended
 from hsp.base.numbers import some
+from hsp.base.options import ANY_FILE
 from hsp.base.signals import STOPPED, deaf, stopping
 from hsp.base.text import say, show_progress
 from hsp.fleet.engine import Engine, Place, Unfinished
@@ -22,9 +23,14 @@ Targets = list[tuple[list[str], str | None]]
 OPTIONS = [
     click.option("--workers", type=click.IntRange(1, 256), metavar="N", help="of this machine; one a processor"),
     click.option("--scheduler", metavar="ADDRESS", help="tcp://HOST:PORT or tls://HOST:PORT that runs already"),
-    click.option("--tls-ca", metavar="FILE", help="the certificate of the authority that a tls scheduler trusts"),
-    click.option("--tls-cert", metavar="FILE", help="this client's certificate"),
-    click.option("--tls-key", metavar="FILE", help="its key"),
+    click.option(
+        "--tls-ca",
+        metavar="FILE",
+        type=ANY_FILE,
+        help="the certificate of the authority that a tls scheduler trusts",
+    ),
+    click.option("--tls-cert", metavar="FILE", type=ANY_FILE, help="this client's certificate"),
+    click.option("--tls-key", metavar="FILE", type=ANY_FILE, help="its key"),
     click.option("--installed", is_flag=True, help="workers use the programs in their PATH, if these are the same"),
     click.option(
         "--patience", type=click.FloatRange(1), default=60, show_default=True, help="seconds to wait for a worker"

@@ -16,7 +16,7 @@ from hsp.base.bounds import whole
 from hsp.base.files import Outputs, create, locked, refuse_clashes, replace_all, together
 from hsp.base.grammar import GREATEST_CAPACITY, GREATEST_UNIT, LOG_HEAD
 from hsp.base.numbers import listed, some
-from hsp.base.options import apart, idle
+from hsp.base.options import ANY_FILE, PathName, apart, idle
 from hsp.base.options import given as words_given
 from hsp.base.paths import path_in, shell_word
 from hsp.base.programs import Inputs, Programs
@@ -41,13 +41,13 @@ from hsp.intake.times import FIRST, LAST, Span, iso_seconds
 from hsp.plans.marks import KINDS, TITLES, Mark, marked
 from hsp.plans.service import NAMES, VALUES
 
-FOLDER = click.Path(exists=True, file_okay=False)
-FILE = click.Path(exists=True, dir_okay=False)
+FOLDER = PathName(exists=True, file_okay=False)
+FILE = PathName(exists=True, dir_okay=False)
 Command = TypeVar("Command", bound=Callable[..., Any])
 
 
 @click.command()
-@click.argument("folder", metavar="DIR", type=click.Path(file_okay=False))
+@click.argument("folder", metavar="DIR", type=PathName(file_okay=False))
 @click.option("--example", is_flag=True, help="a small service that plans at once")
 def new(folder: str, example: bool) -> None:
     """Writes the files of a new service, which say what goes into them.
@@ -95,7 +95,7 @@ def gathered(paths: tuple[str, ...], names: tuple[str, ...], files: Files) -> li
 
 
 @click.command()
-@click.argument("paths", metavar="FILE..", nargs=-1, required=True, callback=once)
+@click.argument("paths", metavar="FILE..", nargs=-1, required=True, type=ANY_FILE, callback=once)
 @click.option("--into", metavar="DIR", type=FOLDER, help="the folder that they are added to")
 @click.option("--name", "names", metavar="NAME", multiple=True, help="of the first site, the second, and so on")
 @click.option(
@@ -457,13 +457,15 @@ def reading_of(logs: tuple[str, ...], regions: str, given: dict[str, Any], progr
     metavar="LOG..",
     nargs=-1,
     required=True,
-    type=click.Path(dir_okay=False, allow_dash=True),
+    type=PathName(dir_okay=False, allow_dash=True),
     callback=once,
 )
-@click.option("--regions", metavar="FILE", required=True, help="a table network,region, or a MaxMind database")
+@click.option(
+    "--regions", metavar="FILE", type=ANY_FILE, required=True, help="a table network,region, or a MaxMind database"
+)
 @click.option("--into", metavar="DIR", type=FOLDER, help="the folder whose demand.csv is written")
-@click.option("-o", "--output", metavar="FILE", help="the table, in place of DIR/demand.csv")
-@click.option("--log", "kept", metavar="FILE", help="also the queries, as a log for hsplan dispatch")
+@click.option("-o", "--output", metavar="FILE", type=ANY_FILE, help="the table, in place of DIR/demand.csv")
+@click.option("--log", "kept", metavar="FILE", type=ANY_FILE, help="also the queries, as a log for hsplan dispatch")
 @click.option("--jobs", type=click.IntRange(1, MOST_JOBS), metavar="N", help=JOBS)
 @with_hours
 def demand(logs: tuple[str, ...], regions: str, into: str | None, kept: str | None, **given: Any) -> None:

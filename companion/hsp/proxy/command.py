@@ -13,6 +13,7 @@ import click
 from hsp.base.files import locked, refuse_clashes, replace_all
 from hsp.base.groups import Group
 from hsp.base.numbers import listed, some
+from hsp.base.options import ANY_FILE, PathName
 from hsp.base.paths import path_in, shell_word
 from hsp.base.programs import Missing, Prices, Programs
 from hsp.base.text import say
@@ -129,15 +130,15 @@ def _answers(service: Service) -> str:
 @export.command()
 @with_files
 @click.option(
-    "--into", metavar="PROXY", required=True, type=click.Path(file_okay=False), help="the folder that is written"
+    "--into", metavar="PROXY", required=True, type=PathName(file_okay=False), help="the folder that is written"
 )
-@click.option("--regions", metavar="FILE", help="a table network,region")
+@click.option("--regions", metavar="FILE", type=ANY_FILE, help="a table network,region")
 @click.option("--elsewhere", metavar="REGION", help="of clients that have no region")
 @click.option("--listen", metavar="ADDRESS", multiple=True, help=f"where clients ask; {LISTEN} if it isn't given")
-@click.option("--certificate", metavar="FILE", help="and its key, in PEM: clients ask by TLS")
+@click.option("--certificate", metavar="FILE", type=ANY_FILE, help="and its key, in PEM: clients ask by TLS")
 @click.option("--trusted", metavar="NETWORK", multiple=True, help="of proxies whose X-Forwarded-For counts")
 @click.option("--watch", metavar="ADDRESS", default=WATCH, show_default=True, help="of statistics and /metrics")
-@click.option("--socket", metavar="FILE", help=f"of HAProxy's runtime, in place of PROXY/{SOCKET}")
+@click.option("--socket", metavar="FILE", type=ANY_FILE, help=f"of HAProxy's runtime, in place of PROXY/{SOCKET}")
 @click.option("--proxy", "is_proxy", is_flag=True, help="fetch answers from the servers, in place of redirects")
 @RESERVE
 def haproxy(folder: str, reserve: Fraction, **given: Any) -> None:

@@ -17,7 +17,7 @@ import click
 
 from hsp.base.files import refuse_clashes, refuse_no_file, replace_all
 from hsp.base.numbers import queries_of
-from hsp.base.options import Run, idle
+from hsp.base.options import ANY_FILE, PathName, Run, idle
 from hsp.base.paths import path_in, shell_word
 from hsp.base.programs import Missing, Programs, Refused
 from hsp.base.text import give, say
@@ -239,7 +239,7 @@ def beside_status(run: Run) -> Run:
     metavar="PROXY",
     required=True,
     multiple=True,
-    type=click.Path(file_okay=False),
+    type=PathName(file_okay=False),
     help="the folder that hsp export wrote; several for several proxies",
 )
 @click.option(
@@ -258,7 +258,7 @@ def beside_status(run: Run) -> Run:
     callback=_number,
     help="seconds in which the demand comes, and for which capacities are",
 )
-@click.option("--metrics", metavar="FILE", help="figures for Prometheus' textfile collector")
+@click.option("--metrics", metavar="FILE", type=ANY_FILE, help="figures for Prometheus' textfile collector")
 @click.option("--once", is_flag=True, help="one plan, and the end")
 @click.option("--status", is_flag=True, help="only prints the loads of now against plan and capacity")
 @RESERVE

@@ -11,7 +11,7 @@ import click
 
 from hsp.base.ends import SHORTAGE
 from hsp.base.numbers import queries_of, some
-from hsp.base.options import LINES, apart, idle
+from hsp.base.options import LINES, PathName, apart, idle
 from hsp.base.paths import path_in, shell_word
 from hsp.base.programs import Missing
 from hsp.base.text import give, say
@@ -128,10 +128,10 @@ def _first(service: Service, programs: Judged, portions: Portions | None) -> Non
 @with_files
 @RESERVE
 @click.option(
-    "--near", metavar="OLD", type=click.Path(), help="a certificate or its folder, in place of DIR/plan.txt"
+    "--near", metavar="OLD", type=PathName(), help="a certificate or its folder, in place of DIR/plan.txt"
 )
 @click.option("--buy", is_flag=True, help="one purchase of room that serves every loss; needs python3-scipy")
-@click.option("--into", metavar="FOLDER", type=click.Path(file_okay=False), help="in place of DIR/fallback")
+@click.option("--into", metavar="FOLDER", type=PathName(file_okay=False), help="in place of DIR/fallback")
 @click.option("--no-save", is_flag=True, help="keep no fallback plan")
 @click.option("--unit", help="of costs, such as ms")
 @click.option("--all", "every", is_flag=True, help="all losses, and all servers of a purchase")

@@ -14,7 +14,7 @@ import click
 from hsp.base.ends import SHORTAGE
 from hsp.base.files import refuse_clashes, refuse_no_folder, replace_all
 from hsp.base.numbers import some
-from hsp.base.options import LINES, apart, idle
+from hsp.base.options import ANY_FILE, LINES, PathName, apart, idle
 from hsp.base.paths import path_in
 from hsp.base.text import give, say
 from hsp.base.unfit import Unfit
@@ -139,17 +139,17 @@ def _day(service: Service, hours: Sequence[Hour], is_near: bool, programs: Judge
 
 @click.command()
 @click.argument("folder", metavar="[DIR]", default=".", type=Folder())
-@click.option("--settings", metavar="FILE", help="in place of DIR's settings")
-@click.option("--costs", metavar="FILE", help="in place of DIR's costs")
-@click.option("--capacity", metavar="FILE", help="in place of DIR's capacity")
-@click.option("--values", metavar="FILE", help="the value list that the settings refer to")
+@click.option("--settings", metavar="FILE", type=ANY_FILE, help="in place of DIR's settings")
+@click.option("--costs", metavar="FILE", type=ANY_FILE, help="in place of DIR's costs")
+@click.option("--capacity", metavar="FILE", type=ANY_FILE, help="in place of DIR's capacity")
+@click.option("--values", metavar="FILE", type=ANY_FILE, help="the value list that the settings refer to")
 @click.option("--week", "is_week", is_flag=True, default=None, help="the hours of a week, where DIR has both")
 @RESERVE
 @click.option("--near", "is_near", is_flag=True, help="each plan moves the fewest queries from the hour before")
 @click.option("--unit", help="of costs, such as ms")
 @click.option("--all", "every", is_flag=True, help="all servers at which room has a price")
 @click.option(
-    "-o", "--output", metavar="FILE", type=click.Path(dir_okay=False), help="the page, in place of DIR/day.html"
+    "-o", "--output", metavar="FILE", type=PathName(dir_okay=False), help="the page, in place of DIR/day.html"
 )
 @click.option("--no-save", is_flag=True, help="keep no plan and no page")
 @click.option("--csv", "as_csv", is_flag=True, help="the hours, for other programs")
