@@ -299,11 +299,36 @@ def test_where_of_a_table_is_what_its_row_says(hsp: Hsp, example: Example) -> No
         "  reston 1  pays 84: cost 84; 98% of such queries",
     ]
     assert hsp("where", folder, "eu", "film", status=1).stdout == "film from eu  refused BadHandle NoSlash\n"
-    assert hsp("where", folder, "mars", "20.1/a", status=1).stdout == "20.1/a from mars  unknown\n"
+    why = f"  why  {folder}/costs.csv has no cost of mars at any site\n"
+    assert hsp("where", folder, "mars", "20.1/a", status=1).stdout == f"20.1/a from mars  unknown\n{why}"
     short = ("where", folder, "eu", "20.500.1234/film-5")
     capacity = Path(folder) / "capacity.csv"
     capacity.write_text(re.sub(r",[0-9]+\n", ",1\n", capacity.read_text()))
     assert "there is no plan: hsp plan" in hsp(*short, status=3).stderr
+
+
+def test_where_says_which_file_lacks_what(hsp: Hsp, example: Example) -> None:
+    folder = example("two-sites")
+    demand, costs = (folder / name for name in ("demand.csv", "costs.csv"))
+    demand.write_text("region,handle,count\nus,20.500.1234/film-5,3\nus,20.500.1234/film-6,0\n")
+    for region, handle, answer, why in [
+        ("US", "20.500.1234/film-5", "unknown", f"{costs} has no cost of US at any site; did you mean us?"),
+        ("asia", "20.500.1234/film-5", "unknown", f"{demand} has no row of asia"),
+        (
+            "us",
+            "20.500.1234/dataset-7",
+            "unknown",
+            f"{demand} has no row of us for this handle, nor for one with the same servers",
+        ),
+        ("us", "20.500.1234/film-6", "spent", f"{demand} counts 0 queries for it"),
+        ("us", "film", "refused BadHandle NoSlash", None),
+    ]:
+        lines = hsp("where", str(folder), region, handle, status=1).stdout.splitlines()
+        assert lines[0] == f"{handle} from {region}  {answer}"
+        assert [line for line in lines if line.startswith("  why")] == ([f"  why  {why}"] if why else [])
+        said = json.loads(hsp("where", str(folder), region, handle, "--json", status=1).stdout)
+        assert (said["answer"], said["why"]) == (answer, why)
+    assert json.loads(hsp("where", str(folder), "us", "20.500.1234/film-5", "--json").stdout)["why"] is None
 
 
 def test_a_changed_capacity_makes_a_plan_old(hsp: Hsp, wide: Path, tmp_path: Path) -> None:

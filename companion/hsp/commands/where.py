@@ -35,7 +35,7 @@ def where(folder: str, region: str, handle: str, as_json: bool) -> None:
     found = where_goes(service, programs, region, handle)
     programs.insist_held()
     if as_json:
-        give(json.dumps(where_json(found, region, handle), indent=2, ensure_ascii=False) + "\n")
+        give(json.dumps(where_json(service, found, region, handle), indent=2, ensure_ascii=False) + "\n")
     else:
         for line in where_lines(service, found, region, handle):
             say(line)

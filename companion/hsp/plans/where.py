@@ -7,11 +7,12 @@ from dataclasses import dataclass, replace
 
 from hsp.base.numbers import percent
 from hsp.base.programs import Prices, Programs
+from hsp.base.spelling import near
 from hsp.base.text import bold, colored, escaped
 from hsp.plans.flows import beside_of
 from hsp.plans.service import Row, Server, Service
 
-ASSIGNED, REFUSED = "assigned", "refused"
+ASSIGNED, REFUSED, SPENT, UNKNOWN = "assigned", "refused", "spent", "unknown"
 
 
 @dataclass(frozen=True)
@@ -89,10 +90,29 @@ def where(service: Service, programs: Programs, region: str, handle: str) -> Whe
     return Where(answer, sorted(choices, key=lambda choice: (choice.pays, choice.server.number)))
 
 
+def reason(service: Service, answer: str, region: str) -> str:
+    """Which file lacks what, where a query has no server for that; nothing where the answer says why."""
+    costs, demand = service.inputs.costs, service.inputs.demand
+    if answer == SPENT:
+        return f"{demand} counts 0 queries for it"
+    if answer != UNKNOWN:
+        return ""
+    known = dict.fromkeys(name for name, _ in service.costs)
+    if region not in known:
+        meant = near(region, known)
+        return f"{costs} has no cost of {region} at any site" + (f"; did you mean {meant}?" if meant else "")
+    if region not in service.regions:
+        return f"{demand} has no row of {region}"
+    return f"{demand} has no row of {region} for this handle, nor for one with the same servers"
+
+
 def lines(service: Service, found: Where, region: str, handle: str) -> Iterator[str]:
-    """The answer, and a line for each server that the handle may use."""
+    """The answer, why it names no server, and a line for each server that the handle may use."""
     goes = f"goes to {' or '.join(server.label for server in found.servers)}" if found.servers else found.answer
     yield f"{bold(escaped(handle))} from {escaped(region)}  {colored(goes, 'green' if found.servers else 'yellow')}"
+    why = reason(service, found.answer, region)
+    if why:
+        yield f"  why  {escaped(why)}"
     wide = max((len(choice.server.label) for choice in found.choices), default=0)
     unit = f" {service.titles.cost}" if service.titles.cost else ""
     whole = sum(choice.queries or 0 for choice in found.choices)
@@ -103,8 +123,8 @@ def lines(service: Service, found: Where, region: str, handle: str) -> Iterator[
         yield f"  {choice.server.label.ljust(wide)}  pays {choice.pays:,}{unit}: cost {choice.cost:,}{price}{part}"
 
 
-def json_of(found: Where, region: str, handle: str) -> dict[str, object]:
-    """The same for other programs."""
+def json_of(service: Service, found: Where, region: str, handle: str) -> dict[str, object]:
+    """The same for other programs. What needs no reason has null."""
     servers = [
         {
             "site": choice.server.site,
@@ -115,4 +135,5 @@ def json_of(found: Where, region: str, handle: str) -> dict[str, object]:
         }
         for choice in found.choices
     ]
-    return {"region": region, "handle": handle, "answer": found.answer, "servers": servers}
+    why = reason(service, found.answer, region) or None
+    return {"region": region, "handle": handle, "answer": found.answer, "why": why, "servers": servers}
