@@ -4,6 +4,7 @@ from __future__ import annotations
 
 import json
 import random
+import re
 from fractions import Fraction
 from pathlib import Path
 
@@ -200,3 +201,30 @@ def test_counts_near_their_greatest(hsp: Hsp, tmp_path: Path) -> None:
         "+20%  no room; the cost is then 960,000",
         "+50%  more than a demand can count",
     ]
+
+
+@pytest.mark.parametrize("said", [-1.0, 1e9])
+def test_growth_over_a_log_says_beforehand_what_it_does(
+    hsp: Hsp, example: Example, monkeypatch: pytest.MonkeyPatch, said: float
+) -> None:
+    """Where that takes long: what is read once more, how many plans follow, and how long both take. Of a table nothing is
+    said."""
+    folder = example("two-sites")
+    monkeypatch.setattr("hsp.scenarios.command.SAID", said)
+    monkeypatch.setattr("hsp.scenarios.judged.SAID", said)
+    assert "planned" not in hsp("grow", str(folder)).stderr and "made" not in hsp("grow", str(folder)).stderr
+    capacity = (folder / "capacity.csv").read_text()
+    (folder / "capacity.csv").write_text(re.sub(r",(\d+)$", r",\g<1>000", capacity, flags=re.M))
+    demand = (folder / "demand.csv").read_text()
+    (folder / "demand.csv").write_text(re.sub(r",(\d+)$", r",\g<1>0000", demand, count=3, flags=re.M))
+    words = ("grow", str(folder), "--percent", "10", "--percent", "20", "--percent", "10")
+    lines = [line for line in hsp(*words).stderr.splitlines() if "warning" not in line]
+    if said > 0:
+        assert lines == []
+    else:
+        of = "all demand, 3 regions and 2 purchases"
+        joined, planned = lines
+        assert re.fullmatch(
+            rf"hsp: 36 rows are joined by kinds, about \d+ seconds; then some 18 plans are made, of {of}", joined
+        )
+        assert re.fullmatch(r"hsp: 18 plans, about \d+ seconds on \d+ processors", planned)

@@ -17,13 +17,14 @@ from hsp.base.programs import Missing
 from hsp.base.text import give, say
 from hsp.base.unfit import Unfit
 from hsp.doctor.service_folder import sound, with_files
+from hsp.plans.joined import joined
 from hsp.plans.service import Service
 from hsp.plans.terminal import head
 from hsp.scenarios import grow_lines, survive_lines
 from hsp.scenarios.fallbacks import FOLDER, Fallbacks, csv_of
 from hsp.scenarios.growth import Growing, at_least, grown
 from hsp.scenarios.in_force import PLAN, files_beside, in_force
-from hsp.scenarios.judged import Judged, Progress, say_how_long, side_by_side, yes_line
+from hsp.scenarios.judged import SAID, Judged, Progress, lanes, say_how_long, side_by_side, yes_line
 from hsp.scenarios.losses import after, losses_of, survived
 from hsp.scenarios.nearest import Portions, TooMany, homes_of
 from hsp.scenarios.purchase import Purchases, solver
@@ -35,6 +36,8 @@ PERCENTS = (10, 20, 50)
 WORDS = ("reserve", "near", "buy", "into", "no_save", "unit", "every", "as_csv")
 # Above so many losses, it is said beforehand how long they take.
 MANY = 200
+# About so many plans each growth and each purchase takes.
+PLANS_EACH = 3
 
 
 def _asking(folder: str, programs: Judged, given: dict[str, str | None], unit: str | None) -> Service:
@@ -45,6 +48,20 @@ def _asking(folder: str, programs: Judged, given: dict[str, str | None], unit: s
     if not service.asked:
         raise Unfit(f"{service.inputs.demand}: nothing is asked for")
     return service
+
+
+def _beforehand(service: Service, programs: Judged, read: float, regions: int, purchases: int) -> None:
+    """Says what is done over a log that takes long, and about how long: by the seconds in which it was read and
+    planned, and then by those of a plan of its kinds."""
+    number = PLANS_EACH * (1 + regions + purchases)
+    if not service.log or number * read / lanes() <= SAID:
+        return
+    of = f"all demand, {some(regions, 'region')} and {some(purchases, 'purchase')}"
+    rows = f"{service.rows_words} are joined by kinds, about {max(1, round(read)):,} seconds"
+    say(f"hsp: {rows}; then some {number:,} plans are made, of {of}", err=True)
+    inputs, begun = joined(service, programs), time.monotonic()
+    programs.put_away(programs.plan(inputs)[1])
+    say_how_long(number, time.monotonic() - begun, "plans")
 
 
 @click.command()
@@ -68,9 +85,10 @@ def grow(folder: str, percents: tuple[int, ...], unit: str | None, as_json: bool
     All demand together, and each region by itself. Up to the first number a plan serves every demand of no greater
     counts. From the second on the named rows ask for more than their servers take. Between them rounding decides.
     """
-    programs = Judged()
+    programs, begun = Judged(), time.monotonic()
     service = _asking(folder, programs, given, unit)
     regions = len(service.regions)
+    _beforehand(service, programs, time.monotonic() - begun, regions, len(set(percents)))
     done = Progress(1 + regions + len(percents))
     growths = grown(service, programs, done)
     own = Growing(service, programs)
