@@ -10,6 +10,7 @@ import os
 import random
 import re
 import shutil
+from dataclasses import replace
 from fractions import Fraction
 from pathlib import Path
 
@@ -21,13 +22,14 @@ from hsp.base.grammar import HEADERS
 from hsp.base.programs import Programs
 from hsp.base.unfit import Unfit
 from hsp.fleet.dispatch import of_these_files
-from hsp.plans.plans import capacity_file
+from hsp.plans.plans import capacity_file, to_buy
 from hsp.plans.service import Service, inputs_in, read_service
 from hsp.scenarios.fallbacks import Fallbacks
 from hsp.scenarios.judged import Judged
 from hsp.scenarios.losses import HOST, SERVER, SITE, Loss, losses_of, survived, without
 from hsp.scenarios.nearest import Portions, homes_of
 from hsp.scenarios.purchase import Purchases
+from hsp.scenarios.reserve import reserved
 from lib import examples
 
 from conftest import Hsp
@@ -407,6 +409,21 @@ def test_a_purchase_serves_where_a_part_of_it_is_kept_back(hsp: Hsp, example: Ex
     bought_by(hsp("survive", str(folder), "--reserve", part, "--buy", "--no-save", status=3).stdout, folder)
     assert "8 fallback plans" in hsp("survive", str(folder), "--reserve", part).stdout
     assert "kept back too" not in hsp("survive", str(folder), "--buy").stdout
+
+
+@pytest.mark.parametrize("part", [Fraction(1, 50), Fraction(1, 3), Fraction(9, 10), Fraction(999, 1000)])
+def test_no_less_is_bought_so_that_as_much_remains(example: Example, part: Fraction) -> None:
+    """With one query less at any server less would remain there. Of a plan without a reserve all remains."""
+    programs, draw = Programs(), random.Random(7)
+    plain = read_service(str(example("two-sites")), programs, {})
+    plain = replace(plain, capacities={key: draw.randint(0, 3000) for key in plain.capacities})
+    service = reserved(plain, part, programs)
+    for _ in range(200):
+        bought = {server: draw.randint(1, 500) for server in service.servers}
+        assert to_buy(plain, bought) == bought
+        for server, more in to_buy(service, bought).items():
+            whole, wanted = plain.capacity(server), service.capacity(server) + bought[server]
+            assert int((whole + more) * (1 - part)) >= wanted > int((whole + more - 1) * (1 - part))
 
 
 @pytest.mark.parametrize("part", ["20", "33.3"])

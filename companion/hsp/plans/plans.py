@@ -313,8 +313,12 @@ def with_purchase(service: Service, programs: Programs, bought: dict[Server, int
 
 
 def to_buy(service: Service, bought: Mapping[Server, int]) -> dict[Server, int]:
-    """How much has to be bought so that so much of it remains after the part that is kept back."""
-    return {server: ceil(more / (1 - service.reserve)) for server, more in bought.items()}
+    """The least that has to be bought so that so much of it remains. Of a whole capacity a part is kept back, and the
+    rest is rounded down."""
+    if not service.reserve:
+        return dict(bought)
+    wanted = {server: (service.capacity(server) + more) / (1 - service.reserve) for server, more in bought.items()}
+    return {server: ceil(room) - service.given_capacities[server.site, server.id] for server, room in wanted.items()}
 
 
 def above(service: Service, loads: Iterable[int | Fraction]) -> tuple[int, int]:

@@ -97,9 +97,10 @@ class Service:
     places: dict[tuple[str, str], int] = field(repr=False)
     mark: Mark = Mark()
     log: Counted | None = None
-    # Which part of each capacity and limit is kept back, and the inputs without that.
+    # Which part of each capacity and limit is kept back, and the inputs and capacities without that.
     reserve: Fraction = Fraction(0)
     given: Inputs | None = None
+    given_capacities: dict[tuple[str, int], int] = field(default_factory=dict)
 
     @property
     def own_inputs(self) -> Inputs:

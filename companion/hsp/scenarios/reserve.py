@@ -55,6 +55,7 @@ def reserved(service: Service, part: Fraction, programs: Programs) -> Service:
     return replace(
         service,
         given=service.inputs,
+        given_capacities=service.capacities,
         inputs=inputs,
         settings=settings,
         capacities=capacities,
