@@ -332,3 +332,14 @@ def test_only_what_changed_is_named(hsp: Hsp, example: Example, tmp_path: Path) 
 def test_a_server_with_something_to_see_is_not_folded_away(full: bool, bought: int, before: int) -> None:
     view = ServerView(0, 1, "paris 1", 10, 10, before, bought, None, full)
     assert view.is_plain == (not full and bought == 0 and before == 10)
+
+
+def test_all_pages_have_one_head() -> None:
+    """What stands there, as which scripts and styles a page may have, is written once."""
+    texts = {path.name: path.read_text() for path in (TOP / "companion/hsp/templates").glob("*.html")}
+    assert [name for name, text in texts.items() if "<!doctype" in text] == ["head.html"]
+    assert [name for name, text in texts.items() if "Content-Security-Policy" in text] == ["head.html"]
+    assert sorted(name for name, text in texts.items() if 'from "head.html" import head' in text) == [
+        "day.html",
+        "page.html",
+    ]
