@@ -91,8 +91,6 @@ REFUSED = [
     ("plan", "--csv --more", "--more does nothing with --csv: the table has shares only"),
     ("plan", "--csv --all", f"--all does nothing with --csv: {LINES}"),
     ("plan", "--json --all", "--all does nothing with --json: JSON has all of them"),
-    ("plan", "--csv --unit ms", f"--unit does nothing with --csv: {LINES}"),
-    ("plan", "--json --unit ms", f"--unit does nothing with --json: {LINES}"),
     ("whatif", "--points 9", "--points needs --server"),
     ("whatif", "--from 1", "--from needs --server"),
     ("whatif", "--to 1", "--to needs --server"),
@@ -101,18 +99,11 @@ REFUSED = [
         "--server a:1 --step 10",
         "--step does nothing with --server: it is of more room at each full server",
     ),
-    ("grow", "--json --unit ms", f"--unit does nothing with --json: {LINES}"),
     ("survive", "--no-save --into F", "--into and --no-save don't go together: no fallback plan is kept"),
     ("survive", "--csv --buy", "--buy does nothing with --csv: the table has losses only"),
     ("survive", "--csv --all", "--all does nothing with --csv: the table has all losses"),
-    ("survive", "--csv --unit ms", f"--unit does nothing with --csv: {LINES}"),
     ("day", "--no-save -o F", "-o and --no-save don't go together: no page is kept"),
     ("day", "--csv --all", f"--all does nothing with --csv: {LINES}"),
-    (
-        "day",
-        "--csv --no-save --unit ms",
-        "--unit does nothing with --csv and --no-save: it is of the lines and of the page",
-    ),
     ("steer", "--into F --once --every 2", "--every does nothing with --once: there is one plan"),
     *(
         ("steer", f"--into F --status {words}", f"{words.split()[0]} does nothing with --status: nothing is planned")

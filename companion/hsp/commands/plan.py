@@ -184,8 +184,6 @@ def keep(service: Service, programs: Programs, path: str, near: Near | None) -> 
 @idle("--more", "--csv", why="the table has shares only")
 @idle("--all", "--csv", why=LINES)
 @idle("--all", "--json", why="JSON has all of them")
-@idle("--unit", "--csv", why=LINES)
-@idle("--unit", "--json", why=LINES)
 def plan(folder: str, **given: Any) -> None:
     """Plans, checks and shows the plan in some ten lines.
 

@@ -11,7 +11,7 @@ import click
 
 from hsp.base.ends import SHORTAGE
 from hsp.base.numbers import queries_of, some
-from hsp.base.options import LINES, PathName, apart, idle
+from hsp.base.options import PathName, apart, idle
 from hsp.base.paths import path_in, shell_word
 from hsp.base.programs import Missing
 from hsp.base.text import give, say
@@ -78,7 +78,6 @@ def _beforehand(service: Service, programs: Judged, read: float, regions: int, p
 )
 @click.option("--unit", help="of costs, such as ms")
 @click.option("--json", "as_json", is_flag=True, help="the same for other programs")
-@idle("--unit", "--json", why=LINES)
 def grow(folder: str, percents: tuple[int, ...], unit: str | None, as_json: bool, **given: str | None) -> None:
     """Shows how far the demand can grow before something is short.
 
@@ -157,7 +156,6 @@ def _first(service: Service, programs: Judged, portions: Portions | None) -> Non
 @apart("--into", "--no-save", "no fallback plan is kept")
 @idle("--buy", "--csv", why="the table has losses only")
 @idle("--all", "--csv", why="the table has all losses")
-@idle("--unit", "--csv", why=LINES)
 def survive(folder: str, **given: Any) -> None:
     """Plans for each site, server and machine that may be lost.
 

@@ -155,7 +155,6 @@ def _day(service: Service, hours: Sequence[Hour], is_near: bool, programs: Judge
 @click.option("--csv", "as_csv", is_flag=True, help="the hours, for other programs")
 @apart("-o", "--no-save", "no page is kept")
 @idle("--all", "--csv", why=LINES)
-@idle("--unit", "--csv", "--no-save", why="it is of the lines and of the page")
 def day(folder: str, **given: Any) -> None:
     """Plans each hour of a day or of a week.
 
