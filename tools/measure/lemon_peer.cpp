@@ -2,9 +2,10 @@
 // cost, each flow and each node's potential, and on standard error the seconds of the processor for making the graph
 // and solving it.
 //
-//     lemon_peer FILE
+//     lemon_peer FILE [block|list]
 //
-// The numbers: rows, servers, arcs; the demand of each row; the capacity of each server; then row, server and cost of
+// Arcs are searched by blocks, which is LEMON's own choice, or by an altering list, which is faster where capacity is
+// short. The numbers: rows, servers, arcs; the demand of each row; the capacity of each server; then row, server and cost of
 // each arc.
 #include <cstdio>
 #include <cstdlib>
@@ -116,6 +117,14 @@ struct Model {
     }
 };
 
+// How LEMON looks for the next arc, by its word.
+Simplex::PivotRule rule_of(const std::string& word)
+{
+    if (word != "block" && word != "list")
+        fail("name a rule: block or list");
+    return word == "block" ? Simplex::BLOCK_SEARCH : Simplex::ALTERING_LIST;
+}
+
 // Prints the plan of a solved network with its potentials.
 void print(const Simplex& simplex, const Model& model, const Network& network)
 {
@@ -133,15 +142,16 @@ void print(const Simplex& simplex, const Model& model, const Network& network)
 
 int main(int count, char** words)
 {
-    if (count != 2)
+    if (count < 2 || count > 3)
         fail("name a file");
+    const Simplex::PivotRule rule = rule_of(count == 3 ? words[2] : "block");
     const std::string octets = octets_of(words[1]);
     const Network network = read(Numbers(octets));
     const std::clock_t begun = std::clock();
     const Model model(network);
     Simplex simplex(model.graph);
     simplex.upperMap(model.capacities).costMap(model.costs).supplyMap(model.supplies);
-    const bool is_solved = simplex.run() == Simplex::OPTIMAL;
+    const bool is_solved = simplex.run(rule) == Simplex::OPTIMAL;
     std::fprintf(stderr, "%.4f\n", static_cast<double>(std::clock() - begun) / CLOCKS_PER_SEC);
     if (is_solved)
         print(simplex, model, network);

@@ -4,9 +4,9 @@
     tools/measure/peers.py [--turns N] [--program FILE] [FACTOR..]
     tools/measure/peers.py --parts [--turns N] [--program FILE] [FACTOR..]
 
-It measures processor seconds. Of hsplan the whole run counts: reading the files, hashing, solving, and printing the
-certificate. Of LEMON only making its graph and solving count: the network is given to it as numbers. Both costs have
-to be the same.
+It measures processor seconds of whole runs. hsplan reads its files, hashes, solves, and prints the certificate. LEMON
+reads the network as numbers, solves it, and prints flows and potentials. It does so by blocks, which is its own choice
+of a pivot rule, and by an altering list. Beside the faster of these hsplan has its factor. All costs have to be the same.
 
 The instances have 8,192 rows of 64 regions, 32 sites of 16 to 47 servers, 2,048 costs up to 1,000,000, and capacities
 that are the factor times the demand. The script needs a C++ compiler and LEMON (Debian's liblemon-dev).
@@ -35,6 +35,8 @@ from lib import instances, programs
 
 SITES, REGIONS, ROWS = 32, 64, 8192
 FACTORS = [2.0, 1.2, 1.05, 1.01]
+# LEMON's pivot rules, as lemon_peer.cpp names them. The first is LEMON's own choice.
+RULES = ("block", "list")
 
 
 def record(servers: int) -> str:
@@ -143,14 +145,18 @@ def run(words: list[str], path: str) -> tuple[float, float, str]:
         return seconds, memory, reported.read()
 
 
-def turn(folder: str, program: str, words: list[str], peer: list[str]) -> tuple[dict[str, float], str, str]:
+def turn(folder: str, program: str, words: list[str], peer: list[str]) -> tuple[dict[str, float], set[str]]:
     """What a turn took by kind, and the costs that hsplan and LEMON state."""
     own, other, verdict = (os.path.join(folder, name) for name in ("own.txt", "other.txt", "verdict.txt"))
-    plan, memory, _ = run([program, "plan", *words], own)
-    check, _, _ = run([program, "check", *words, "--plan", own], verdict)
-    whole, held, solving = run(peer, other)
-    took = {"plan": plan, "memory": memory, "check": check, "LEMON": whole, "held": held, "solving": float(solving)}
-    return took, cost_in(own), cost_in(other)
+    took, costs = {}, set()
+    took["plan"], took["memory"], _ = run([program, "plan", *words], own)
+    costs.add(cost_in(own))
+    for rule in RULES:
+        took[rule], took["held"], solving = run([*peer, rule], other)
+        took[f"{rule}, solving"] = float(solving)
+        costs.add(cost_in(other))
+    took["check"], _, _ = run([program, "check", *words, "--plan", own], verdict)
+    return took, costs
 
 
 class Text(NamedTuple):
@@ -210,20 +216,23 @@ def arguments() -> argparse.Namespace:
 
 def beside_lemon(folder: str, chosen: argparse.Namespace) -> int:
     """Prints a row for each factor. Returns 1 where hsplan and LEMON state other costs, and otherwise 0."""
-    heads = "Capacity over demand|Cost|`plan`|LEMON|`plan` over LEMON|LEMON, solving only|Memory of both|`check`"
-    print(f"| {heads.replace('|', ' | ')} |\n|{'---|' * 8}")
+    heads = "Capacity over demand|Cost|`plan`|LEMON, blocks|LEMON, list|`plan` over the faster|LEMON, solving only"
+    heads += "|Memory of `plan`, of LEMON|`check`"
+    print(f"| {heads.replace('|', ' | ')} |\n|{'---|' * 9}")
     peer = built_peer(folder)
     for factor in chosen.factors:
         instance = Instance(folder, factor)
         words = [peer, instance.network(chosen.program, folder)]
         turns = [turn(folder, chosen.program, instance.words, words) for _ in range(chosen.turns)]
-        if any(own != other for _, own, other in turns):
-            print(f"at factor {factor} the costs differ: {turns}", file=sys.stderr)
+        costs = set().union(*(stated for _, stated in turns))
+        if len(costs) > 1:
+            print(f"at factor {factor} the costs differ: {costs}", file=sys.stderr)
             return 1
-        mid = {kind: statistics.median(took[kind] for took, _, _ in turns) for kind in turns[0][0]}
+        mid = {kind: statistics.median(took[kind] for took, _ in turns) for kind in turns[0][0]}
         print(
-            f"| {factor:.2f} | {int(turns[0][1]):,} | {mid['plan']:.3f} | {mid['LEMON']:.3f} "
-            f"| {mid['plan'] / mid['LEMON']:.2f} | {mid['solving']:.3f} "
+            f"| {factor:.2f} | {int(costs.pop()):,} | {mid['plan']:.3f} | {mid['block']:.3f} | {mid['list']:.3f} "
+            f"| {mid['plan'] / min(mid[rule] for rule in RULES):.2f} "
+            f"| {', '.join(format(mid[f'{rule}, solving'], '.3f') for rule in RULES)} "
             f"| {mid['memory']:.1f}, {mid['held']:.1f} MB | {mid['check']:.3f} |",
             flush=True,
         )

@@ -7,9 +7,9 @@ Rows are of random regions and of handles that are all new. Each is put at a ran
 takes what is put there, times the case's factor. So there is a plan, and where the factor is near 1 it is hard to find.
 Costs are random numbers up to 1,000. Counts are 1 to 1,000, or of a heavy tail: one row in N has a count of N.
 
-Of hsplan-stream the whole run counts: reading the files, hashing, solving and printing the certificate, to which
-`check` has to say yes. Of LEMON only making its graph and solving count: the network is given to it as numbers. Both
-costs have to be the same. Seconds are those of a processor. The files of a case are kept where --folder names a folder.
+Whole runs count. hsplan-stream reads its files, hashes, solves and prints the certificate, to which `check` has to say
+yes. LEMON reads the network as numbers, solves it by each of two pivot rules, and prints flows and potentials. All costs
+have to be the same. Seconds are those of a processor. The files of a case are kept where --folder names a folder.
 """
 from __future__ import annotations
 
@@ -31,6 +31,8 @@ from lib.price_cases import service_of
 
 FILES = "--settings settings.toml --costs costs.csv --capacity capacity.csv --log log.csv"
 GREATEST_CAPACITY = 1_000_000_000
+# LEMON's pivot rules, as lemon_peer.cpp names them.
+RULES = ("block", "list")
 
 
 class Case(NamedTuple):
@@ -192,10 +194,13 @@ def measure(name: str, folder: str, program: str, lemon: str) -> bool:
     print(f"{name}: {seconds:.2f} s, {memory:.0f} MB, {classes:,} classes, {size:,} octets, {verdict}", flush=True)
     if not lemon:
         return verdict == "yes"
-    whole, held = run([lemon, network(drawn, folder)], folder, "other.txt")
-    costs = [cost_in(os.path.join(folder, own)) for own in ("own.prices", "other.txt")]
-    print(f"{name}: LEMON {whole:.2f} s, {held:.0f} MB, costs {costs[0]} and {costs[1]}", flush=True)
-    return verdict == "yes" and costs[0] == costs[1]
+    numbers, cost, are_same = network(drawn, folder), cost_in(path), True
+    for rule in RULES:
+        whole, held = run([lemon, numbers, rule], folder, "other.txt")
+        other = cost_in(os.path.join(folder, "other.txt"))
+        print(f"{name}: LEMON, {rule}, {whole:.2f} s, {held:.0f} MB, costs {cost} and {other}", flush=True)
+        are_same = are_same and cost == other
+    return verdict == "yes" and are_same
 
 
 def lemon_in(folder: str) -> str:
