@@ -8,8 +8,8 @@ regions, and all of them use all sites. Logs have 2,000 handles (20,000 pairs), 
 nearly each row.
 
 By turns with it runs tools/measure/stream_peer.cpp, the same steps in plain C++, where a C++ compiler and OpenSSL's
-MD5 are there. Seconds are processor seconds, and memory is its peak. All runs are on one processor, where the machine
-lets one be chosen. Then a co-process over pipes is asked row by row.
+MD5 are there. Both have to print the same octets. Seconds are processor seconds, and memory is its peak. All runs are
+on one processor, where the machine lets one be chosen. Then a co-process over pipes is asked row by row.
 """
 from __future__ import annotations
 
@@ -87,7 +87,7 @@ def peer_in(folder: str) -> Optional[str]:
     """The peer, compiled, or None where that cannot be done."""
     made = os.path.join(folder, "stream_peer")
     source = os.path.join(programs.TOP, "tools", "measure", "stream_peer.cpp")
-    words = ["c++", "-O2", "-std=c++20", "-Wno-deprecated-declarations", "-o", made, source, "-lcrypto"]
+    words = ["c++", "-O3", "-std=c++20", "-Wno-deprecated-declarations", "-o", made, source, "-lcrypto"]
     try:
         subprocess.run(words, check=True)
     except (OSError, subprocess.CalledProcessError):
@@ -117,9 +117,13 @@ def measure(folder: str, name: str, programs_of: tuple[str, str, Optional[str]],
     timed(words, folder, os.devnull, os.path.join(folder, "plan.txt"))
     runs = runs_of(program, peer, table, demand)
     spent: dict[str, list[tuple[float, float]]] = {it: [] for it in runs}
+    printed: dict[str, set[str]] = {"kinds": set(), "answer": set()}
     for _ in range(turns):
         for it, words in runs.items():
             spent[it].append(timed(words, folder, log, out))
+            printed[it.split(",")[0]].add(programs.sum_of(out))
+    if any(len(sums) > 1 for sums in printed.values()):
+        sys.exit(f"{name}: hsplan-stream and the peer print other octets")
     with open(table, "rb") as file:
         kinds = len(file.readlines()) - 1
     for it, found in spent.items():

@@ -45,16 +45,20 @@ using Map = std::unordered_map<std::string, V, Hash, std::equal_to<>>;
 
 std::vector<Site> sites;
 
+// What a hash option takes of a handle.
+std::string_view part_of(std::string_view handle, int option) {
+    size_t cut = handle.find('/');
+    return option == 0 ? handle.substr(0, cut) : option == 1 ? handle.substr(cut + 1) : handle;
+}
+
 // The key of a row's kind: its region, and the places of its handle.
 std::string kind_of(std::string_view region, std::string_view handle) {
-    size_t cut = handle.find('/');
-    std::string_view parts[3] = {handle.substr(0, cut), handle.substr(cut + 1), handle};
     uint32_t words[3];
     bool known[3] = {false, false, false};
     std::string key(region);
     for (const Site& site : sites) {
         if (!known[site.option]) {
-            words[site.option] = word_of(parts[site.option]);
+            words[site.option] = word_of(part_of(handle, site.option));
             known[site.option] = true;
         }
         uint16_t place = words[site.option] % site.servers;
@@ -104,8 +108,9 @@ void each_line(F take) {
     while ((count = fread(piece.data(), 1, piece.size(), stdin)) > 0) {
         const char *at = piece.data(), *end = at + count;
         while (const char* feed = static_cast<const char*>(memchr(at, '\n', end - at))) {
-            line.append(at, feed - at);
-            if (!is_header) take(std::string_view(line));
+            std::string_view whole(at, feed - at);
+            if (!line.empty()) whole = line.append(whole);
+            if (!is_header) take(whole);
             is_header = false;
             line.clear();
             at = feed + 1;
@@ -136,7 +141,7 @@ void print_answers(const char* table) {
     std::vector<std::string> lines;
     for (const Row& row : kinds.rows) {
         std::ostringstream text;
-        uint32_t place = word_of(row.handle) % sites[0].servers;
+        uint32_t place = word_of(part_of(row.handle, sites[0].option)) % sites[0].servers;
         text << "assigned " << sites[0].name << " " << place << " " << place + 1 << "\n";
         lines.push_back(text.str());
     }
