@@ -6,7 +6,8 @@ GoAccess (Debian: goaccess), where it is installed, reads the logs of usual form
 
 Logs are of each form, over a day, and ask for 20,000 handles, a few of them often. One more asks for a new handle
 in nearly each line. Clients have 100,000 addresses in 65,536 networks. The service is that of examples/two-sites,
-so that rows are joined by kinds. GoAccess counts requests and visitors, and no regions. It runs as it comes, on one thread.
+so that rows are joined by kinds. GoAccess counts requests and visitors, and no regions. It runs on one thread: once as
+it comes, with all its panels, and once with the panel of requests only, which is nearest to what `hsp demand` counts.
 
 Each row has the middle turn by the clock: lines a second, seconds of all processors, and the memory of the largest
 process. Behind them stand the load of the machine before the run, and the share of the processors that others stole
@@ -50,6 +51,9 @@ GOACCESS = {
     "server": ["--log-format=%h %^ \"%d %t.%^\" %^ %^ %Lms %U", "--date-format=%Y-%m-%d", "--time-format=%H:%M:%S"],
     "proxy": ["--log-format=COMBINED"],
 }
+# The panels that GoAccess fills as it comes, beside that of requests.
+PANELS = "VISITORS REQUESTS_STATIC NOT_FOUND HOSTS OS BROWSERS VISIT_TIMES VIRTUAL_HOSTS REFERRERS REFERRING_SITES"
+PANELS += " KEYPHRASES STATUS_CODES REMOTE_USER CACHE_STATUS GEO_LOCATION MIME_TYPE TLS_TYPE"
 
 
 class Run(NamedTuple):
@@ -122,7 +126,9 @@ def ways(form: str, log: str, folder: str, is_usual: bool) -> dict[str, list[str
     found = {"hsp demand --jobs 1": [*words, "--jobs", "1"], "hsp demand": words}
     if is_usual and shutil.which("goaccess"):
         report = os.path.join(folder, "report.json")
-        found["goaccess"] = ["goaccess", log, *GOACCESS[form], "-o", report, "--no-progress", "--no-global-config"]
+        goaccess = ["goaccess", log, *GOACCESS[form], "-o", report, "--no-progress", "--no-global-config"]
+        found["GoAccess, all panels"] = goaccess
+        found["GoAccess, requests only"] = [*goaccess, *(f"--ignore-panel={it}" for it in PANELS.split())]
     return found
 
 
