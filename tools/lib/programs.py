@@ -142,7 +142,7 @@ def is_absent(*paths: str) -> bool:
     """Whether one of the programs that a script runs can't be run. Then a line names it."""
     absent = [it for it in paths if not os.access(it, os.X_OK)]
     if absent:
-        print(f"no program {absent[0]}: run rt ci or make prove first")
+        print(f"no program {absent[0]}: run rt ci or make prove first, or name one by HSPLAN and HSPLAN_STREAM")
     return bool(absent)
 
 

@@ -64,6 +64,8 @@ def main() -> int:
     arguments = argparse.ArgumentParser(description="Measures the commands of hsp that plan ahead.")
     arguments.add_argument("--runs", type=int, default=5, metavar="N")
     runs = arguments.parse_args().runs
+    if programs.is_absent(*map(programs.tested, programs.PROGRAMS)):
+        return 1
     environment = {**os.environ, "PYTHONPATH": os.path.join(programs.TOP, "companion")}
     for name in programs.PROGRAMS:
         environment[name.upper().replace("-", "_")] = programs.tested(name)

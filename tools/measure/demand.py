@@ -166,6 +166,8 @@ def main() -> int:
     )
     chosen = arguments.parse_args()
     stream = transcripts.stream_beside(chosen.program)
+    if programs.is_absent(chosen.program, stream):
+        return 1
     path = os.path.join(programs.TOP, "companion")
     environment = {**os.environ, "PYTHONPATH": path, "HSPLAN": chosen.program, "HSPLAN_STREAM": stream}
     with tempfile.TemporaryDirectory() as folder:

@@ -159,6 +159,8 @@ def main() -> int:
     )
     chosen = arguments.parse_args()
     workers = [int(it) for it in chosen.workers.split(",")]
+    if programs.is_absent(chosen.program):
+        return 1
     with tempfile.TemporaryDirectory() as folder:
         environment = transcripts.room_for(folder, os.path.abspath(chosen.program))
         environment["PYTHONPATH"] = os.path.join(programs.TOP, "companion")

@@ -119,6 +119,8 @@ def main() -> int:
     arguments = argparse.ArgumentParser(description="Measures what a plan does once it is in force.")
     arguments.add_argument("--seed", type=int, default=1, help="of the order and of the factors")
     draw = random.Random(arguments.parse_args().seed)
+    if programs.is_absent(*map(programs.tested, programs.PROGRAMS)):
+        return 1
     with tempfile.TemporaryDirectory() as folder:
         service = service_in(folder)
         queries = drawn(draw, service.demand, 0)

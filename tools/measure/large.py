@@ -99,6 +99,8 @@ def main() -> int:
     words.add_argument("--fillers", default=";".join(FILLERS), help="names with a semicolon between them")
     given = words.parse_args()
     program = os.path.abspath(given.program)
+    if programs.is_absent(program):
+        return 1
     print("| File | Filled with | Time | Memory | Status | Said |\n|---|---|---|---|---|---|")
     with tempfile.TemporaryDirectory() as room:
         preloaded = preload.built("report_memory", room)

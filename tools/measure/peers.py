@@ -241,6 +241,8 @@ def beside_lemon(folder: str, chosen: argparse.Namespace) -> int:
 
 def main() -> int:
     chosen = arguments()
+    if programs.is_absent(chosen.program):
+        return 1
     with tempfile.TemporaryDirectory() as folder:
         if not chosen.parts:
             return beside_lemon(folder, chosen)

@@ -218,6 +218,8 @@ def main() -> int:
     arguments.add_argument("--cases", default=",".join(CASES))
     arguments.add_argument("--lemon", default="100k", help="the cases that LEMON solves, too")
     given = arguments.parse_args()
+    if programs.is_absent(given.program):
+        return 1
     with tempfile.TemporaryDirectory() as room:
         folder = os.path.abspath(given.folder or room)
         lemon = given.lemon.split(",") if given.lemon else []

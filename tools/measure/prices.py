@@ -97,8 +97,7 @@ def main() -> int:
     words.add_argument("--cases", default="", help="names with a comma between them")
     given = words.parse_args()
     program = os.path.abspath(given.program)
-    if not os.access(program, os.X_OK):
-        print(f"no program {program}: run rt ci or make prove first")
+    if programs.is_absent(program):
         return 1
     if hasattr(os, "sched_setaffinity"):
         os.sched_setaffinity(0, {max(os.sched_getaffinity(0))})

@@ -74,8 +74,7 @@ def main() -> int:
     arguments.add_argument("--program", default=programs.tested("hsplan"))
     arguments.add_argument("factors", type=float, nargs="*", default=FACTORS)
     chosen = arguments.parse_args()
-    if not os.access(chosen.program, os.X_OK):
-        print(f"no program {chosen.program}: run rt ci or make prove first")
+    if programs.is_absent(chosen.program):
         return 1
     print("| Run | Seconds | Peak | Status |\n|---|---|---|---|")
     with tempfile.TemporaryDirectory() as folder:

@@ -385,6 +385,8 @@ def main() -> int:
     words.add_argument("--seconds", type=int, default=4, help="for which wrk asks, each time")
     given = words.parse_args()
     os.environ.update(programs.variables())
+    if programs.is_absent(*programs.variables().values()):
+        return 1
     if given.what == "ways":
         measure_ways(given.seed)
     elif given.what == "answers":
