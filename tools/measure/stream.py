@@ -14,6 +14,7 @@ on one processor, where the machine lets one be chosen. Then a co-process over p
 from __future__ import annotations
 
 import argparse
+import hashlib
 import os
 import random
 import subprocess
@@ -83,6 +84,15 @@ def timed(words: list[str], folder: str, given: str, out: str) -> tuple[float, f
     return used.ru_utime + used.ru_stime, used.ru_maxrss / 1000
 
 
+def sum_of(path: str) -> str:
+    """The sum of a file, which is not read whole: the peak of a run counts what this script holds."""
+    digest = hashlib.sha256()
+    with open(path, "rb") as file:
+        while block := file.read(1 << 20):
+            digest.update(block)
+    return digest.hexdigest()
+
+
 def peer_in(folder: str) -> Optional[str]:
     """The peer, compiled, or None where that cannot be done."""
     made = os.path.join(folder, "stream_peer")
@@ -121,7 +131,7 @@ def measure(folder: str, name: str, programs_of: tuple[str, str, Optional[str]],
     for _ in range(turns):
         for it, words in runs.items():
             spent[it].append(timed(words, folder, log, out))
-            printed[it.split(",")[0]].add(programs.sum_of(out))
+            printed[it.split(",")[0]].add(sum_of(out))
     if any(len(sums) > 1 for sums in printed.values()):
         sys.exit(f"{name}: hsplan-stream and the peer print other octets")
     with open(table, "rb") as file:
