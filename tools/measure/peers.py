@@ -148,7 +148,8 @@ def run(words: list[str], path: str) -> tuple[float, float, str]:
 def turn(folder: str, program: str, words: list[str], peer: list[str]) -> tuple[dict[str, float], set[str]]:
     """What a turn took by kind, and the costs that hsplan and LEMON state."""
     own, other, verdict = (os.path.join(folder, name) for name in ("own.txt", "other.txt", "verdict.txt"))
-    took, costs = {}, set()
+    took: dict[str, float] = {}
+    costs: set[str] = set()
     took["plan"], took["memory"], _ = run([program, "plan", *words], own)
     costs.add(cost_in(own))
     for rule in RULES:
@@ -224,7 +225,7 @@ def beside_lemon(folder: str, chosen: argparse.Namespace) -> int:
         instance = Instance(folder, factor)
         words = [peer, instance.network(chosen.program, folder)]
         turns = [turn(folder, chosen.program, instance.words, words) for _ in range(chosen.turns)]
-        costs = set().union(*(stated for _, stated in turns))
+        costs: set[str] = set().union(*(stated for _, stated in turns))
         if len(costs) > 1:
             print(f"at factor {factor} the costs differ: {costs}", file=sys.stderr)
             return 1
