@@ -5,11 +5,28 @@ ghost use Rattle.hsp_price_plan.specs.Planning.{AreOfSome};
 use crate::filling::{Asked, Filled, held_rows, row_of};
 use crate::judging::{is_valid, says};
 use crate::keeping::keep_least;
+use crate::same::is_same;
 use crate::service::{HOST, Held, NARROW, ROOMY, hold};
-use hsp_price_plan::{Silent, plan_rows};
+use hsp_price_plan::{Progress, Silent, plan_rows};
 use hsp_price_text::PriceCertificate;
 use std::alloc::Global;
 use std::process::Abort;
+
+// How many arcs the rounds added.
+#[derive(Clone, Copy, Drop)]
+struct Added {
+    arcs: u64,
+}
+
+impl Progress for Added {
+    fn rows_read(&mut self, _rows: u64) {}
+
+    fn level(&mut self, _rows: u64) {}
+
+    fn left(&mut self, arcs: u64) {
+        self.arcs = self.arcs.saturating_add(arcs);
+    }
+}
 
 /// The certificate of the rows, once more where memory ran out.
 pub(crate) fn planned(rt: &impl Abort, alloc: Global, filled: &mut Filled) -> PriceCertificate
@@ -81,6 +98,20 @@ fn a_full_server_has_a_price(rt: HostRuntime) {
     let alloc = rt.alloc();
     let held = hold(&rt, alloc, b"", NARROW);
     gets(&rt, alloc, &held, &tied(), TIED_PLAN);
+}
+
+// The first round adds both arcs of each row, as none is kept.
+#[test]
+fn a_round_shows_how_many_arcs_it_adds(rt: HostRuntime) {
+    let alloc = rt.alloc();
+    let held = hold(&rt, alloc, b"", NARROW);
+    let mut filled = held_rows(&rt, alloc, &held, &tied());
+    let mut added = Added { arcs: 0 };
+    if plan_rows(alloc, &filled.numbers, &mut filled.rows, &mut added).is_err() {
+        let again = plan_rows(alloc, &filled.numbers, &mut filled.rows, &mut added);
+        is_same(&rt, again.is_ok(), true);
+    }
+    is_same(&rt, added.arcs, 6);
 }
 
 #[test]

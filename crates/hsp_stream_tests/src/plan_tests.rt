@@ -6,12 +6,32 @@ use crate::price_tests::{held_inputs, judged};
 use crate::same::is_same;
 use hsp_classes::PriceVerdict;
 use hsp_plan_runs::{PricesText, price_plan_run};
-use hsp_price_plan::Silent;
+use hsp_price_plan::{Progress, Silent};
 use hsp_stream::{RowFault, StreamFault};
 use hsp_test_support::service::DEMAND;
 use std::alloc::Global;
 use std::io::Read;
 use std::process::Abort;
+
+// Counts what is shown of how far a plan is.
+#[derive(Drop)]
+struct Watched<'a> {
+    shown: &'a mut u64,
+}
+
+impl Progress for Watched<'_> {
+    fn rows_read(&mut self, _rows: u64) {
+        *self.shown = self.shown.saturating_add(1);
+    }
+
+    fn level(&mut self, _rows: u64) {
+        *self.shown = self.shown.saturating_add(1);
+    }
+
+    fn left(&mut self, _arcs: u64) {
+        *self.shown = self.shown.saturating_add(1);
+    }
+}
 
 // What the run gives, once more where memory ran out.
 fn planned<R: Read + Copy + Drop>(
@@ -57,6 +77,24 @@ fn the_rows_of_a_log_are_planned(rt: HostRuntime) {
     has_plan(&rt, alloc, DEMAND, b"HSPLAN PRICES 1\nPLAN\ncost 17\n");
     let parts = b"region,handle,count\nr2,10/3,1\nr1,10/2,0\nr1,10/2,4\nr1,10/1,5\nr2,10/3,2\n";
     has_plan(&rt, alloc, parts, b"HSPLAN PRICES 1\nPLAN\ncost 17\n");
+}
+
+// Few rows keep all their arcs before the first round, so that no other follows.
+#[test]
+fn nothing_is_shown_of_few_rows(rt: HostRuntime) {
+    let alloc = rt.alloc();
+    let inputs = held_inputs(&rt, alloc);
+    let mut shown = 0;
+    let watched = Watched { shown: &mut shown };
+    let is_planned = match price_plan_run(alloc, &inputs, Rows::only(DEMAND), watched) {
+        Err(_) => {
+            let watched = Watched { shown: &mut shown };
+            price_plan_run(alloc, &inputs, Rows::only(DEMAND), watched).is_ok()
+        }
+        Ok(_) => true,
+    };
+    is_same(&rt, is_planned, true);
+    is_same(&rt, shown, 0);
 }
 
 #[test]
