@@ -1,4 +1,4 @@
-// A reader of logs that are long or that fail, and a writer that fails.
+// A reader of logs that are long or that fail, and writers that fail.
 
 use std::io;
 use std::io::{ErrorKind, Read, Write};
@@ -45,6 +45,26 @@ impl Read for Rows<'_> {
         buf[..count].copy_from_slice(first);
         self.head = rest;
         Ok(count)
+    }
+}
+
+/// Takes so many pieces of what is written, and nothing more.
+#[derive(Drop)]
+pub(crate) struct Pieces {
+    pub(crate) left: u32,
+}
+
+impl Write for Pieces {
+    fn write(&mut self, buf: &[u8]) -> io::Result<usize> {
+        if self.left == 0 {
+            return Err(io::Error::from(ErrorKind::Other));
+        }
+        self.left -= 1;
+        Ok(buf.len())
+    }
+
+    fn flush(&mut self) -> io::Result<()> {
+        Ok(())
     }
 }
 

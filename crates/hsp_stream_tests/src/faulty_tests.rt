@@ -1,6 +1,6 @@
 // The run that lists faulty rows, from the octets of a text to what it prints.
 
-use crate::fakes::{Full, Rows};
+use crate::fakes::{Pieces, Rows};
 use crate::same::is_same;
 use hsp_faulty::{Asked, FaultsStop, faults_run};
 use hsp_tables::TableKind;
@@ -120,12 +120,22 @@ fn a_list_stops_where_a_read_fails(rt: HostRuntime) {
     );
 }
 
+// How the list of a log with one faulty row ends, where so many pieces are taken of what is written.
+fn ended_after(alloc: Global, pieces: u32) -> Result<bool, FaultsStop> {
+    let text = Rows::only(b"region,handle\nr1\n");
+    let mut writer = Pieces { left: pieces };
+    faults_run(alloc, Asked::Log, text, &mut writer)
+}
+
+// The first line is one piece, and that of the row another.
 #[test]
 fn a_list_stops_where_a_write_fails(rt: HostRuntime) {
-    let mut full = Full;
-    let text = Rows::only(b"region,handle\n");
-    let ended = faults_run(rt.alloc(), Asked::Log, text, &mut full);
-    if ended != Err(FaultsStop::OutOfMemory) {
-        is_same(&rt, ended, Err(FaultsStop::WriteFailed));
+    let failed = Err(FaultsStop::WriteFailed);
+    for (pieces, wanted) in [(2, Ok(true)), (1, failed), (0, failed)] {
+        let ended = match ended_after(rt.alloc(), pieces) {
+            Err(FaultsStop::OutOfMemory) => ended_after(rt.alloc(), pieces),
+            ended => ended,
+        };
+        is_same(&rt, ended, wanted);
     }
 }
