@@ -1,7 +1,7 @@
 -- What holds of all elements of a list, and sums over lists in two orders.
 use Rattle.std.proofs.Common.{◌≡◌, ℕ, ◌+◌, ◌∙◌, Bool, true, false, List, [], ◌∷◌, filter, sum_by, refl, ap, ap₂}
 use Rattle.std.proofs.Common.{sym}
-use Rattle.std.specs.List.{AllByRecursion}
+use Rattle.std.specs.List.{AllByRecursion, list_any}
 use Rattle.std.proofs.lemmas.List.Sums.{sum_by-cons}
 use Rattle.hsp_transport.proofs.Rowwise.{same_by, sum_by_none}
 use Rattle.hsp_transport.proofs.Summing.{sum_by_add}
@@ -27,6 +27,11 @@ pub same_kept : {A : Type 0} (f g : A → Bool) (xs : List A) → AllByRecursion
     → filter f xs ≡ filter g xs
 same_kept f g [] all = refl
 same_kept f g (x ∷ xs) all = rw (all.0, same_kept f g xs all.1) refl
+
+-- tests that agree find the same
+pub any_alike : {A : Type 0} (f g : A → Bool) → ((x : A) → f x ≡ g x) → (xs : List A) → list_any f xs ≡ list_any g xs
+any_alike f g same [] = refl
+any_alike f g same (x ∷ xs) = rw (same x, any_alike f g same xs) refl
 
 -- equal terms of all elements add up to the same
 pub same_sum : {A : Type 0} (f g : A → ℕ) (xs : List A) → AllByRecursion (λ a. f a ≡ g a) xs

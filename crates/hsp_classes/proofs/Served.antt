@@ -8,7 +8,6 @@ use Rattle.hsp_instance.specs.declared.arc.Arc.{Arc}
 use Rattle.hsp_kinds.specs.Rows.{Service, with_count_of}
 use Rattle.hsp_kinds.proofs.ByTables.{no_row, row_at}
 use Rattle.hsp_price_text.specs.Claim.{Best, Class, is_best}
-use Rattle.hsp_check.proofs.Shortages.{any_same}
 use Rattle.hsp_classes.specs.Least.{is_of, least_of, only_arc, servers_of}
 use Rattle.hsp_classes.specs.Shown.{IsService}
 use Rattle.hsp_classes.specs.Sums.{asked_of}
@@ -18,7 +17,7 @@ use Rattle.hsp_classes.proofs.ClassKinds.{alike_to, by_class, classes_are_kinds,
 use Rattle.hsp_classes.proofs.ClassKinds.{least_servers, same_least, same_of}
 use Rattle.hsp_classes.proofs.Flows.{IsLinear, at_only, class_table, flow, row_sum}
 use Rattle.hsp_classes.proofs.GivenClasses.{IsGiven, class_amounts, given_classes}
-use Rattle.hsp_classes.proofs.Lists.{all_both, same_sum}
+use Rattle.hsp_classes.proofs.Lists.{all_both, same_sum, any_alike}
 use Rattle.hsp_classes.proofs.Once.{sum_none, sum_once, sum_only}
 use Rattle.hsp_classes.proofs.TableSums.{once_apart, table_all, table_apart, table_sum}
 
@@ -33,8 +32,8 @@ module _ (at : Service) (plan : Best) (is : IsService at) (fits : is_best plan �
   placed_with a b [] own other = omega (arith, own, other)
   placed_with a b (x ∷ []) own other = tt
   placed_with a b (x ∷ z ∷ more) own other =
-      any_same (λ c. is_of at plan c (with_count_of a b)) (λ c. is_of at plan c a) plan.classes
-      (λ k c l. sym (alike_to at plan _ a (with_count_of a b) ((classes_are_kinds at plan).kept a b))) ∙ own
+      any_alike (λ c. is_of at plan c (with_count_of a b)) (λ c. is_of at plan c a)
+      (λ c. sym (alike_to at plan c a (with_count_of a b) ((classes_are_kinds at plan).kept a b))) plan.classes ∙ own
 
   -- so the rows of the table are placed
   placed : All (λ row. IsPlaced at plan row (least_of at plan row)) rows

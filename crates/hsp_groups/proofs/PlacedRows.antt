@@ -12,11 +12,10 @@ use Rattle.hsp_instance.specs.Instance.{Row}
 use Rattle.hsp_instance.specs.declared.arc.Arc.{Arc}
 use Rattle.hsp_kinds.specs.Rows.{Service}
 use Rattle.hsp_price_text.specs.Claim.{Best}
-use Rattle.hsp_check.proofs.Shortages.{any_same}
 use Rattle.hsp_classes.specs.Least.{is_of, least_arcs, least_of, pay_over, servers_of}
 use Rattle.hsp_classes.specs.Shown.{IsService}
 use Rattle.hsp_classes.specs.Verdict.{IsPlaced}
-use Rattle.hsp_classes.proofs.Lists.{all_both}
+use Rattle.hsp_classes.proofs.Lists.{all_both, any_alike}
 use Rattle.hsp_groups.specs.Groups.{Group, is_in}
 use Rattle.hsp_groups.specs.Rows.{KeptRow, kept_in}
 use Rattle.hsp_groups.specs.Solved.{AreRows, HasClass, IsPlanOfGroups, flow_to, is_part, least_servers}
@@ -39,8 +38,8 @@ module _ (at : Service) (plan : Best) where
   placed_as row kept is [] none = sym is.count ∙ none
   placed_as row kept is (a ∷ []) any = tt
   placed_as row kept is (a ∷ b ∷ more) some =
-      any_same (λ class. is_of at plan class row) (λ class. is_of_kept at plan class kept) plan.classes
-      (λ k c l. same_class at plan _ row kept is) ∙ some
+      any_alike (λ class. is_of at plan class row) (λ class. is_of_kept at plan class kept)
+      (λ class. same_class at plan class row kept is) plan.classes ∙ some
 
   -- a group is placed
   abbrev IsGroupPlaced : Group → Type 0
@@ -61,8 +60,8 @@ module _ (at : Service) (plan : Best) where
       by_least (a ∷ []) one has all e = subst (IsPlacedKept row) (sym e) tt
       by_least (a ∷ b ∷ more) several has all e =
           subst (IsPlacedKept row) (sym e)
-          (any_same (λ class. is_of_kept at plan class row) (λ class. is_part at plan class group) plan.classes
-          (λ k c l. class_of_group at plan _ group row own same) ∙ has)
+          (any_alike (λ class. is_of_kept at plan class row) (λ class. is_part at plan class group)
+          (λ class. class_of_group at plan class group row own same) plan.classes ∙ has)
 
 module _ (at : Service) (rows : List Row) (kept : List KeptRow) (groups : List Group) (flow : PricedFlow) (plan : Best)
     (is : IsService at) (are : AreRows at rows kept) (shown : IsPlanOfGroups at kept groups flow plan) where
