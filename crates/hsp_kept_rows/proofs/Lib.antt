@@ -9,3 +9,4 @@ mod Settling
 mod Passing
 pub mod StillRows
 pub mod SameShapes
+pub mod LooseRows

@@ -19,10 +19,10 @@ use Rattle.hsp_groups.proofs.GroupsBest.{groups_show_best}
 use Rattle.hsp_price_check.specs.Extras.{AreExtras, pay_by}
 use Rattle.hsp_price_check.specs.PlanPass.{AreNumbersOf}
 use Rattle.hsp_price_check.specs.declared.numbers.ServiceNumbers.{ServiceNumbers}
-use Rattle.hsp_price_check.proofs.PlanRows.{same_pay}
 use Rattle.hsp_group_plans.specs.Planning.{IsPlanFor}
 use Rattle.hsp_group_plans.specs.Solving.{HasArcsWithin, group_network}
 use Rattle.hsp_group_plans.proofs.GroupNetwork.{costs_low}
+use Rattle.hsp_group_plans.proofs.PlanParts.{same_pay}
 use Rattle.hsp_price_plan.specs.Planning.{AreOfSome, IsValidFor}
 
 -- ---- prices
