@@ -243,6 +243,22 @@ def test_hours_in_units_are_answered_in_units(hsp: Hsp, day: Path) -> None:
         assert done.stdout.startswith("assigned "), done
 
 
+def test_inputs_of_earlier_hours_go_where_no_other_plan_may_stand_by_them(hsp: Hsp, day: Path) -> None:
+    less, other = day / "capacity-less-reserve.csv", day / "mon-h05/plan.txt"
+    hsp("day", str(day), "--reserve", "1")
+    assert less.is_file()
+    assert "\nold " not in hsp("day", str(day)).stdout and not less.exists()
+    line = f"old   {less}: of {day}/plan.txt or of other hours; not of these plans"
+    other.parent.mkdir()
+    for beside in (day / "plan.txt", other):
+        hsp("day", str(day), "--reserve", "1")
+        beside.write_text("a plan")
+        assert line in hsp("day", str(day)).stdout.splitlines() and less.is_file()
+        beside.unlink()
+    hsp("day", str(day), "--capacity", str(less))
+    assert less.is_file(), "it is read"
+
+
 def test_one_plan_of_all_hours_costs_more(hsp: Hsp, day: Path) -> None:
     """Where there is room for all, one block has all hours."""
     rooms = re.sub(r",(\d+)$", r",\g<1>00", (day / "capacity.csv").read_text(), flags=re.M)

@@ -122,6 +122,12 @@ REFUSED = [
         for word in FIELDS
     ),
     *((name, f"--regex '{GROUPS}' --format json", "--format does nothing with --regex") for name in COUNTING),
+    *((name, "--time at", "--time does nothing: neither --from nor --to nor hours are asked for") for name in COUNTING),
+    *(
+        (name, f"{words} networks.csv", f"{words.split()[-1]} does nothing without {lack}: handles are joined")
+        for name in COUNTING
+        for words, lack in (("--settings", "costs"), ("--costs", "sites"), ("--values", "sites"))
+    ),
 ]
 
 

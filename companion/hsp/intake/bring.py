@@ -142,6 +142,7 @@ def form_of(given: dict[str, Any]) -> Form:
     """The form of the logs by the options."""
     if given["format"] in ("server", "proxy"):
         refuse_fields(given["format"])
+    refuse_time(given["by"])
     pattern = None
     if given["regex"]:
         try:
@@ -155,6 +156,13 @@ def form_of(given: dict[str, Any]) -> Form:
     prefixes = frozenset(os.fsencode(prefix.rstrip("/").upper()) for prefix in given["prefix"])
     names = given["client"], given["handle"], given["path"] or ""
     return Form(given["format"], *names, pattern, prefixes, given["time"])
+
+
+def refuse_time(by: object) -> None:
+    """Refuses the name of the field with the time where no time is looked at."""
+    is_by_hours = isinstance(by, By) and by.cycle is not None
+    if "--time" in words_given() and not is_by_hours and not TIMES & words_given():
+        raise click.UsageError("--time does nothing: neither --from nor --to nor hours are asked for")
 
 
 def refuse_fields(form: str) -> None:
@@ -194,7 +202,8 @@ def skipped_lines(reading: Reading) -> list[str]:
 
 
 def service_of(folder: str | None, given: dict[str, Any]) -> Inputs | None:
-    """The sites and the costs by which handles of one kind are joined, where both are there."""
+    """The sites and the costs by which handles of one kind are joined, where both are there. Refuses one of them, and a
+    value list, where the other one lacks."""
 
     def path_of(role: str, name: str) -> str | None:
         beside = path_in(folder, name) if folder else ""
@@ -202,6 +211,9 @@ def service_of(folder: str | None, given: dict[str, Any]) -> Inputs | None:
 
     settings, costs = path_of("settings", NAMES["settings"]), path_of("costs", NAMES["costs"])
     if settings is None or costs is None:
+        for option in sorted(SERVICE & words_given()):
+            lack = "sites" if settings is None else "costs"
+            raise click.UsageError(f"{option} does nothing without {lack}: handles are joined by sites and costs")
         return None
     return Inputs(settings, "", costs, "", path_of("values", VALUES))
 
@@ -370,6 +382,8 @@ BY_HOURS = click.option(
 )
 # The options that name fields of JSON and of tables.
 FIELDS = {"--client", "--handle", "--path", "--time"}
+# The options by which the times of lines are looked at.
+TIMES = {"--from", "--to", "--busiest-hour"}
 FORM_OPTIONS = [
     click.option(
         "--format", type=click.Choice(["auto", *FORMS]), default="auto", show_default=True, help="of the logs"
@@ -391,6 +405,8 @@ FORM_OPTIONS = [
     click.option("--prefix", metavar="PREFIX", multiple=True, help="count only handles of this prefix"),
     click.option("--elsewhere", metavar="REGION", help="of clients that have no region"),
 ]
+# The options that name files by which handles are joined.
+SERVICE = {"--settings", "--values", "--costs"}
 KINDS_OPTIONS = [
     click.option(
         "--unit",

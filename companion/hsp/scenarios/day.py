@@ -12,8 +12,8 @@ from typing import Any
 import click
 
 from hsp.base.ends import SHORTAGE
-from hsp.base.files import refuse_clashes, refuse_no_folder, replace_all
-from hsp.base.numbers import some
+from hsp.base.files import locked, refuse_clashes, refuse_no_folder, replace_all
+from hsp.base.numbers import listed, some
 from hsp.base.options import ANY_FILE, LINES, PathName, apart, idle
 from hsp.base.paths import path_in
 from hsp.base.text import give, say
@@ -27,6 +27,7 @@ from hsp.scenarios.blocks import Block, fewest, is_block, price
 from hsp.scenarios.day_lines import Day
 from hsp.scenarios.day_page import block_view, command_of, render_day
 from hsp.scenarios.day_table import csv_of
+from hsp.scenarios.earlier import forget_of_hours
 from hsp.scenarios.hours import Faulty, Hour, HourPlan, all_planned, names_in, of_hour, read_hour
 from hsp.scenarios.in_force import PLAN
 from hsp.scenarios.judged import Judged, Progress, yes_line
@@ -177,8 +178,7 @@ def day(folder: str, **given: Any) -> None:
         own = _at(folder, fault.name, programs, given)
         raise Unfit(f"{own.inputs.demand}: hsplan refused it") from None
     programs.insist_held()
-    if not given["no_save"]:
-        _save(found, folder, page, programs)
+    old = [] if given["no_save"] else _save(found, folder, page, programs)
     if given["as_csv"]:
         give(csv_of(found))
     else:
@@ -189,6 +189,8 @@ def day(folder: str, **given: Any) -> None:
             say("near  no: the rows of a log have no portions; each hour has its plain plan")
         if not given["no_save"]:
             say(_kept_line(found, folder, page))
+        if old:
+            say(f"old   {listed(old)}: of {path_in(folder, PLAN)} or of other hours; not of these plans")
         say(yes_line(programs))
     sys.exit(SHORTAGE if any(not plan.is_plan for plan in found.plans) else 0)
 
@@ -213,8 +215,8 @@ def _kept_line(found: Day, folder: str, page: str) -> str:
     return f"kept  {some(plans, 'plan')}{beside}{blocks}; page {page}"
 
 
-def _save(found: Day, folder: str, page: str, programs: Judged) -> None:
-    """Writes all plans and the page together."""
+def _save(found: Day, folder: str, page: str, programs: Judged) -> list[str]:
+    """Writes all plans and the page together. Returns the inputs of other plans that stay."""
     contents = _kept(found, folder, programs)
     inputs, _ = in_units(found.service, programs, path_in(folder, PLAN))
     commands = {plan.hour.name: command_of(inputs, found.service.unit, plan) for plan in found.plans}
@@ -224,8 +226,10 @@ def _save(found: Day, folder: str, page: str, programs: Judged) -> None:
     _refuse_clashes(found.service, [plan.hour for plan in found.plans], [*contents, page])
     for path in contents:
         os.makedirs(os.path.dirname(path) or ".", exist_ok=True)
-    replace_all({**contents, page: text.encode()})
-    _forget(found, folder)
+    with locked([folder]):
+        replace_all({**contents, page: text.encode()})
+        _forget(found, folder)
+        return forget_of_hours(folder, contents, found.service.own_inputs.files())
 
 
 __all__ = ["day"]

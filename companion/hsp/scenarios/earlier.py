@@ -1,10 +1,10 @@
-"""What an earlier run kept beside a plan of DIR, and by which the plan that is there now doesn't stand."""
+"""What an earlier run kept beside plans of DIR, and by which the plans that are there now don't stand."""
 
 from __future__ import annotations
 
 import contextlib
 import os
-from collections.abc import Collection, Iterator
+from collections.abc import Collection
 
 from hsp.base.paths import path_in
 from hsp.plans.answering import CAPACITY, LESS_CAPACITY, LESS_SETTINGS, SETTINGS
@@ -16,9 +16,10 @@ from hsp.scenarios.near_plan import FOLDER, KEPT
 INPUTS = (CAPACITY, SETTINGS, LESS_CAPACITY, LESS_SETTINGS)
 
 
-def _has_plans_of_hours(folder: str) -> bool:
+def _plans_of_hours(folder: str) -> list[str]:
     names = (name for name in os.listdir(folder) if OF_DAY.fullmatch(name) or OF_WEEK.fullmatch(name))
-    return any(os.path.isfile(path_in(folder, os.path.join(name, PLAN))) for name in names)
+    paths = (path_in(folder, os.path.join(name, PLAN)) for name in names)
+    return [path for path in paths if os.path.isfile(path)]
 
 
 def _near(folder: str) -> list[str]:
@@ -29,22 +30,34 @@ def _near(folder: str) -> list[str]:
     return [path_in(own, name) for name in KEPT]
 
 
-def _inputs(folder: str) -> Iterator[str]:
+def _inputs(folder: str, others: Collection[str]) -> list[str]:
+    """The inputs in other numbers that are there, but for others. A link is not followed."""
+    real = {os.path.realpath(path) for path in others}
     paths = (path_in(folder, name) for name in INPUTS)
-    yield from (path for path in paths if os.path.isfile(path) and not os.path.islink(path))
+    there = (path for path in paths if os.path.isfile(path) and not os.path.islink(path))
+    return [path for path in there if os.path.realpath(path) not in real]
 
 
 def forget(folder: str, written: Collection[str], read: Collection[str]) -> list[str]:
     """Takes away what an earlier run kept, but for what was written now, and what is read. Returns the paths of inputs
     that stay, since plans of hours may stand by them."""
     real = {os.path.realpath(path) for path in read}
-    near, inputs = _near(folder), [path for path in _inputs(folder) if path not in written]
+    near, inputs = _near(folder), _inputs(folder, [*written, *read])
     if near and not real.intersection(map(os.path.realpath, near)) and not set(near).intersection(written):
         _remove(near)
         with contextlib.suppress(OSError):
             os.rmdir(path_in(folder, FOLDER))
-    inputs = [path for path in inputs if os.path.realpath(path) not in real]
-    if _has_plans_of_hours(folder):
+    if _plans_of_hours(folder):
+        return inputs
+    _remove(inputs)
+    return []
+
+
+def forget_of_hours(folder: str, written: Collection[str], read: Collection[str]) -> list[str]:
+    """Takes away the inputs that an earlier run kept, but for those that were written now, and those that are read.
+    Returns the paths of those that stay, since a plan that was not written now may stand by them."""
+    inputs, plans = _inputs(folder, [*written, *read]), [path_in(folder, PLAN), *_plans_of_hours(folder)]
+    if any(os.path.lexists(path) and path not in written for path in plans):
         return inputs
     _remove(inputs)
     return []
@@ -56,4 +69,4 @@ def _remove(paths: Collection[str]) -> None:
             os.unlink(path)
 
 
-__all__ = ["forget"]
+__all__ = ["forget", "forget_of_hours"]

@@ -3,7 +3,7 @@ pub mod Once
 mod TableSums
 mod Sites
 pub mod ServerArcs
-mod LeastPay
+pub mod LeastPay
 pub mod ClassKinds
 pub mod GivenClasses
 pub mod ByRow

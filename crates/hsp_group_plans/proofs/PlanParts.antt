@@ -1,54 +1,20 @@
--- The parts of a plan: what queries pay by its prices, and whether it is one of a text.
-use Rattle.std.proofs.Common.{◌≡◌, ℕ, ◌+◌, ◌<◌, ◌≤◌, ◌^◌, ◌∙◌, inl, inr, false, List, length, map, slice_index}
+-- The parts of a plan, and whether it is one of a text.
+use Rattle.std.proofs.Common.{◌≡◌, ℕ, ◌<◌, ◌^◌, ◌∙◌, inl, inr, false, List}
 use Rattle.std.proofs.Common.{refl, ap, sym, subst, arith}
 use Rattle.std.specs.Prelude.{IfNone, IfSome, Option, Some, None, if◌then◌else◌}
-use Rattle.std.proofs.Math.Path.{fun_ext}
-use Rattle.std.proofs.lemmas.Bool.{cases_Bool, cases_lt}
-use Rattle.std.proofs.lemmas.List.{get_or_past}
-use Rattle.hsp_check.specs.Prices.{at_host}
+use Rattle.std.proofs.lemmas.Bool.{cases_Bool}
 use Rattle.hsp_instance.specs.declared.arc.Arc.{Arc}
-use Rattle.hsp_kinds.specs.Rows.{Service}
 use Rattle.hsp_network.specs.Answer.{HasLengths}
 use Rattle.hsp_network.specs.declared.network.PricedFlow.{PricedFlow}
 use Rattle.hsp_price_text.specs.Claim.{Best, Class, if_best, is_best}
-use Rattle.hsp_classes.specs.Least.{host_at, pay_over, price_at}
 use Rattle.hsp_groups.specs.Groups.{Group}
 use Rattle.hsp_groups.specs.Solved.{AreClassesBy, cost_of}
-use Rattle.hsp_price_check.specs.Extras.{AreExtras, extra_at, pay_by}
+use Rattle.hsp_price_check.specs.Extras.{AreExtras, pay_by}
 use Rattle.hsp_price_check.specs.Passed.{capped}
-use Rattle.hsp_price_check.specs.PlanPass.{AreNumbersOf}
 use Rattle.hsp_price_check.specs.declared.numbers.ServiceNumbers.{ServiceNumbers}
+use Rattle.hsp_price_check.proofs.PricePays.{same_pay}
 use Rattle.hsp_group_plans.specs.Planning.{IsPlanFor}
 use Rattle.hsp_group_plans.specs.Solving.{group_network}
-
-module _ (at : Service) (numbers : ServiceNumbers) (are : AreNumbersOf at numbers) (plan : Best) (extras : List ℕ)
-    (of : AreExtras numbers.server_hosts.items plan.server_prices plan.host_prices extras)
-    (many : length plan.server_prices ≡ length numbers.server_hosts.items) where
-  -- past the servers there is no price
-  none_past : (j : ℕ) → length plan.server_prices ≤ j → price_at at plan j ≡ 0
-  none_past j l =
-      let long : length numbers.server_hosts.items ≡ length (map (λ server. server.host) at.servers) =
-      ap (λ (hosts : List (Option ℕ)). length hosts) are.server_hosts in
-      let no_host : host_at at j ≡ None =
-      get_or_past (map (λ server. server.host) at.servers) j None (omega (arith, long)) in
-      omega (
-        arith,
-        get_or_past plan.server_prices j 0 l,
-        ap (λ host. at_host host (λ h. slice_index plan.host_prices h)) no_host,
-      )
-
-  -- the number for each server is its price and its host's
-  extra_is : (j : ℕ) → slice_index extras j ≡ price_at at plan j
-  extra_is j = elim (cases_lt j (length plan.server_prices)) [
-    | inl there ↦
-        of.each j there ∙ ap (λ hosts. extra_at hosts plan.server_prices plan.host_prices j) are.server_hosts
-    | inr past ↦
-        get_or_past extras j 0 (omega (arith, of.many)) ∙ sym (none_past j past)
-  ]
-
-  -- so by these numbers a query pays what it pays by the prices
-  pub same_pay : pay_by extras ≡ pay_over at plan
-  same_pay = fun_ext (λ (arc : Arc). ap (λ v. arc.cost + v) (extra_is arc.server))
 
 -- what holds of a plan holds of it where it is one of a text
 pub some_best : (P : Best → Type 0) (plan : Best) (found : Option Best) → found ≡ if_best plan → P plan

@@ -4,10 +4,11 @@ mod ClassPlaces
 pub mod ClassSums
 pub mod ServiceHosts
 mod SetCapacity
-mod Positions
+pub mod Positions
 mod OneRow
 mod SumSteps
 mod PassSteps
+pub mod PricePays
 mod PlanRows
 mod InOrder
 mod Judging

@@ -1,14 +1,13 @@
 -- What answers cost together, where the plan's certificate is valid for the queries.
 use Rattle.std.proofs.Common.{◌≡◌, ◌<◌, ◌≤◌, ◌+◌, ◌*◌, ◌==◌, ◌∙◌, ℕ, Bool, true, List, [], ◌∷◌, All, Option, None}
-use Rattle.std.proofs.Common.{Some, ap, arith, eq-eqb, if◌then◌else◌, inl, inr, leb-true, length, map}
-use Rattle.std.proofs.Common.{mul-one, mul-zero, mul_comm, nat_le, ne_eqb, one-mul, refl, slice_index, subst, sum}
+use Rattle.std.proofs.Common.{Some, ap, arith, eq-eqb, if◌then◌else◌, inl, inr, length, map}
+use Rattle.std.proofs.Common.{mul-one, mul-zero, mul_comm, ne_eqb, one-mul, refl, slice_index, subst, sum}
 use Rattle.std.proofs.Common.{sum_by, sym, zero-mul}
 use Rattle.std.specs.List.{AllByRecursion, Contains, count_by}
 use Rattle.std.proofs.lemmas.Bool.{cases_lt, true≢false}
 use Rattle.std.proofs.lemmas.List.{get_or_past, length-map}
-use Rattle.std.proofs.lemmas.List.Elements.{All-filter, All-from_recursion, All-head, All-tail, All-weaker}
-use Rattle.std.proofs.lemmas.List.Elements.{filter_passes}
-use Rattle.std.proofs.lemmas.List.Sums.{AllPass-from_list_all, sum_by-cons}
+use Rattle.std.proofs.lemmas.List.Elements.{All-from_recursion, All-head, All-tail}
+use Rattle.std.proofs.lemmas.List.Sums.{sum_by-cons}
 use Rattle.hsp_transport.specs.Sums.{sum_below, times}
 use Rattle.hsp_transport.proofs.Rowwise.{same_by, turned}
 use Rattle.hsp_transport.proofs.Summing.{sum_below_one, sum_below_same, sum_below_zero, sum_by_add, sum_by_same_all}
@@ -21,12 +20,13 @@ use Rattle.hsp_kinds.specs.Rows.{Service, network_for}
 use Rattle.hsp_price_text.specs.Certificate.{IsCertificate}
 use Rattle.hsp_price_text.specs.Claim.{Best}
 use Rattle.hsp_price_text.specs.declared.certificate.PriceCertificate.TheVariants as certificate
-use Rattle.hsp_classes.specs.Least.{arcs_of, host_at, is_least, least_arcs, least_of, only_arc, pay_over, price_at}
+use Rattle.hsp_classes.specs.Least.{arcs_of, host_at, least_of, only_arc, pay_over, price_at}
 use Rattle.hsp_classes.specs.Shown.{IsShownBy}
 use Rattle.hsp_classes.specs.Sums.{brings, first_pay, host_load_at, least_pay, load_at, paid_in_all, row_load}
 use Rattle.hsp_classes.specs.Verdict.{IsVerdict}
 use Rattle.hsp_classes.specs.declared.verdict.PriceReason.TheVariants as reason
 use Rattle.hsp_classes.specs.declared.verdict.PriceVerdict.TheVariants.{Yes}
+use Rattle.hsp_classes.proofs.LeastPay.{all_pay}
 use Rattle.hsp_dispatch.specs.Dispatch.{Entry}
 use Rattle.hsp_price_check.specs.Passed.{class_at}
 use Rattle.hsp_price_dispatch.specs.Choosing.{answer_by, choice_for, left_by, row_of}
@@ -191,35 +191,6 @@ full_times bounds prices taken n long low idle =
 
 -- ---- what queries pay
 
-module _ (pay : Arc → ℕ) (arcs : List Arc) where
-  -- an arc pays no more than any of some
-  abbrev PaysLeast : List Arc → Arc → Type 0
-  PaysLeast list a = All (λ b. pay a ≤ pay b) list
-
-  -- each least arc pays no more than any
-  least_low : All (PaysLeast arcs) (least_arcs pay arcs)
-  least_low =
-      All-weaker (λ a. is_least pay arcs a ≡ true) (PaysLeast arcs)
-      (λ a e. All-weaker (λ b. nat_le (pay a) (pay b) ≡ true) (λ b. pay a ≤ pay b) (λ b t. leb-true (pay a) (pay b) t)
-      arcs (AllPass-from_list_all (λ b. nat_le (pay a) (pay b)) arcs e)) (least_arcs pay arcs)
-      (filter_passes (is_least pay arcs) arcs)
-
-  -- the first of arcs of which none pays more than another pays what each pays
-  first_same : (list : List Arc) → All (PaysLeast list) list → All (λ a. first_pay pay list ≡ pay a) list
-  first_same [] all k d l = absurd (omega arith)
-  first_same (a ∷ more) all k d l =
-      let some : 0 < length (a ∷ more) = omega arith in
-      let low = all 0 d some k d l in
-      let high = all k d l 0 d some in
-      omega arith
-
-  -- so the first least arc pays what each does
-  least_same : All (λ a. first_pay pay (least_arcs pay arcs) ≡ pay a) (least_arcs pay arcs)
-  least_same =
-      first_same (least_arcs pay arcs)
-      (All-weaker (PaysLeast arcs) (PaysLeast (least_arcs pay arcs))
-      (λ a low. All-filter (is_least pay arcs) (λ b. pay a ≤ pay b) arcs low) (least_arcs pay arcs) least_low)
-
 module _ (at : Service) (plan : Best) where
   -- an assigned query pays the least that it can
   pays_least : (own : Held) (entry : Entry) (a : PriceAnswer) → own.service ≡ at → own.plan ≡ plan
@@ -231,7 +202,7 @@ module _ (at : Service) (plan : Best) where
       let arcs = arcs_of at (row_of entry) in
       sym
       (subst (λ (own_arc : Arc). first_pay pay (least_of at plan (row_of entry)) ≡ pay own_arc) there.2
-      (least_same pay arcs there.0 arc there.1))
+      (all_pay pay arcs there.0 arc there.1))
   pays_least own entry (Diverted arc) s p e t = absurd (true≢false (sym t))
   pays_least own entry Full s p e t = absurd (true≢false (sym t))
   pays_least own entry Unknown s p e t = absurd (true≢false (sym t))

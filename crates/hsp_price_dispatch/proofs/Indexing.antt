@@ -1,29 +1,28 @@
 -- What servers cost beside arcs, and where the cells of a class stand, by the lists that a front keeps for it.
-use Rattle.std.proofs.Common.{◌≡◌, ◌≤◌, ◌<◌, ◌+◌, ◌∙◌, ℕ, List, [], ◌∷◌, length, map, position, slice_index, All}
-use Rattle.std.proofs.Common.{None, Option, Some, ap, ap₂, arith, filter, inl, inr, length-set, refl, subst, sym, Bool}
+use Rattle.std.proofs.Common.{◌≡◌, ◌≤◌, ◌<◌, ◌∙◌, ℕ, List, [], ◌∷◌, length, position, slice_index, All}
+use Rattle.std.proofs.Common.{None, Option, Some, ap, ap₂, arith, filter, length-set, refl, subst, sym, Bool}
 use Rattle.std.specs.Str.{bytes_eq}
 use Rattle.std.specs.List.{AllByRecursion}
-use Rattle.std.proofs.Math.Path.{fun_ext}
-use Rattle.std.proofs.lemmas.Bool.{and_parts, cases_lt}
-use Rattle.std.proofs.lemmas.List.{get_or_past, length-map}
+use Rattle.std.proofs.lemmas.Bool.{and_parts}
+use Rattle.std.proofs.lemmas.List.{length-map}
 use Rattle.std.proofs.lemmas.Slice.Eq.{bytes_eq-Decides}
 use Rattle.std.proofs.lemmas.List.Elements.{All-from_recursion}
 use Rattle.std.proofs.lemmas.List.Quantifiers.{position-Some}
-use Rattle.hsp_check.specs.Prices.{at_host}
 use Rattle.hsp_tables.specs.Costs.{CostEntry}
 use Rattle.hsp_instance.specs.Building.{arcs_from, or_else}
-use Rattle.hsp_instance.specs.Instance.{Row, Server, Site}
+use Rattle.hsp_instance.specs.Instance.{Row, Site}
 use Rattle.hsp_instance.specs.RowArcs.{AreArcsOf, ArcsInTurn, IsWithin, row_named}
 use Rattle.hsp_instance.specs.declared.arc.Arc.{Arc}
 use Rattle.hsp_instance.proofs.ArcsWithin.{arcs_within}
 use Rattle.hsp_kinds.specs.Rows.{Service}
 use Rattle.hsp_price_text.specs.Claim.{Best}
-use Rattle.hsp_classes.specs.Least.{arcs_of, host_at, is_least, least_arcs, least_of, pay_over, price_at, servers_of}
+use Rattle.hsp_classes.specs.Least.{arcs_of, is_least, least_arcs, least_of, pay_over, servers_of}
 use Rattle.hsp_classes.proofs.Lists.{all_kept}
 use Rattle.hsp_dispatch.specs.Dispatch.{Entry}
 use Rattle.hsp_price_check.specs.ClassNumbers.{HasClasses, is_named}
 use Rattle.hsp_price_check.specs.Extras.{pay_by}
 use Rattle.hsp_price_check.specs.Passed.{class_at, no_class}
+use Rattle.hsp_price_check.proofs.PricePays.{pay_is}
 use Rattle.hsp_price_dispatch.specs.Choosing.{Least, LeadsWithin, answer_of, assigned, assigned_over, choice_among}
 use Rattle.hsp_price_dispatch.specs.Choosing.{choice_for, choice_over, class_number, elsewhere, least_for}
 use Rattle.hsp_price_dispatch.specs.Choosing.{or_full, row_of}
@@ -83,31 +82,11 @@ row_class_there plan region (arc ∷ other ∷ more) =
 module _ (own : Held) (index : Index) (is : IsIndexOf own index) where
   -- ---- least arcs
 
-  -- past the servers there is no price
-  none_past : (j : ℕ) → length own.plan.server_prices ≤ j → price_at own.service own.plan j ≡ 0
-  none_past j l =
-      let long = length-map own.service.servers (λ (server : Server). server.host) in
-      let no_host : host_at own.service j ≡ None =
-      get_or_past (map (λ server. server.host) own.service.servers) j None (omega (arith, long, is.prices)) in
-      omega (
-        arith,
-        get_or_past own.plan.server_prices j 0 l,
-        ap (λ host. at_host host (λ h. slice_index own.plan.host_prices h)) no_host,
-      )
-
-  -- the number for each server is its price and its host's
-  extra_is : (j : ℕ) → slice_index index.extras.items j ≡ price_at own.service own.plan j
-  extra_is j = elim (cases_lt j (length own.plan.server_prices)) [
-    | inl there ↦ is.extras.each j there
-    | inr past ↦
-        get_or_past index.extras.items j 0 (omega (arith, is.extras.many)) ∙ sym (none_past j past)
-  ]
-
-  -- so arcs are least by these numbers where they are least by the prices
+  -- arcs are least by these numbers where they are least by the prices
   pub least_is : (arcs : List Arc)
       → least_arcs (pay_by index.extras.items) arcs ≡ least_arcs (pay_over own.service own.plan) arcs
   least_is arcs =
-      ap (λ pay. least_arcs pay arcs) (fun_ext (λ (arc : Arc). ap (λ v. arc.cost + v) (extra_is arc.server)))
+      ap (λ pay. least_arcs pay arcs) (pay_is own.service own.plan index.extras.items is.extras is.prices)
 
   -- arcs to servers that are there lead to servers with a number
   pub within_extras : (arcs : List Arc) → AllByRecursion (IsWithin (length own.service.servers)) arcs

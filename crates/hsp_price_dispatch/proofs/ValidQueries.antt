@@ -2,13 +2,11 @@
 use Rattle.std.proofs.Common.{◌≡◌, ◌<◌, ◌≤◌, ◌+◌, ◌*◌, ◌==◌, ◌∙◌, ℕ, zero, suc, Bool, true, false, List, [], ◌∷◌, All}
 use Rattle.std.proofs.Common.{None, Option, Some, ap, arith, eq-eqb, get_or, if◌then◌else◌, inl, inr, is_some, length}
 use Rattle.std.proofs.Common.{map, ne_eqb, position, refl, subst, sum, sym}
-use Rattle.std.specs.List.{AllByRecursion, list_any, position_or_len}
-use Rattle.std.proofs.lemmas.Bool.{both_ways, cases_eq, cases_lt, false_from_ne_true, lt-ltb}
+use Rattle.std.specs.List.{AllByRecursion, list_any}
+use Rattle.std.proofs.lemmas.Bool.{both_ways, cases_eq, cases_lt, false_from_ne_true}
 use Rattle.std.proofs.lemmas.List.{get_or-map, length-map}
 use Rattle.std.proofs.lemmas.List.Elements.{All-from_recursion}
-use Rattle.std.proofs.lemmas.List.Folds.{list_any_at, list_any_none}
 use Rattle.std.proofs.lemmas.List.Quantifiers.{position-Some}
-use Rattle.std.proofs.lemmas.List.Sums.{fails_before_first}
 use Rattle.hsp_transport.specs.Sums.{sum_below}
 use Rattle.hsp_transport.proofs.Rowwise.{same_by, sum_by_none}
 use Rattle.hsp_transport.proofs.Summing.{sum_below_add, sum_below_same, sum_below_zero, sum_by_same_all, sum_by_map}
@@ -32,6 +30,7 @@ use Rattle.hsp_classes.proofs.Once.{AtMostOnce}
 use Rattle.hsp_dispatch.specs.Dispatch.{Entry}
 use Rattle.hsp_price_check.specs.ClassNumbers.{is_named}
 use Rattle.hsp_price_check.specs.Passed.{class_at, no_class}
+use Rattle.hsp_price_check.proofs.Positions.{fails_at, no_position, none_at, one_place}
 use Rattle.hsp_price_dispatch.specs.Choosing.{class_number, row_of}
 use Rattle.hsp_price_dispatch.specs.Planned.{AreWithinPlan, CostsWhatThePlanDoes, ValidIsWithinPlan, asked_at}
 use Rattle.hsp_price_dispatch.specs.Planned.{has_only, has_place, is_number, is_placed, only_least_where}
@@ -45,44 +44,15 @@ use Rattle.hsp_price_dispatch.proofs.Sums.{all_sends, as_times, load_is}
 -- ---- the class of a query
 
 module _ {A : Type 0} (test : A → Bool) where
-  -- where none passes, the one at a place doesn't
-  fails_at : (xs : List A) (k : ℕ) (d : A) → list_any test xs ≡ false → k < length xs
-      → test (get_or xs k d) ≡ false
-  fails_at xs k d none l =
-      false_from_ne_true (test (get_or xs k d)) (λ t. both_ways (list_any test xs) none (list_any_at test xs k d l t))
-
-  -- where there is no position none passes
-  none_at : (xs : List A) (k : ℕ) (d : A) → position test xs ≡ None → k < length xs → test (get_or xs k d) ≡ false
-  none_at xs k d e l = elim (cases_lt k (position_or_len test xs)) [
-    | inl before ↦ fails_before_first test xs k d before
-    | inr behind ↦
-        let there = lt-ltb (position_or_len test xs) (length xs) (omega arith) in
-        let some = rw there at e in
-        absurd (cc (some))
-  ]
-
-  -- so there is a position where one passes
+  -- there is a position where one passes
   some_position : (xs : List A) (o : Option ℕ) → position test xs ≡ o → list_any test xs ≡ true → is_some o ≡ true
-  some_position xs None e any =
-      absurd (both_ways (list_any test xs) (list_any_none test xs (λ k d l. none_at xs k d e l)) any)
+  some_position xs None e any = absurd (both_ways (list_any test xs) (no_position test xs e) any)
   some_position xs (Some k) e any = refl
 
-  -- where at most one passes, two that pass stand at one place
-  one_place : (xs : List A) (k l : ℕ) (d : A) → AtMostOnce test xs → k < length xs → l < length xs
-      → test (get_or xs k d) ≡ true → test (get_or xs l d) ≡ true → k ≡ l
-  one_place [] k l d once m n t u = absurd (omega arith)
-  one_place (x ∷ xs) zero zero d once m n t u = refl
-  one_place (x ∷ xs) zero (suc l) d once m n t u =
-      absurd (both_ways (list_any test xs) (once.0 t) (list_any_at test xs l d (omega arith) u))
-  one_place (x ∷ xs) (suc k) zero d once m n t u =
-      absurd (both_ways (list_any test xs) (once.0 u) (list_any_at test xs k d (omega arith) t))
-  one_place (x ∷ xs) (suc k) (suc l) d once m n t u =
-      ap suc (one_place xs k l d once.1 (omega arith) (omega arith) t u)
-
-  -- and the position is that of the one that passes
+  -- where at most one passes, the position is that of the one that passes
   number_at : (xs : List A) → AtMostOnce test xs → (k : ℕ) (d : A) → k < length xs → (o : Option ℕ)
       → position test xs ≡ o → is_number k o ≡ test (get_or xs k d)
-  number_at xs once k d l None e = sym (none_at xs k d e l)
+  number_at xs once k d l None e = sym (none_at test xs k d e l)
   number_at xs once k d l (Some i) e =
       let first = position-Some test xs i d e in
       elim (cases_eq i k) [
@@ -90,7 +60,7 @@ module _ {A : Type 0} (test : A → Bool) where
         | inr other ↦
             ne_eqb i k other
             ∙ sym
-            (false_from_ne_true (test (get_or xs k d)) (λ t. other (one_place xs i k d once first.0 l first.1 t)))
+            (false_from_ne_true (test (get_or xs k d)) (λ t. other (one_place test xs i k d once first.0 l first.1 t)))
       ]
 
 -- ---- servers and hosts that are there

@@ -22,7 +22,7 @@ use Rattle.hsp_price_check.specs.declared.numbers.ServiceNumbers.{ServiceNumbers
 use Rattle.hsp_group_plans.specs.Planning.{IsPlanFor}
 use Rattle.hsp_group_plans.specs.Solving.{HasArcsWithin, group_network}
 use Rattle.hsp_group_plans.proofs.GroupNetwork.{costs_low}
-use Rattle.hsp_group_plans.proofs.PlanParts.{same_pay}
+use Rattle.hsp_price_check.proofs.PricePays.{same_pay}
 use Rattle.hsp_price_plan.specs.Planning.{AreOfSome, IsValidFor}
 
 -- ---- prices
