@@ -8,5 +8,5 @@ pub mod GrammarSteps
 pub mod WholeRuns
 pub mod Standing
 pub mod LinesRead
-pub mod ReadSoFar
-pub mod OneAnswer
+pub mod LineReading
+pub mod Taking

@@ -1,11 +1,10 @@
 -- The text as far as it was read.
-use Rattle.std.proofs.Common.{◌≡◌, ◌<◌, ◌≤◌, ◌^◌, ◌+◌, ℕ, true, List, [], ◌∷◌, ◌++◌, length, map, Option, Some, None}
-use Rattle.std.proofs.Common.{refl, sym, ap, ◌∙◌, arith, append_assoc}
+use Rattle.std.proofs.Common.{◌≡◌, ◌<◌, ◌≤◌, ◌^◌, ◌+◌, ℕ, true, List, [], ◌∷◌, ◌++◌, length, map, Some}
+use Rattle.std.proofs.Common.{ap, ◌∙◌, arith}
 use Rattle.std.specs.Prelude.{nat_le, decimal}
 use Rattle.std.specs.List.{AllByRecursion, list_all}
 use Rattle.std.proofs.lemmas.Bool.{and_parts}
 use Rattle.std.proofs.lemmas.List.{map-append}
-use Rattle.std.proofs.lemmas.Option.{same_Some}
 use Rattle.std.proofs.lemmas.Bool.Decides.{nat_tests}
 use Rattle.hsp_cert.specs.declared.use_line.UseLine.{UseLine}
 use Rattle.hsp_cert.specs.declared.item.Word.{Word}
@@ -17,13 +16,14 @@ use Rattle.hsp_cert.specs.Certificate.Claim.{best, short}
 use Rattle.hsp_cert.specs.Text.{line_of, use_items, price_items, row_items, body_items, items_of, lines_of, version_of}
 use Rattle.hsp_cert.specs.Lexing.{item_in}
 use Rattle.hsp_cert.specs.Drafts.{Drafted}
-use Rattle.hsp_cert.specs.Steps.{step, step_line, start}
-use Rattle.hsp_cert.specs.Reading.{LinesStand}
+use Rattle.hsp_cert.specs.Steps.{start}
+use Rattle.hsp_cert.specs.Language.{LinesStand}
+use Rattle.hsp_cert.specs.Reading.{certificates}
 use Rattle.hsp_cert.specs.Words.{spelled}
 use Rattle.hsp_cert.proofs.LineCuts.{Unbroken}
 use Rattle.hsp_cert.proofs.ReadItems.{word_printed, Fits, reads_back}
 use Rattle.hsp_cert.proofs.SpelledNumbers.{Printed, printed_apart, decimal_printed, decimal_unbroken}
-use Rattle.hsp_cert.proofs.WholeRuns.{run, run-append, run_so_far, run_whole, first_step, ended}
+use Rattle.hsp_cert.proofs.WholeRuns.{run, run_so_far}
 use Rattle.hsp_cert.proofs.Standing.{draft_stands}
 use Rattle.hsp_text.proofs.Lists.{all_append}
 
@@ -130,41 +130,11 @@ lines_unbroken (i ∷ is) h = (line_unbroken i h.0, lines_unbroken is h.1)
 pub claim_unbroken : (claim : Claim) → IsCertificate claim → AllByRecursion Unbroken (lines_of claim)
 claim_unbroken claim h = lines_unbroken (items_of claim) (claim_fits claim h)
 
--- ---- lines that stand and lines that do not
-
--- the items up to a line of a certificate are those that were read
-pub up_to : (xs is : List Item) (line : List ℕ) (more : List (List ℕ)) → AllByRecursion ReadsBack xs
-    → AllByRecursion ReadsBack is → map line_of xs ≡ map line_of is ++ (line ∷ more) →
-    (i : Item) × (zs : List Item) × (xs ≡ is ++ (i ∷ zs)) × (line_of i ≡ line) × ReadsBack i
-up_to [] [] line more hx hi e = absurd cc
-up_to [] (y ∷ is) line more hx hi e = absurd cc
-up_to (x ∷ xs) [] line more hx hi e = let at : line_of x ≡ line = cc in (x, xs, refl, at, hx.0)
-up_to (x ∷ xs) (y ∷ is) line more hx hi e =
-    let at : line_of x ≡ line_of y = cc in
-    let tails : map line_of xs ≡ map line_of is ++ (line ∷ more) = cc in
-    let same = same_Some x y (sym hx.0 ∙ ap item_in at ∙ hi.0) in
-    let r = up_to xs is line more hx.1 hi.1 tails in
-    (r.0, r.1, ap (λ (j : Item). j ∷ xs) same ∙ ap (λ (l : List Item). y ∷ l) r.2, r.3, r.4)
-
--- a line that is not taken can't stand
-pub untaken : (is : List Item) (d : Drafted) (line : List ℕ) → AllByRecursion ReadsBack is
-    → run (Some start) is ≡ Some d → step_line d line ≡ None → LinesStand (map line_of is ++ line ∷ []) → ⊥
-untaken is d line back made none st =
-    let u =
-    up_to (items_of st.0) is line st.2 (claim_back st.0 st.1) back
-    (st.3 ∙ append_assoc (map line_of is) (line ∷ []) st.2) in
-    let whole : run (Some start) (is ++ (u.0 ∷ u.1)) ≡ Some (ended st.0) =
-    ap (run (Some start)) (sym u.2) ∙ run_whole st.0 st.1 in
-    let goes : run (Some d) (u.0 ∷ u.1) ≡ Some (ended st.0) =
-    ap (λ (o : Option Drafted). run o (u.0 ∷ u.1)) (sym made) ∙ sym (run-append (Some start) is (u.0 ∷ u.1))
-    ∙ whole in
-    let f = first_step (step d u.0) u.1 (ended st.0) goes in
-    let says : item_in line ≡ Some u.0 = ap item_in (sym u.3) ∙ u.4 in
-    let one : step d u.0 ≡ None = rw says at none in
-    absurd cc
+-- ---- lines that stand
 
 -- the lines that were read stand
-pub read_stand : (is : List Item) (d : Drafted) → run (Some start) is ≡ Some d → LinesStand (map line_of is)
+pub read_stand : (is : List Item) (d : Drafted) → run (Some start) is ≡ Some d
+    → LinesStand certificates (map line_of is)
 read_stand is d made =
     let v = run_so_far is d made in
     let s = draft_stands d v.0 in

@@ -31,11 +31,6 @@ abbrev pub run : Option Drafted → List Item → Option Drafted
 run o [] = o
 run o (i ∷ is) = run (stepped o i) is
 
--- items in two runs are taken one after the other
-pub run-append : (o : Option Drafted) (xs ys : List Item) → run o (xs ++ ys) ≡ run (run o xs) ys
-run-append o [] ys = refl
-run-append o (x ∷ xs) ys = run-append (stepped o x) xs ys
-
 -- nothing is taken once an item was refused
 pub run-none : (xs : List Item) → run None xs ≡ None
 run-none [] = refl

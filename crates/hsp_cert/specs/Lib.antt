@@ -5,4 +5,5 @@ pub mod Text
 pub mod Lexing
 pub mod Drafts
 pub mod Steps
+pub mod Language
 pub mod Reading

@@ -1,50 +1,17 @@
 -- What reading answers of a text.
-use Rattle.std.specs.Prelude.{◌≡◌, ◌<◌, ◌+◌, ℕ, List, [], ◌∷◌, ◌++◌, length, Result, Ok, Err, codes}
-use Rattle.std.specs.List.{AllByRecursion}
-use Rattle.hsp_text.specs.Lines.{IsUnbroken}
+use Rattle.std.specs.Prelude.{◌≡◌, ℕ, List, Result}
 use Rattle.hsp_cert.specs.declared.fault.CertFault.{CertFault}
-use Rattle.hsp_cert.specs.declared.fault.CertFault.TheVariants as fault
 use Rattle.hsp_cert.specs.Certificate.{Claim, IsCertificate}
-use Rattle.hsp_cert.specs.Text.{lines_of, text_of, unlines}
+use Rattle.hsp_cert.specs.Language.{Agrees, Language, MeansIn}
+use Rattle.hsp_cert.specs.Text.{lines_of, text_of}
 
--- the lines can stand at the front of some certificate's
-abbrev pub LinesStand : List (List ℕ) → Type 0
-LinesStand ls = (claim : Claim) × IsCertificate claim × (more : List (List ℕ)) × (lines_of claim ≡ ls ++ more)
+-- the language of certificates
+abbrev pub certificates : Language Claim
+certificates = record { Is = IsCertificate; lines_of = lines_of }
 
-abbrev pub HasNoEnd : List (List ℕ) → Type 0
-HasNoEnd ls = AllByRecursion (λ l. l ≡ codes "END" → ⊥) ls
-
--- line n, counted from 1, at or before END, is the first with LF that can't stand
-abbrev pub IsBadLine : List ℕ → ℕ → Type 0
-IsBadLine text n =
-    (before : List (List ℕ)) × (line : List ℕ) × (rest : List ℕ) × (text ≡ unlines before ++ (line ++ 10 ∷ rest))
-    × IsUnbroken line
-    × LinesStand before × HasNoEnd before × (LinesStand (before ++ line ∷ []) → ⊥) × (n ≡ length before + 1)
-
--- every line with LF stands, and none is END
-abbrev pub IsEnded : List ℕ → Type 0
-IsEnded text =
-    (before : List (List ℕ)) × (tail : List ℕ) × (text ≡ unlines before ++ tail) × IsUnbroken tail
-    × LinesStand before × HasNoEnd before
-
--- a certificate's text and an octet more
-abbrev pub IsAfterEnd : List ℕ → ℕ → Type 0
-IsAfterEnd text n =
-    (claim : Claim) × IsCertificate claim × (rest : List ℕ) × (0 < length rest) × (text ≡ text_of claim ++ rest)
-    × (n ≡ length (lines_of claim) + 1)
-
+-- the text is a certificate's, or has this fault
 abbrev pub Means : List ℕ → Result Claim CertFault → Type 0
-Means text (Ok claim) = IsCertificate claim × (text ≡ text_of claim)
-Means text (Err (fault.BadLine n)) = IsBadLine text n
-Means text (Err fault.Ended) = IsEnded text
-Means text (Err (fault.AfterEnd n)) = IsAfterEnd text n
-Means text (Err fault.OutOfMemory) = Unit {0}
-
--- the answers are one, unless memory ran out at either
-abbrev pub Agrees : Result Claim CertFault → Result Claim CertFault → Type 0
-Agrees (Err fault.OutOfMemory) other = Unit {0}
-Agrees result (Err fault.OutOfMemory) = Unit {0}
-Agrees result other = result ≡ other
+Means text result = MeansIn certificates text result
 
 -- no two certificates have one text
 abbrev pub HasOneSpelling : Type 0

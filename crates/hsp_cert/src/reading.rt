@@ -5,7 +5,8 @@ ghost use Rattle.hsp_cert.specs.declared.fault.CertFault.{CertFault};
 ghost use Rattle.hsp_cert.specs.Certificate.{Claim};
 ghost use Rattle.hsp_cert.specs.Drafts.{Took};
 ghost use Rattle.hsp_cert.specs.Steps.{step_line};
-ghost use Rattle.hsp_cert.specs.Reading.{Means, Agrees};
+ghost use Rattle.hsp_cert.specs.Language.{Agrees};
+ghost use Rattle.hsp_cert.specs.Reading.{Means};
 
 use crate::certificate::Certificate;
 use crate::draft::{Draft, take};

@@ -11,7 +11,7 @@ use Rattle.hsp_price_text.specs.Reading.{Means}
 use Rattle.hsp_price_text.specs.Text.{prices, text_of}
 use Rattle.hsp_price_text.specs.declared.certificate.PriceCertificate.{PriceCertificate}
 use Rattle.hsp_price_text.specs.declared.certificate.PriceCertificate.TheVariants.{Plan, Shortage}
-use Rattle.hsp_price_text.proofs.LineReading.{one_answer}
+use Rattle.hsp_cert.proofs.LineReading.{one_answer}
 use Rattle.hsp_price_text.proofs.Whole.{takes}
 use Rattle.hsp_dispatch.specs.declared.front_share.Front.{Front}
 use Rattle.hsp_price_dispatch.specs.Starting.{Fits, Stands}

@@ -1,15 +1,14 @@
 -- The regions of rows, each at its number, and what the rows of each of them have together.
 use Rattle.std.proofs.Common.{◌≡◌, ◌∙◌, ◌≤◌, ◌+◌, ◌⊎◌, ℕ, zero, suc, Bool, true, false, List, [], ◌∷◌, ◌++◌, Some}
-use Rattle.std.proofs.Common.{length, map, fold, inl, inr, ap, sym, refl, arith, length-append}
-use Rattle.std.specs.Prelude.{◌||◌, ◌==◌, if◌then◌else◌}
+use Rattle.std.proofs.Common.{length, map, inl, inr, ap, sym, refl, arith, length-append}
+use Rattle.std.specs.Prelude.{◌==◌, if◌then◌else◌}
 use Rattle.std.specs.List.{IsDistinct, list_any, slice_get}
 use Rattle.std.specs.Str.{bytes_eq}
-use Rattle.std.specs.Cmp.Lexicographic.{bytes_decides, nat_list_eq_equiv}
-use Rattle.std.proofs.lemmas.Bool.{cases_eq, cond_both, eq-eqb, false_from_ne_true, false≢true, ne_eqb}
-use Rattle.std.proofs.lemmas.List.Folds.{list_any-append}
+use Rattle.std.specs.Cmp.Lexicographic.{bytes_decides}
+use Rattle.std.proofs.lemmas.Bool.{cases_eq, eq-eqb, false_from_ne_true, false≢true, ne_eqb}
 use Rattle.std.proofs.lemmas.List.Sums.{sum_by-cons, sum_by_push}
-use Rattle.std.proofs.lemmas.Map.Keys.{IsDistinct-push}
 use Rattle.std.proofs.lemmas.Option.{slice_get_within}
+use Rattle.hsp_tables.proofs.SeenNames.{seen_among, seen_apart}
 use Rattle.hsp_instance.specs.Instance.{Row, regions_of}
 use Rattle.hsp_instance.specs.RowArcs.{with_region}
 use Rattle.hsp_instance.proofs.Lists.{one_place, pushed_at}
@@ -17,43 +16,6 @@ use Rattle.hsp_tally.proofs.KindCounts.{region_added}
 use Rattle.hsp_price_check.specs.Passed.{capped}
 use Rattle.hsp_price_check.specs.Regions.{rows_sum}
 use Rattle.hsp_price_check.proofs.SumSteps.{capped_where}
-
--- ---- names that are seen in turn
-
--- a name is there after another one was seen where it was there, or is that one
-seen_one : (q name : List ℕ) (seen : List (List ℕ))
-    → list_any (bytes_eq q) (with_region seen name) ≡ (list_any (bytes_eq q) seen || bytes_eq q name)
-seen_one q name seen =
-    let alike : bytes_eq q name ≡ true → list_any (bytes_eq q) seen ≡ list_any (bytes_eq name) seen =
-    λ e. ap (λ p. list_any (bytes_eq p) seen) ((bytes_decides q name).0 e) in
-    by (bytes_eq q name) (list_any (bytes_eq name) seen) (list_any (bytes_eq q) seen)
-    (list_any-append (bytes_eq q) seen (name ∷ [])) alike
-  where
-    by : (is there before : Bool)
-        → list_any (bytes_eq q) (seen ++ name ∷ []) ≡ (list_any (bytes_eq q) seen || list_any (bytes_eq q) (name ∷ []))
-        → (bytes_eq q name ≡ true → list_any (bytes_eq q) seen ≡ list_any (bytes_eq name) seen)
-        → list_any (bytes_eq q) (with_region seen name) ≡ (list_any (bytes_eq q) seen || bytes_eq q name)
-    by is there before added alike = grind arith
-
--- so the names that were seen are those that were there and the names
-seen_all : (q : List ℕ) (names seen : List (List ℕ))
-    → list_any (bytes_eq q) (fold with_region seen names) ≡ (list_any (bytes_eq q) seen || list_any (bytes_eq q) names)
-seen_all q [] seen = grind arith
-seen_all q (name ∷ names) seen = grind (arith, seen_all q names (with_region seen name), seen_one q name seen)
-
--- names that are seen in turn stay different
-all_distinct : (names seen : List (List ℕ)) → IsDistinct bytes_eq seen
-    → IsDistinct bytes_eq (fold with_region seen names)
-all_distinct [] seen apart = apart
-all_distinct (name ∷ names) seen apart =
-    all_distinct names (with_region seen name)
-    (cond_both (list_any (bytes_eq name) seen) seen (seen ++ name ∷ []) (IsDistinct bytes_eq) (λ there. apart)
-    (IsDistinct-push nat_list_eq_equiv seen name apart))
-
--- no names are different
-none_distinct : IsDistinct bytes_eq []
-unfolding IsDistinct
-none_distinct = tt
 
 -- ---- places
 
@@ -99,7 +61,7 @@ places_many names name k false is at =
 
 -- each region of rows has one place
 regions_apart : (rows : List Row) → IsDistinct bytes_eq (regions_of rows)
-regions_apart rows = all_distinct (map (λ (r : Row). r.region) rows) [] none_distinct
+regions_apart rows = seen_apart (map (λ (r : Row). r.region) rows)
 
 -- a region that is not among those of rows is that of no row
 no_row_of : (region : List ℕ) (weight : Row → ℕ) (rows : List Row)
@@ -116,7 +78,7 @@ no_row_of region weight (row ∷ rows) none =
 pub none_of : (region : List ℕ) (weight : Row → ℕ) (rows : List Row)
     → list_any (bytes_eq region) (regions_of rows) ≡ false → rows_sum weight rows region ≡ 0
 none_of region weight rows none =
-    no_row_of region weight rows (sym (seen_all region (map (λ (r : Row). r.region) rows) []) ∙ none)
+    no_row_of region weight rows (sym (seen_among region (map (λ (r : Row). r.region) rows)) ∙ none)
 
 module _ (weight : Row → ℕ) (rows : List Row) (row : Row) (number : ℕ) (old new : ℕ → ℕ)
     (placed : slice_get (regions_of (rows ++ row ∷ [])) number ≡ Some row.region)

@@ -1,5 +1,4 @@
 pub mod Parts
-pub mod LineReading
 pub mod Grammar
 pub mod DraftSteps
 pub mod Taking

@@ -9,11 +9,11 @@ use Rattle.hsp_price_text.specs.declared.certificate.PriceCertificate.TheVariant
 use Rattle.hsp_price_text.specs.Certificate.{IsCertificate}
 use Rattle.hsp_price_text.specs.Drafts.{Drafted, claimed_at, has_ended, has_ended_at, no_plan, no_set, reader}
 use Rattle.hsp_price_text.specs.Drafts.{start, step, step_at}
-use Rattle.hsp_price_text.specs.Language.{HasNoEnd, IsEnd, LinesStand, run}
+use Rattle.hsp_cert.specs.Language.{HasNoEnd, IsEnd, LinesStand, run}
 use Rattle.hsp_price_text.specs.Text.{body_lines, lines_of, numbered, prices, server_line}
 use Rattle.hsp_price_text.specs.Text.{version}
 use Rattle.hsp_price_text.proofs.DraftSteps.{Lines, Valid, Valid_at, so_far, so_far_at, step_next}
-use Rattle.hsp_price_text.proofs.LineReading.{run-none}
+use Rattle.hsp_cert.proofs.LineReading.{run-none}
 
 abbrev pub begun : Option Drafted
 begun = Some start

@@ -19,14 +19,14 @@ use Rattle.hsp_price_text.specs.Claim.{Best, Class, Short, is_before, is_class, 
 use Rattle.hsp_price_text.specs.Drafts.{Drafted, behind_servers_step, capacity_step, class_step, claimed}
 use Rattle.hsp_price_text.specs.Drafts.{cost_step, demand_step, has_ended, host_price_step, no_plan}
 use Rattle.hsp_price_text.specs.Drafts.{no_set, or_else, priced, reader, server_price_step, server_step, step}
-use Rattle.hsp_price_text.specs.Language.{LinesStand, run}
+use Rattle.hsp_cert.specs.Language.{LinesStand, run}
 use Rattle.hsp_price_text.specs.Lines.{class_in, numbers_behind, only_one}
 use Rattle.hsp_price_text.specs.Text.{body_lines, class_line, lines_of, numbered, price_lines, prices, server_line}
 use Rattle.hsp_price_text.specs.Text.{version}
 use Rattle.hsp_price_text.proofs.DraftSteps.{Lines, best_parts, draft, plan_of, short_parts}
 use Rattle.hsp_price_text.proofs.Grammar.{class_back, class_unbroken, letters, numbered_unbroken, one_back, two_back}
 use Rattle.hsp_price_text.proofs.Grammar.{unbroken_by}
-use Rattle.hsp_price_text.proofs.LineReading.{Takes}
+use Rattle.hsp_cert.proofs.LineReading.{Takes}
 use Rattle.hsp_price_text.proofs.Parts.{Fits}
 use Rattle.hsp_price_text.proofs.Taking.{begun, ended_at, has_end, open_by, run_so_far, stands_at, stops_at}
 

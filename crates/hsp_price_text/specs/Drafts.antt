@@ -12,7 +12,7 @@ use Rattle.hsp_price_text.specs.declared.stage.Stage.TheVariants as stage
 use Rattle.hsp_price_text.specs.Claim.{Best, Class, Short, is_before, is_class, is_server}
 use Rattle.hsp_price_text.specs.declared.certificate.PriceCertificate.{PriceCertificate}
 use Rattle.hsp_price_text.specs.declared.certificate.PriceCertificate.TheVariants.{Plan, Shortage}
-use Rattle.hsp_price_text.specs.Language.{Machine}
+use Rattle.hsp_cert.specs.Language.{Machine}
 use Rattle.hsp_price_text.specs.Lines.{class_in, numbers_behind, only_one, only_two}
 use Rattle.hsp_price_text.specs.Text.{version}
 

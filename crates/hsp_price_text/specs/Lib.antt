@@ -1,4 +1,3 @@
-pub mod Language
 pub mod Claim
 pub mod Certificate
 pub mod Text

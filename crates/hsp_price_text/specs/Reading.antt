@@ -3,7 +3,7 @@ use Rattle.std.specs.Prelude.{◌≡◌, List, ℕ, Result}
 use Rattle.hsp_cert.specs.declared.fault.CertFault.{CertFault}
 use Rattle.hsp_price_text.specs.Certificate.{IsCertificate}
 use Rattle.hsp_price_text.specs.declared.certificate.PriceCertificate.{PriceCertificate}
-use Rattle.hsp_price_text.specs.Language.{Agrees, MeansIn}
+use Rattle.hsp_cert.specs.Language.{Agrees, MeansIn}
 use Rattle.hsp_price_text.specs.Text.{prices, text_of}
 
 -- the text is a certificate's, or has this fault

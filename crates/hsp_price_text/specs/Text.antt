@@ -4,7 +4,7 @@ use Rattle.hsp_price_text.specs.Claim.{Best, Class}
 use Rattle.hsp_price_text.specs.declared.certificate.PriceCertificate.{PriceCertificate}
 use Rattle.hsp_price_text.specs.declared.certificate.PriceCertificate.TheVariants.{Plan, Shortage}
 use Rattle.hsp_price_text.specs.Certificate.{IsCertificate}
-use Rattle.hsp_price_text.specs.Language.{Language, text_in}
+use Rattle.hsp_cert.specs.Language.{Language, text_in}
 
 -- a space and a number, for each number
 abbrev pub spaced : List ℕ → List ℕ

@@ -6,7 +6,7 @@ ghost use Rattle.hsp_price_text.specs.Drafts.{behind_servers_step, body_step, ca
 ghost use Rattle.hsp_price_text.specs.Drafts.{demand_step};
 ghost use Rattle.hsp_price_text.specs.Drafts.{claimed, fixed_step, has_ended, host_price_step, kind_step, plan_step};
 ghost use Rattle.hsp_price_text.specs.Drafts.{priced, server_price_step, server_step, servers_step, start, step};
-ghost use Rattle.hsp_price_text.specs.Language.{Stepped};
+ghost use Rattle.hsp_cert.specs.Language.{Stepped};
 
 use crate::certificate::{PriceCertificate, PricedPlan, ShortServers};
 use crate::class::Class;

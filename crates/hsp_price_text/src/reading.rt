@@ -3,7 +3,7 @@
 ghost use Rattle.std.specs.Prelude.{Result};
 ghost use Rattle.hsp_cert.specs.declared.fault.CertFault.{CertFault};
 ghost use Rattle.hsp_price_text.specs.declared.certificate.PriceCertificate.{PriceCertificate};
-ghost use Rattle.hsp_price_text.specs.Language.{Agrees};
+ghost use Rattle.hsp_cert.specs.Language.{Agrees};
 ghost use Rattle.hsp_price_text.specs.Reading.{Means};
 
 use crate::certificate::PriceCertificate;

@@ -7,7 +7,8 @@ use Rattle.hsp_tables.proofs.TableRows.{whole_is_read}
 use Rattle.hsp_instance.specs.Instance.{Instance}
 use Rattle.hsp_cert.specs.Certificate.{Best, Claim}
 use Rattle.hsp_cert.specs.Certificate.Claim.{best, short}
-use Rattle.hsp_cert.specs.Reading.{Agrees, Means}
+use Rattle.hsp_cert.specs.Language.{Agrees}
+use Rattle.hsp_cert.specs.Reading.{Means}
 use Rattle.hsp_cert.specs.declared.fault.CertFault.{CertFault}
 use Rattle.hsp_cert.specs.declared.fault.CertFault.TheVariants as cert_fault
 use Rattle.hsp_check.specs.Instance.{network_of}

@@ -1,14 +1,12 @@
 -- Rows that are counted: their regions, their places, and the rows that were seen.
 use Rattle.std.proofs.Common.{◌≡◌, ◌∙◌, ◌⊎◌, ◌<◌, ◌≤◌, nat_lt, inl, inr, ℕ, zero, suc, Bool, true, List, [], ◌∷◌, ◌++◌}
-use Rattle.std.proofs.Common.{Some, Ok, Err, fold, length, length-append, map, refl, ap, sym, arith}
+use Rattle.std.proofs.Common.{Some, Ok, Err, length, length-append, map, refl, ap, sym, arith}
 use Rattle.std.proofs.lemmas.Bool.{cases_Bool, false≢true}
 use Rattle.std.proofs.lemmas.Cmp.{nat_list_eq_equiv}
 use Rattle.std.proofs.lemmas.List.{map-append}
-use Rattle.std.specs.Cmp.Lexicographic.{bytes_decides}
 use Rattle.std.specs.List.{AllByRecursion, list_any, position, position_or_len}
 use Rattle.std.specs.Str.{bytes_eq}
-use Rattle.indexmap.specs.IndexSet.{insert_key}
-use Rattle.hsp_tables.proofs.SeenNames.{first_seen-append}
+use Rattle.hsp_tables.proofs.SeenNames.{first_seen-append, seen_among}
 use Rattle.hsp_tables.specs.Costs.{CostEntry}
 use Rattle.hsp_tables.specs.Table.{first_seen}
 use Rattle.hsp_text.specs.declared.limits.TheConstants.{MOST_DEMAND_ROWS, MOST_REGIONS}
@@ -23,43 +21,6 @@ use Rattle.hsp_tally.specs.declared.fault.KindsFault.TheVariants.{TooManyKinds}
 use Rattle.hsp_tally.proofs.KindLists.{counted_last, place_is}
 
 -- ---- regions
-
--- what is in a list is in a longer one
-any_append : (p : List ℕ → Bool) (xs ys : List (List ℕ)) → list_any p xs ≡ true → list_any p (xs ++ ys) ≡ true
-any_append p [] ys e = absurd (false≢true e)
-any_append p (x ∷ xs) ys e = grind (arith, any_append p xs ys)
-
--- what is put last is in the list
-any_last : (p : List ℕ → Bool) (xs : List (List ℕ)) (y : List ℕ) → p y ≡ true → list_any p (xs ++ y ∷ []) ≡ true
-any_last p [] y e = grind arith
-any_last p (x ∷ xs) y e = grind (arith, any_last p xs y)
-
-module _ (name : List ℕ) where
-  -- a name that is there stays when another is put in
-  inserted_kept : (names : List (List ℕ)) (other : List ℕ) → list_any (bytes_eq name) names ≡ true
-      → list_any (bytes_eq name) (insert_key bytes_eq names other) ≡ true
-  inserted_kept names other e = grind (arith, any_append (bytes_eq name) names (other ∷ []) e)
-
-  -- a name that is put in is there
-  inserted_there : (names : List (List ℕ)) (other : List ℕ) → bytes_eq name other ≡ true
-      → list_any (bytes_eq name) (insert_key bytes_eq names other) ≡ true
-  inserted_there names other e =
-      let is : name ≡ other = (bytes_decides name other).0 e in
-      grind (arith, any_last (bytes_eq name) names other e)
-
-  -- a name that is there stays when more are put in
-  all_kept : (more names : List (List ℕ)) → list_any (bytes_eq name) names ≡ true
-      → list_any (bytes_eq name) (fold (insert_key bytes_eq) names more) ≡ true
-  all_kept [] names e = e
-  all_kept (other ∷ more) names e = all_kept more (insert_key bytes_eq names other) (inserted_kept names other e)
-
-  -- each name of those that are put in is there
-  all_there : (more names : List (List ℕ)) → list_any (bytes_eq name) more ≡ true
-      → list_any (bytes_eq name) (fold (insert_key bytes_eq) names more) ≡ true
-  all_there [] names e = absurd (false≢true e)
-  all_there (other ∷ more) names e =
-      let with = insert_key bytes_eq names other in
-      grind (arith, all_kept more with, inserted_there names other, all_there more with)
 
 -- a region that is there is not put in again
 pub there_already : (regions : List (List ℕ)) (region : List ℕ) → list_any (bytes_eq region) regions ≡ true
@@ -92,7 +53,7 @@ module _ (costs : List CostEntry) (sites : List Site) (row : Row) where
       → with_region (regions_of rows) row.region ≡ regions_of rows
   known_region rows e =
       there_already (regions_of rows) row.region
-      (all_there row.region (map (λ (r : Row). r.region) rows) [] (region_there rows e))
+      (seen_among row.region (map (λ (r : Row). r.region) rows) ∙ region_there rows e)
 
   -- counting a row of a known kind leaves the regions
   same_regions : (rows : List Row) → list_any (λ r. is_same_kind costs sites r row) rows ≡ true

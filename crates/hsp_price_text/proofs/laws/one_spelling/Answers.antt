@@ -1,6 +1,6 @@
 use Rattle.hsp_price_text.specs.Drafts.{reader}
 use Rattle.hsp_price_text.specs.Text.{prices}
-use Rattle.hsp_price_text.proofs.LineReading.{one_spelling}
+use Rattle.hsp_cert.proofs.LineReading.{one_spelling}
 use Rattle.hsp_price_text.proofs.Whole.{takes}
 use Rattle.hsp_price_text.proofs.laws.one_spelling.Goals as goal
 

@@ -1,8 +1,8 @@
 use Rattle.std.proofs.Common.{sym, subst}
 use Rattle.hsp_price_text.specs.Drafts.{reader}
 use Rattle.hsp_price_text.specs.Text.{prices}
-use Rattle.hsp_price_text.proofs.LineReading.{Progress, adds, after_end, bad_line, begins, ended_early, whole}
-use Rattle.hsp_price_text.proofs.LineReading.{whole_alone}
+use Rattle.hsp_cert.proofs.LineReading.{Progress, adds, after_end, bad_line, begins, ended_early, refused, took, whole}
+use Rattle.hsp_cert.proofs.LineReading.{whole_alone}
 use Rattle.hsp_price_text.proofs.Whole.{takes}
 use Rattle.hsp_price_text.proofs.reading.read_lines.Goals as goal
 
@@ -19,14 +19,16 @@ returns-in_default c =
 pub returns-then-not-taken : goal.returns-then-not-taken
 returns-then-not-taken c =
     bad_line prices reader takes c.args.text.now c.lines.rest.now c.in-Some.line.now c.in-Some.after.now c.lines.lines
-    c.lines.draft c.take.new.self c.lines.invariant (sym c.lines-test.ensures) c.in-Some.ensures.0 c.in-Some.ensures.1
-    (rw c.if-not-taken.true at c.in-Ok.ensures)
+    c.lines.draft c.lines.invariant (sym c.lines-test.ensures) c.in-Some.ensures.0 c.in-Some.ensures.1
+    (refused c.lines.draft (reader.step c.lines.draft c.in-Some.line.now) c.take.new.self
+    (rw c.if-not-taken.true at c.in-Ok.ensures))
 
 pub lines-preserved : goal.lines-preserved
 lines-preserved c =
     adds prices reader takes c.args.text.now c.lines.rest.now c.in-Some.line.now c.in-Some.after.now c.lines.lines
     c.lines.draft c.take.new.self c.lines.invariant (sym c.lines-test.ensures) c.in-Some.ensures.0
-    (rw c.if-not-taken.false at c.in-Ok.ensures)
+    (took c.lines.draft (reader.step c.lines.draft c.in-Some.line.now) c.take.new.self
+    (rw c.if-not-taken.false at c.in-Ok.ensures))
 
 pub returns-then-not-is_empty : goal.returns-then-not-is_empty
 returns-then-not-is_empty c =

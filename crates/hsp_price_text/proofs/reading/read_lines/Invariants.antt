@@ -1,7 +1,7 @@
 use Rattle.std.proofs.Common.{length}
 use Rattle.hsp_price_text.specs.Drafts.{reader}
 use Rattle.hsp_price_text.specs.Text.{prices}
-use Rattle.hsp_price_text.proofs.LineReading.{Progress}
+use Rattle.hsp_cert.proofs.LineReading.{Progress}
 use Rattle.hsp_price_text.proofs.Whole.{takes}
 use Rattle.hsp_price_text.proofs.reading.read_lines.Given as goal
 

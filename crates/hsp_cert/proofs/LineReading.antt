@@ -1,4 +1,4 @@
--- What a machine that takes a language's lines shows of a text. Five facts tie it to the language.
+-- What a machine that takes a language's lines shows of a text. Seven facts tie it to the language.
 use Rattle.std.proofs.Common.{◌≡◌, ◌≤◌, ◌+◌, ℕ, true, false, List, [], ◌∷◌, ◌++◌, length, Option, Some, None}
 use Rattle.std.proofs.Common.{Ok, Err, refl, sym, ap, subst, ◌∙◌, arith, inl, inr, append_assoc, length-append}
 use Rattle.std.specs.Prelude.{◌==◌}
@@ -13,8 +13,8 @@ use Rattle.hsp_cert.specs.declared.fault.CertFault.TheVariants as fault
 use Rattle.hsp_cert.proofs.LineCuts.{GoesOn, Unbroken, by_recursion, first_line, fronts, no_line, same_line}
 use Rattle.hsp_cert.proofs.LineCuts.{unlines-append}
 use Rattle.hsp_cert.proofs.ListSteps.{some_left}
-use Rattle.hsp_price_text.specs.Language.{Agrees, HasEnded, HasNoEnd, IsAfterEnd, IsBadLine, IsEnd, Language}
-use Rattle.hsp_price_text.specs.Language.{LinesStand, Machine, MeansIn, Stepped, run, stepped, text_in}
+use Rattle.hsp_cert.specs.Language.{Agrees, HasEnded, HasNoEnd, IsAfterEnd, IsBadLine, IsEnd, Language}
+use Rattle.hsp_cert.specs.Language.{LinesStand, Machine, MeansIn, Stepped, run, stepped, text_in}
 
 -- The machine takes exactly the lines of claims.
 pub record Takes {Draft Claim : Type 0} (language : Language Claim) (machine : Machine Draft Claim) : Type 0 where
@@ -50,16 +50,22 @@ module _ {Draft Claim : Type 0} (machine : Machine Draft Claim) where
   run-none [] = refl
   run-none (x ∷ xs) = run-none xs
 
+  -- a run that gave a draft began with one
+  pub first_step : (o : Option Draft) (xs : List (List ℕ)) (e : Draft) → run machine o xs ≡ Some e
+      → (d : Draft) × (o ≡ Some d)
+  first_step None xs e h = let n = run-none xs in absurd cc
+  first_step (Some d) xs e h = (d, refl)
+
 abbrev some_of : {A : Type 0} → A → Option A
 some_of x = Some x
 
 -- a step that was taken gave this
-took : {A : Type 0} (old : A) (o : Option A) (x : A) → Stepped old o true x → o ≡ Some x
+pub took : {A : Type 0} (old : A) (o : Option A) (x : A) → Stepped old o true x → o ≡ Some x
 took old None x h = absurd h
 took old (Some y) x h = ap some_of (sym h)
 
 -- a step that was not taken gave nothing
-refused : {A : Type 0} (old : A) (o : Option A) (x : A) → Stepped old o false x → o ≡ None
+pub refused : {A : Type 0} (old : A) (o : Option A) (x : A) → Stepped old o false x → o ≡ None
 refused old None x h = refl
 refused old (Some y) x h = absurd h
 
@@ -101,11 +107,10 @@ module _ {Draft Claim : Type 0} (language : Language Claim) (machine : Machine D
 
   -- a line more
   pub adds : (text rest line after : List ℕ) (lines : ℕ) (d e : Draft) → Progress text rest lines d
-      → machine.has_ended d ≡ false → rest ≡ line ++ 10 ∷ after → Stepped d (machine.step d line) true e
+      → machine.has_ended d ≡ false → rest ≡ line ++ 10 ∷ after → machine.step d line ≡ Some e
       → Progress text after (lines + 1) e
-  adds text rest line after lines d e g still cut t =
+  adds text rest line after lines d e g still cut step =
       let new : List (List ℕ) = line ∷ [] in
-      let step : machine.step d line ≡ Some e = took d (machine.step d line) e t in
       record {
         taken = g.taken ++ new;
         made =
@@ -122,10 +127,10 @@ module _ {Draft Claim : Type 0} (language : Language Claim) (machine : Machine D
       }
 
   -- a line that is refused is a bad one
-  pub bad_line : (text rest line after : List ℕ) (lines : ℕ) (d e : Draft) → Progress text rest lines d
-      → machine.has_ended d ≡ false → rest ≡ line ++ 10 ∷ after → IsUnbroken line
-      → Stepped d (machine.step d line) false e → IsBadLine language text (lines + 1)
-  bad_line text rest line after lines d e g still cut unbroken t = record {
+  pub bad_line : (text rest line after : List ℕ) (lines : ℕ) (d : Draft) → Progress text rest lines d
+      → machine.has_ended d ≡ false → rest ≡ line ++ 10 ∷ after → IsUnbroken line → machine.step d line ≡ None
+      → IsBadLine language text (lines + 1)
+  bad_line text rest line after lines d g still cut unbroken none = record {
     before = g.taken;
     line = line;
     rest = after;
@@ -133,7 +138,7 @@ module _ {Draft Claim : Type 0} (language : Language Claim) (machine : Machine D
     unbroken = unbroken;
     stand = takes.stand g.taken d g.made;
     no_end = g.no_end still;
-    bad = untaken g.taken d line g.made (refused d (machine.step d line) e t);
+    bad = untaken g.taken d line g.made none;
     number = omega (arith, g.count);
   }
 
