@@ -49,6 +49,8 @@ from hsp.proxy.runtime import Runtime
 SPREAD = 0.3
 STEPS = (12, 60)
 EXAMPLES = ("two-sites", "twelve-sites")
+# The commands that each measurement needs.
+NEEDED: dict[str, list[str]] = {"ways": [], "answers": ["haproxy", "wrk"], "swap": ["haproxy"]}
 # The loads of servers, by their names.
 Loads = Counter[str]
 Way = Callable[[list[Row]], Loads]
@@ -384,6 +386,10 @@ def main() -> int:
     words.add_argument("--seed", type=int, default=1, help="of the order and of the factors")
     words.add_argument("--seconds", type=int, default=4, help="for which wrk asks, each time")
     given = words.parse_args()
+    lacking = [name for name in NEEDED[given.what] if not shutil.which(name)]
+    if lacking:
+        print(f"proxy: {given.what} needs {' and '.join(lacking)}: apt-get install {' '.join(lacking)}", file=sys.stderr)
+        return 1
     os.environ.update(programs.variables())
     if programs.is_absent(*programs.variables().values()):
         return 1
