@@ -106,6 +106,13 @@ class Front:
         said = dict(line.partition(": ")[::2] for line in self.say("show info").splitlines())
         return int(said["Uptime_sec"])
 
+    def logged(self, lines: int) -> Path:
+        """The log, once it has so many lines. HAProxy writes one after it has answered."""
+        until = time.monotonic() + 10
+        while self.log.read_bytes().count(b"\n") < lines and time.monotonic() < until:
+            time.sleep(0.01)
+        return self.log
+
     def taken(self) -> dict[str, int]:
         """How many queries each server was given."""
         lines = [line.split() for line in self.say("show table taken").splitlines() if "key=" in line]

@@ -227,7 +227,7 @@ def test_the_whole_demand_of_two_sites_loads_servers_as_planned(hsp: Hsp, two: P
     with answering(hsp, two, tmp_path / "proxy", *TRUSTED) as front:
         got = asked_of(front, service, rows, CLIENTS)
         assert not drifted(Counter(rows), got, expected(service))
-        log = front.log
+        log = front.logged(len(rows))
     put(two, demand="")
     hsp("demand", str(log), "--regions", str(two / "networks.csv"), "-o", str(two / "demand.csv"))
     counted = {(region, handle): int(count) for region, handle, count in list(table(two / "demand.csv"))[1:]}

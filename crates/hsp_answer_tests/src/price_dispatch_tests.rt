@@ -143,212 +143,219 @@ fn begun<'a>(rt: &impl Abort, alloc: Global, held: &'a Held, front: Front) -> Pr
 
 // ---- queries
 
+// So many queries from a region for a handle, and the answer that each has.
 #[derive(Clone, Copy)]
-struct Query {
+struct Step {
     region: &'static [u8],
     handle: &'static [u8],
+    times: u32,
+    answer: PriceAnswer,
 }
 
-const FIRST: Query = Query {
-    region: b"r1",
-    handle: b"10/1",
-};
-
-const SECOND: Query = Query {
-    region: b"r1",
-    handle: b"10/2",
-};
-
-const THIRD: Query = Query {
-    region: b"r2",
-    handle: b"10/3",
-};
-
-const ELSEWHERE: Query = Query {
-    region: b"r9",
-    handle: b"10/3",
-};
+fn asked(region: &'static [u8], handle: &'static [u8], times: u32, answer: PriceAnswer) -> Step {
+    Step {
+        region,
+        handle,
+        times,
+        answer,
+    }
+}
 
 fn arc(site: u32, server: u32, cost: u64) -> Arc {
     Arc { site, server, cost }
 }
 
-// So many such queries have this answer each. A query that memory ran out for is asked again.
-fn get(
-    rt: &impl Abort,
+// From r2 by the class: the servers 1 and 2. From r1 over the only least arc.
+const NEAR: PriceAnswer = PriceAnswer::Assigned(Arc {
+    site: 0,
+    server: 1,
+    cost: 2,
+});
+
+const FAR: PriceAnswer = PriceAnswer::Assigned(Arc {
+    site: 1,
+    server: 2,
+    cost: 3,
+});
+
+const LEAST: PriceAnswer = PriceAnswer::Assigned(Arc {
+    site: 0,
+    server: 1,
+    cost: 1,
+});
+
+// The answer to a query. One that memory ran out for is asked again.
+fn answer(
     alloc: Global,
     dispatcher: &mut PriceDispatcher<'_>,
-    query: Query,
-    wanted: (u32, PriceAnswer),
-) {
-    let handle = HandleRef::parse(query.handle).expect(rt, "the handle is one");
-    for _again in 0..wanted.0 {
-        let answer = match dispatcher.assign(alloc, query.region, handle) {
-            Ok(answer) => Ok(answer),
-            Err(_) => dispatcher.assign(alloc, query.region, handle),
-        };
-        is_same(rt, answer.ok(), Some(wanted.1));
+    region: &[u8],
+    handle: HandleRef<'_>,
+) -> Option<PriceAnswer> {
+    match dispatcher.assign(alloc, region, handle) {
+        Ok(answer) => Some(answer),
+        Err(_) => dispatcher.assign(alloc, region, handle).ok(),
     }
+}
+
+// The queries of a step have its answer.
+fn get(rt: &impl Abort, alloc: Global, dispatcher: &mut PriceDispatcher<'_>, step: Step) {
+    let handle = HandleRef::parse(step.handle).expect(rt, "the handle is one");
+    for _again in 0..step.times {
+        let found = answer(alloc, dispatcher, step.region, handle);
+        is_same(rt, found, Some(step.answer));
+    }
+}
+
+fn get_all(rt: &impl Abort, alloc: Global, dispatcher: &mut PriceDispatcher<'_>, steps: &[Step]) {
+    for step in steps {
+        get(rt, alloc, dispatcher, *step);
+    }
+}
+
+// The texts that a front stands on, and which front it is.
+#[derive(Clone, Copy)]
+struct Given {
+    hosts: &'static [u8],
+    prices: &'static [u8],
+    front: Front,
+    ghost front_in: { front.number < front.fronts },
+}
+
+// A front gives these answers, one step after the other.
+fn gives(rt: &impl Abort, alloc: Global, given: Given, steps: &[Step]) {
+    let held = hold(rt, alloc, given.hosts, given.prices);
+    let mut dispatcher = begun(rt, alloc, &held, given.front);
+    get_all(rt, alloc, &mut dispatcher, steps);
+}
+
+// A front of the worked service without hosts.
+fn front_gives(rt: &impl Abort, alloc: Global, front: Front, steps: &[Step])
+    requires { front.number < front.fronts }
+{
+    let given = Given {
+        hosts: b"",
+        prices: PLAN,
+        front,
+    };
+    gives(rt, alloc, given, steps);
 }
 
 // The first amount goes first where the parts are the same. Then the second one has the greater part left. When both
 // are used up, the first least server with free room takes the rest.
-fn ask_a_class(rt: &impl Abort, alloc: Global, dispatcher: &mut PriceDispatcher<'_>) {
-    let near = PriceAnswer::Assigned(arc(0, 1, 2));
-    let far = PriceAnswer::Assigned(arc(1, 2, 3));
-    get(rt, alloc, dispatcher, THIRD, (1, near));
-    get(rt, alloc, dispatcher, THIRD, (2, far));
-    get(rt, alloc, dispatcher, THIRD, (5, near));
-    get(rt, alloc, dispatcher, THIRD, (2, PriceAnswer::Full));
-    get(rt, alloc, dispatcher, ELSEWHERE, (1, PriceAnswer::Unknown));
+fn of_a_class() -> [Step; 5] {
+    [
+        asked(b"r2", b"10/3", 1, NEAR),
+        asked(b"r2", b"10/3", 2, FAR),
+        asked(b"r2", b"10/3", 5, NEAR),
+        asked(b"r2", b"10/3", 2, PriceAnswer::Full),
+        asked(b"r9", b"10/3", 1, PriceAnswer::Unknown),
+    ]
 }
 
 #[test]
 fn a_class_goes_by_its_amounts_and_then_into_free_room(rt: HostRuntime) {
-    let alloc = rt.alloc();
-    let held = hold(&rt, alloc, b"", PLAN);
-    let mut dispatcher = begun(&rt, alloc, &held, ONLY);
-    ask_a_class(&rt, alloc, &mut dispatcher);
+    front_gives(&rt, rt.alloc(), ONLY, &of_a_class());
 }
 
 // Room that is held for a class goes last. What the class has lost so, it gets no more.
-fn ask_too_much(rt: &impl Abort, alloc: Global, dispatcher: &mut PriceDispatcher<'_>) {
-    let least = PriceAnswer::Assigned(arc(0, 1, 1));
-    let other = PriceAnswer::Diverted(arc(1, 4, 4));
-    let taken = PriceAnswer::Diverted(arc(0, 1, 1));
-    get(rt, alloc, dispatcher, FIRST, (5, least));
-    get(rt, alloc, dispatcher, FIRST, (10, other));
-    get(rt, alloc, dispatcher, FIRST, (1, taken));
-    get(rt, alloc, dispatcher, FIRST, (1, PriceAnswer::Full));
-    let far = PriceAnswer::Assigned(arc(1, 2, 3));
-    get(rt, alloc, dispatcher, THIRD, (2, far));
-    get(rt, alloc, dispatcher, THIRD, (1, PriceAnswer::Full));
+fn too_many() -> [Step; 6] {
+    [
+        asked(b"r1", b"10/1", 5, LEAST),
+        asked(b"r1", b"10/1", 10, PriceAnswer::Diverted(arc(1, 4, 4))),
+        asked(b"r1", b"10/1", 1, PriceAnswer::Diverted(arc(0, 1, 1))),
+        asked(b"r1", b"10/1", 1, PriceAnswer::Full),
+        asked(b"r2", b"10/3", 2, FAR),
+        asked(b"r2", b"10/3", 1, PriceAnswer::Full),
+    ]
 }
 
 #[test]
 fn room_that_is_held_goes_last(rt: HostRuntime) {
-    let alloc = rt.alloc();
-    let held = hold(&rt, alloc, b"", PLAN);
-    let mut dispatcher = begun(&rt, alloc, &held, ONLY);
-    ask_too_much(&rt, alloc, &mut dispatcher);
+    front_gives(&rt, rt.alloc(), ONLY, &too_many());
 }
 
 // The host has room for 7 beside the class, and its server 0 for 10.
-fn ask_a_host(rt: &impl Abort, alloc: Global, dispatcher: &mut PriceDispatcher<'_>) {
-    let least = PriceAnswer::Assigned(arc(0, 0, 1));
-    let other = PriceAnswer::Diverted(arc(1, 3, 4));
-    let taken = PriceAnswer::Diverted(arc(0, 0, 1));
-    get(rt, alloc, dispatcher, SECOND, (7, least));
-    get(rt, alloc, dispatcher, SECOND, (10, other));
-    get(rt, alloc, dispatcher, SECOND, (1, taken));
-    get(rt, alloc, dispatcher, SECOND, (1, PriceAnswer::Full));
+fn of_a_host() -> [Step; 4] {
+    [
+        asked(b"r1", b"10/2", 7, PriceAnswer::Assigned(arc(0, 0, 1))),
+        asked(b"r1", b"10/2", 10, PriceAnswer::Diverted(arc(1, 3, 4))),
+        asked(b"r1", b"10/2", 1, PriceAnswer::Diverted(arc(0, 0, 1))),
+        asked(b"r1", b"10/2", 1, PriceAnswer::Full),
+    ]
 }
 
 #[test]
 fn a_host_may_fill_before_its_servers(rt: HostRuntime) {
-    let alloc = rt.alloc();
-    let held = hold(&rt, alloc, HOST, HOSTED_PLAN);
-    let mut dispatcher = begun(&rt, alloc, &held, ONLY);
-    ask_a_host(&rt, alloc, &mut dispatcher);
+    let given = Given {
+        hosts: HOST,
+        prices: HOSTED_PLAN,
+        front: ONLY,
+    };
+    gives(&rt, rt.alloc(), given, &of_a_host());
 }
 
 // The first of two fronts has one query of each amount, and 3 of the free room of the server 1.
-fn ask_the_first(rt: &impl Abort, alloc: Global, dispatcher: &mut PriceDispatcher<'_>) {
-    let near = PriceAnswer::Assigned(arc(0, 1, 2));
-    let far = PriceAnswer::Assigned(arc(1, 2, 3));
-    get(rt, alloc, dispatcher, THIRD, (1, near));
-    get(rt, alloc, dispatcher, THIRD, (1, far));
-    get(rt, alloc, dispatcher, THIRD, (3, near));
-    get(rt, alloc, dispatcher, THIRD, (1, PriceAnswer::Full));
+fn of_the_first() -> [Step; 4] {
+    [
+        asked(b"r2", b"10/3", 1, NEAR),
+        asked(b"r2", b"10/3", 1, FAR),
+        asked(b"r2", b"10/3", 3, NEAR),
+        asked(b"r2", b"10/3", 1, PriceAnswer::Full),
+    ]
 }
 
 // The second one has none of the first amount, one of the second, and 2 of the free room.
-fn ask_the_second(rt: &impl Abort, alloc: Global, dispatcher: &mut PriceDispatcher<'_>) {
-    let near = PriceAnswer::Assigned(arc(0, 1, 2));
-    let far = PriceAnswer::Assigned(arc(1, 2, 3));
-    get(rt, alloc, dispatcher, THIRD, (1, far));
-    get(rt, alloc, dispatcher, THIRD, (2, near));
-    get(rt, alloc, dispatcher, THIRD, (1, PriceAnswer::Full));
+fn of_the_second() -> [Step; 3] {
+    [
+        asked(b"r2", b"10/3", 1, FAR),
+        asked(b"r2", b"10/3", 2, NEAR),
+        asked(b"r2", b"10/3", 1, PriceAnswer::Full),
+    ]
 }
 
 #[test]
 fn fronts_have_their_shares(rt: HostRuntime) {
-    let alloc = rt.alloc();
-    let held = hold(&rt, alloc, b"", PLAN);
-    let mut first = begun(&rt, alloc, &held, FIRST_OF_TWO);
-    ask_the_first(&rt, alloc, &mut first);
-    let mut second = begun(&rt, alloc, &held, SECOND_OF_TWO);
-    ask_the_second(&rt, alloc, &mut second);
+    front_gives(&rt, rt.alloc(), FIRST_OF_TWO, &of_the_first());
+    front_gives(&rt, rt.alloc(), SECOND_OF_TWO, &of_the_second());
 }
 
-// Handles that may go to the servers 1 and 4, and handles that may go to 1 and 2.
-#[derive(Clone, Copy)]
-struct Asked {
-    one: &'static [u8],
-    other_one: &'static [u8],
-    three: &'static [u8],
-    other_three: &'static [u8],
-    last_three: &'static [u8],
+// Handles that may go to the servers 1 and 4, and handles that may go to 1 and 2. Each is asked for twice or three
+// times. From r2 the second amount has the greater part left after the first query. From r1 only the server 1 is least
+// for each. From r9 nothing has a cost.
+fn of_the_same() -> [Step; 8] {
+    [
+        asked(b"r2", b"10/3", 1, NEAR),
+        asked(b"r1", b"10/1", 1, LEAST),
+        asked(b"r2", b"10/3", 1, FAR),
+        asked(b"r1", b"10/1", 1, LEAST),
+        asked(b"r1", b"10/3", 1, LEAST),
+        asked(b"r9", b"10/3", 1, PriceAnswer::Unknown),
+        asked(b"r2", b"10/3", 1, FAR),
+        asked(b"r9", b"10/3", 1, PriceAnswer::Unknown),
+    ]
 }
 
-// Each is asked twice or three times.
-const SAME: Asked = Asked {
-    one: b"10/1",
-    other_one: b"10/1",
-    three: b"10/3",
-    other_three: b"10/3",
-    last_three: b"10/3",
-};
-
-// No region asks for one twice.
-const OTHERS: Asked = Asked {
-    one: b"10/1",
-    other_one: b"10/7",
-    three: b"10/3",
-    other_three: b"10/5",
-    last_three: b"10/21",
-};
-
-fn query_from(region: &'static [u8], handle: &'static [u8]) -> Query {
-    Query { region, handle }
-}
-
-// From r2 the second amount has the greater part left after the first query. From r1 only the server 1 is least for
-// each. From r9 nothing has a cost.
-fn ask_in_turn(rt: &impl Abort, alloc: Global, dispatcher: &mut PriceDispatcher<'_>, asked: Asked) {
-    let near = PriceAnswer::Assigned(arc(0, 1, 2));
-    let far = PriceAnswer::Assigned(arc(1, 2, 3));
-    let least = PriceAnswer::Assigned(arc(0, 1, 1));
-    let unknown = PriceAnswer::Unknown;
-    let third = query_from(b"r2", asked.three);
-    get(rt, alloc, dispatcher, third, (1, near));
-    let first = query_from(b"r1", asked.one);
-    get(rt, alloc, dispatcher, first, (1, least));
-    let other_third = query_from(b"r2", asked.other_three);
-    get(rt, alloc, dispatcher, other_third, (1, far));
-    let other_first = query_from(b"r1", asked.other_one);
-    get(rt, alloc, dispatcher, other_first, (1, least));
-    let near_third = query_from(b"r1", asked.three);
-    get(rt, alloc, dispatcher, near_third, (1, least));
-    let lost_third = query_from(b"r9", asked.three);
-    get(rt, alloc, dispatcher, lost_third, (1, unknown));
-    let last_third = query_from(b"r2", asked.last_three);
-    get(rt, alloc, dispatcher, last_third, (1, far));
-    let lost_other = query_from(b"r9", asked.other_three);
-    get(rt, alloc, dispatcher, lost_other, (1, unknown));
+// The same with handles of which no region asks for one twice.
+fn of_others() -> [Step; 8] {
+    [
+        asked(b"r2", b"10/3", 1, NEAR),
+        asked(b"r1", b"10/1", 1, LEAST),
+        asked(b"r2", b"10/5", 1, FAR),
+        asked(b"r1", b"10/7", 1, LEAST),
+        asked(b"r1", b"10/3", 1, LEAST),
+        asked(b"r9", b"10/3", 1, PriceAnswer::Unknown),
+        asked(b"r2", b"10/21", 1, FAR),
+        asked(b"r9", b"10/5", 1, PriceAnswer::Unknown),
+    ]
 }
 
 #[test]
 fn handles_that_are_asked_again_have_the_answers_of_new_ones(rt: HostRuntime) {
-    let alloc = rt.alloc();
-    let held = hold(&rt, alloc, b"", PLAN);
-    let mut again = begun(&rt, alloc, &held, ONLY);
-    ask_in_turn(&rt, alloc, &mut again, SAME);
-    let mut fresh = begun(&rt, alloc, &held, ONLY);
-    ask_in_turn(&rt, alloc, &mut fresh, OTHERS);
+    front_gives(&rt, rt.alloc(), ONLY, &of_the_same());
+    front_gives(&rt, rt.alloc(), ONLY, &of_others());
 }
 
-// A query from this region is unknown. One that memory ran out for is asked again.
+// A query from this region is unknown.
 fn get_unknown(
     rt: &impl Abort,
     alloc: Global,
@@ -356,11 +363,8 @@ fn get_unknown(
     region: &[u8],
 ) {
     let handle = HandleRef::parse(b"10/3").expect(rt, "the handle is one");
-    let answer = match dispatcher.assign(alloc, region, handle) {
-        Ok(answer) => Ok(answer),
-        Err(_) => dispatcher.assign(alloc, region, handle),
-    };
-    is_same(rt, answer.ok(), Some(PriceAnswer::Unknown));
+    let found = answer(alloc, dispatcher, region, handle);
+    is_same(rt, found, Some(PriceAnswer::Unknown));
 }
 
 // There are more of them than a table of costs has regions. They take nothing.
@@ -373,7 +377,7 @@ fn regions_without_a_cost_are_unknown(rt: HostRuntime) {
         let region = [b'q', b'0' + number / 10, b'0' + number % 10];
         get_unknown(&rt, alloc, &mut dispatcher, &region);
     }
-    ask_a_class(&rt, alloc, &mut dispatcher);
+    get_all(&rt, alloc, &mut dispatcher, &of_a_class());
 }
 
 // A dispatcher by this certificate has this fault.

@@ -100,16 +100,21 @@ fn row_for(
 }
 
 // The rows of two handles of one kind, the first of which has a row, and of a handle without a row of its kind.
+fn rows_of(finder: &mut RowFinder<'_>, alloc: Global) -> Result<[Option<u32>; 3], AllocError> {
+    let own = row_for(finder, alloc, b"10/4")?;
+    let alike = row_for(finder, alloc, b"10/9")?;
+    let other = row_for(finder, alloc, b"10/3")?;
+    Ok([own, alike, other])
+}
+
+// The same by an instance and its costs.
 fn rows_by(
     alloc: Global,
     instance: &Instance,
     costs: &Costs,
 ) -> Result<[Option<u32>; 3], AllocError> {
     let mut finder = RowFinder::new(alloc, instance, costs)?;
-    let own = row_for(&mut finder, alloc, b"10/4")?;
-    let alike = row_for(&mut finder, alloc, b"10/9")?;
-    let other = row_for(&mut finder, alloc, b"10/3")?;
-    Ok([own, alike, other])
+    rows_of(&mut finder, alloc)
 }
 
 fn accepted(alloc: Global) -> Option<Accepted> {
