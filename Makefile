@@ -10,6 +10,7 @@
 # make check       runs what needs no kit, over the released programs: documents, examples, hsp, cases, random inputs
 # make test        runs the whole gate: the checks of documents and examples, every proof from nothing,
 #                  every test and every must-fail edit; without the kit it is `make check`, and ends with an error
+# make scripts     runs the checks of the programs that are built here, which end `make test`
 # make mutants     checks that each wrong body of mutants/ is refused by its test or case; outside the gate
 # make fuzz N=..   gives the built programs N inputs that are changed at random; outside the gate
 
@@ -20,7 +21,7 @@ DESTDIR ?=
 # HSPLAN and HSPLAN_STREAM name the programs that a check tries. Here these are the ones that are built.
 unexport HSPLAN HSPLAN_STREAM
 
-.PHONY: demo try install uninstall prove release deb quick check test gate unproved mutants fuzz
+.PHONY: demo try install uninstall prove release deb quick check test gate scripts unproved mutants fuzz
 
 demo:
 	@tools/demo.py
@@ -68,6 +69,10 @@ unproved:
 # The checks that need no built program run before the proofs.
 gate: quick
 	RT_JOBS=$${RT_JOBS:-$$(tools/gate/lanes.py)} rt ci
+	@tools/check.py --built
+
+# The checks of the programs that are built here, one after the other. The gate runs them side by side.
+scripts:
 	tools/gate/check_docs.py
 	tools/gate/check_examples.py
 	tools/gate/check_install.py

@@ -4,7 +4,6 @@ from __future__ import annotations
 
 import contextlib
 import http.client
-import os
 import socket
 import subprocess
 import tempfile
@@ -65,9 +64,14 @@ class Front:
             command = ["haproxy", "-f", str(self.config)]
             self.process = subprocess.Popen(command, stdout=file, stderr=subprocess.STDOUT, cwd="/")
         wait(self.process, self.port, self.log)
-        until = time.monotonic() + 10
-        while not os.path.exists(self.socket) and self.process.poll() is None and time.monotonic() < until:
+        until = time.monotonic() + 60
+        while not self._is_spoken_to() and self.process.poll() is None and time.monotonic() < until:
             time.sleep(0.01)  # it listens at the port first
+
+    def _is_spoken_to(self) -> bool:
+        """Whether the runtime socket is that of a process, and not what one left that is gone."""
+        with socket.socket(socket.AF_UNIX) as own:
+            return own.connect_ex(self.socket) == 0
 
     def kill(self) -> None:
         """Ends HAProxy without a word."""
@@ -108,7 +112,7 @@ class Front:
 
     def logged(self, lines: int) -> Path:
         """The log, once it has so many lines. HAProxy writes one after it has answered."""
-        until = time.monotonic() + 10
+        until = time.monotonic() + 60
         while self.log.read_bytes().count(b"\n") < lines and time.monotonic() < until:
             time.sleep(0.01)
         return self.log
@@ -145,7 +149,7 @@ def answering(hsp: Hsp, folder: Path, into: Path, *words: str) -> Iterator[Front
 
 def wait(process: "subprocess.Popen[bytes]", port: int, log: Path) -> None:
     """Waits until a HAProxy listens."""
-    until = time.monotonic() + 20
+    until = time.monotonic() + 60
     while time.monotonic() < until and process.poll() is None:
         with contextlib.suppress(OSError), socket.create_connection(("127.0.0.1", port), timeout=1):
             return

@@ -15,6 +15,7 @@ import shutil
 import signal
 import subprocess
 import sys
+import threading
 import time
 from collections.abc import Callable, Iterator
 from pathlib import Path
@@ -434,7 +435,28 @@ def test_a_damaged_log_is_named_and_not_tried_again(
     files |= {it: str(million.folder / f"{it}.csv") for it in ("costs", "capacity")}
     asked = {"fronts": FRONTS, "any_handle": False, "unit": None, "files": files, "front": 0, "what": "answer"}
     reply = parts.replied({**asked, "logs": [f"{tmp_path}/front"], "staged": [f"{tmp_path}/out"]})
-    assert reply["status"] == 1 and re.fullmatch(wanted.format("front"), reply["fault"])
+    assert reply["status"] == 1 and re.fullmatch(wanted.format("front"), reply["fault"]), reply
+
+
+def test_a_damaged_log_is_named_where_hsplan_has_ended(tmp_path: Path, monkeypatch: pytest.MonkeyPatch) -> None:
+    """What waits for hsplan can't be written then, which hides no fault."""
+    log = tmp_path / "front"
+    os.mkfifo(log)
+
+    def damage() -> None:
+        with log.open("wb", buffering=0) as pipe:
+            pipe.write(b"BZh9")
+            time.sleep(0.3)
+            pipe.write(b"damage")
+
+    monkeypatch.setenv("HSPLAN", "/bin/true")
+    writer = threading.Thread(target=damage)
+    writer.start()
+    asked = {"fronts": FRONTS, "any_handle": False, "unit": None, "files": {}, "front": 0, "what": "answer"}
+    reply = parts.replied({**asked, "logs": [str(log)], "staged": [f"{tmp_path}/out"]})
+    writer.join()
+    assert reply["status"] == 1, reply
+    assert re.fullmatch(rf"{log}: line 1: it can't be unpacked further: .+", reply["fault"]), reply
 
 
 def test_a_scheduler_that_goes_away_is_one_line(million: Million, tmp_path: Path) -> None:

@@ -340,7 +340,7 @@ def served(names: list[str]) -> Iterator[dict[str, http.server.ThreadingHTTPServ
         yield found
 
 
-def until(is_so: Callable[[], bool], seconds: float = 15) -> None:
+def until(is_so: Callable[[], bool], seconds: float = 60) -> None:
     """Waits until something is so."""
     end = time.monotonic() + seconds
     while not is_so():

@@ -404,16 +404,16 @@ def asked_evenly(fronts: list[Front], rows: list[tuple[str, str]], until_then: f
 def test_no_server_gets_above_its_capacity_where_the_demand_is_off(
     two: Path, into: Path, front: Front, are_two: bool, request: pytest.FixtureRequest
 ) -> None:
-    """With one proxy, and with two of which one is killed meanwhile: its last second isn't counted, and that is a
-    twelfth of this period."""
+    """With one proxy, and with two of which one is killed meanwhile: its last three seconds aren't counted, and they are
+    a twelfth of this period. It is long, since a machine may be busy."""
     fronts = [front, request.getfixturevalue("other")] if are_two else [front]
     more = [f"--into={beside(into)}"] if are_two else []
     service = read_service(str(two), Programs(), {})
     draws = (off_by(service, random.Random(seed)) for seed in range(100))
     rows = next(own for own in draws if 1.04 < unsteered(service, own) < 1.1)
-    period = period_of(12, 11)
+    period = period_of(36, 35)
     names = {url: name for name, url in urls_in(two).items()}
-    with steering(two, into, *more, "--period", period, "--every", "0.4") as own:
+    with steering(two, into, *more, "--period", period, "--every", "1.2") as own:
         turn = math.ceil(time.time() / float(period)) * float(period)
         time.sleep(max(0.0, turn - time.time()))
         until(lambda: bool(own.states()[-1]["left"] > 0.9))
@@ -706,7 +706,7 @@ def test_a_first_start_in_mid_period_counts_what_was_given_before(
     """HAProxy began before the period: of its counts those count that fall into the period, had they come evenly."""
     for _ in range(200):
         front.ask(f"/{HANDLE}", CLIENTS["eu"])
-    until(lambda: front.uptime() >= 4)
+    until(lambda: front.uptime() >= 10)
     period = period_of(1000, 2)
     words, before = ("--into", str(into), "--period", period), front.uptime()
     state = json.loads(hsp("steer", str(two), *words, "--once").stdout)

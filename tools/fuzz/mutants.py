@@ -6,8 +6,8 @@ refuses it.
 
 The prover lets most of these bodies pass: a contract allows out of memory at any time, and is silent on speed,
 streams and the texts of faults. So a test has to find them. The others turn a public call that an edit of the gate
-turns already, in another way: the prover has to refuse them. An edit mutants/CRATE/NAME.edit has lines like those of
-a must-fail edit, and one that names what has to refuse it:
+turns already, in another way, or a definition so that a law no longer holds: the prover has to refuse them. An edit
+mutants/CRATE/NAME.edit has lines like those of a must-fail edit, and one that names what has to refuse it:
 
   file: src/FILE.rt     the file of crates/CRATE that is changed
   test: CRATE NAME      a test, by its own name, of this crate or of one above it

@@ -24,27 +24,26 @@ from __future__ import annotations
 
 import argparse
 import concurrent.futures
-import functools
 import os
 import subprocess
 import sys
 import tempfile
+from collections.abc import Sequence
 from pathlib import Path
 from typing import NamedTuple
 
 sys.path.insert(0, str(Path(__file__).resolve().parents[1]))
 
-from lib import growth, memory, preload, programs
+from lib import children, growth, memory, preload, programs
 
 
-class Tried(NamedTuple):
-    """A test: its faults, how many of its allocations were refused, how many it has, the seconds to refuse each."""
+class Counted(NamedTuple):
+    """A test that ran without a refusal: its fault, if any, how many allocations it has, and the seconds it took."""
 
     test: str
     faults: list[str]
-    refused: int = 0
-    held: int = 0
-    seconds: float = 0
+    held: int
+    seconds: float
 
 
 def has_tests(crate: str) -> bool:
@@ -53,35 +52,39 @@ def has_tests(crate: str) -> bool:
     return any("#[test]" in programs.text_of(folder, it) for it in names)
 
 
-def run(program: str, test: str, preloaded: str, number: int) -> tuple[int, int | None, str]:
-    """Runs a test with the allocation of this number refused (0: none). Returns the status, the number of allocations
-    and the output."""
-    with tempfile.TemporaryDirectory() as room:
-        path = os.path.join(room, "count")
-        means = dict(os.environ, LD_PRELOAD=preloaded, REFUSE_GROWTH=str(number), COUNT_GROWTH=path)
-        ended = subprocess.run(
-            [program, test], env=means, stdout=subprocess.PIPE, stderr=subprocess.STDOUT, text=True, errors="replace"
-        )
-        return ended.returncode, preload.count_in(path), ended.stdout
-
-
 def tests_of(program: str) -> list[str]:
     listed = subprocess.run([program, "--list"], stdout=subprocess.PIPE, text=True).stdout
     return [line[: -len(": test")] for line in listed.splitlines() if line.endswith(": test")]
 
 
-def check_test(pool: concurrent.futures.Executor, program: str, test: str, preloaded: str, most: int | None) -> Tried:
-    before = memory.spent_below()
-    status, count, said = run(program, test, preloaded, 0)
-    spent = memory.spent_below() - before
-    if status or count is None:
-        return Tried(test, [f"{test}: status {status}, count {count}: {said}"])
-    chosen, faults = growth.numbers(count, most), []
-    answers = pool.map(functools.partial(run, program, test, preloaded), chosen)
-    for number, (status, reported, said) in zip(chosen, answers):
-        if status or reported is None:
-            faults.append(f"{test}: allocation {number} refused: status {status}: {said}")
-    return Tried(test, faults, len(chosen), count, count * spent)
+def counted(program: str, test: str, preloaded: str) -> Counted:
+    """What a test does without a refusal."""
+    with tempfile.TemporaryDirectory() as room:
+        path = os.path.join(room, "count")
+        before = memory.spent_below()
+        ended = subprocess.run(
+            [program, test],
+            env=dict(os.environ, LD_PRELOAD=preloaded, COUNT_GROWTH=path),
+            stdout=subprocess.PIPE,
+            stderr=subprocess.STDOUT,
+            text=True,
+            errors="replace",
+        )
+        spent, count = memory.spent_below() - before, preload.count_in(path)
+    fault = f"{test}: status {ended.returncode}, count {count}: {ended.stdout}"
+    return Counted(test, [fault] if ended.returncode or count is None else [], count or 0, spent)
+
+
+def refused(program: str, test: str, preloaded: str, numbers: Sequence[int]) -> list[str]:
+    """The faults of a test where each of these allocations is refused."""
+    words = [program.encode(), test.encode()]
+    found = children.ended(preloaded, words, b"", programs.TOP, list(map(str, numbers)))
+    faults = [] if len(found) == len(numbers) else [f"{test}: {len(found)} of {len(numbers)} allocations refused"]
+    return faults + [
+        f"{test}: allocation {number} refused: status {it.status}: {(it.output + it.error).decode(errors='replace')}"
+        for number, it in zip(numbers, found)
+        if it.status != 0
+    ]
 
 
 def check(pool: concurrent.futures.Executor, crate: str, preloaded: str, most: int | None) -> list[str]:
@@ -91,19 +94,22 @@ def check(pool: concurrent.futures.Executor, crate: str, preloaded: str, most: i
     program = os.path.join(programs.TOP, "crates", crate, "out", crate + "_tests")
     if not os.access(program, os.X_OK):
         return [f"{crate}: no test program {program}: run rt ci first"]
-    found = [check_test(pool, program, test, preloaded, most) for test in tests_of(program)]
-    faults = [f"{crate} {fault}" for tried in found for fault in tried.faults]
-    refused, count = sum(tried.refused for tried in found), sum(tried.held for tried in found)
-    faults += [] if found else [f"{crate}: the test program lists no test"]
-    faults += [] if refused or most == 0 and count else [f"{crate}: none of its tests took memory"]
+    tests = [counted(program, test, preloaded) for test in tests_of(program)]
+    chosen = {it.test: growth.numbers(it.held, most) for it in tests}
+    parts = [(test, part) for test, numbers in chosen.items() for part in children.pieces(numbers)]
+    found = pool.map(lambda it: refused(program, it[0], preloaded, it[1]), parts)
+    faults = [f"{crate} {fault}" for it in (*(test.faults for test in tests), *found) for fault in it]
+    count, held = sum(map(len, chosen.values())), sum(it.held for it in tests)
+    faults += [] if tests else [f"{crate}: the test program lists no test"]
+    faults += [] if count or most == 0 and held else [f"{crate}: none of its tests took memory"]
     print(
-        f"{crate}: {len(found)} tests, {refused} of {count} allocations refused, {len(faults)} faults, "
-        f"refusing all would take {sum(tried.seconds for tried in found) / 60:.1f} minutes of the processor",
+        f"{crate}: {len(tests)} tests, {count} of {held} allocations refused, {len(faults)} faults, "
+        f"refusing all would take at most {sum(it.held * it.seconds for it in tests) / 60:.1f} minutes of the processor",
         flush=True,
     )
-    for tried in found:
-        if tried.refused < tried.held:
-            print(f"  {tried.test}: {tried.refused} of {tried.held}", flush=True)
+    for it in tests:
+        if len(chosen[it.test]) < it.held:
+            print(f"  {it.test}: {len(chosen[it.test])} of {it.held}", flush=True)
     return faults
 
 

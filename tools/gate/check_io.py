@@ -42,17 +42,19 @@ import subprocess
 import sys
 import tempfile
 import threading
-from collections.abc import Callable
+from collections.abc import Callable, Sequence
 from pathlib import Path
 from typing import Any, NamedTuple
 
 sys.path.insert(0, str(Path(__file__).resolve().parents[1]))
 
-from lib import cases, failing, growth, preload, programs
+from lib import cases, children, failing, growth, preload, programs
 from lib.failing import Call
 
 Pool = concurrent.futures.Executor
 Kind = str | int
+# A call that fails, and how.
+Failure = tuple[Call, Kind]
 # What was printed on both streams, where that was captured, and the status.
 Streams = tuple[bytes | None, bytes | None, int]
 READ_FAILED = (b"", b"hsplan: read failed\n", 5)
@@ -102,9 +104,8 @@ def ordinary_run(tools: Tools, run: Run) -> tuple[cases.Ended, list[Call]]:
     """What a run does where no call fails, and its calls."""
     with tempfile.TemporaryDirectory() as room:
         reported = os.path.join(room, "reported")
-        got = cases.run(
-            tools.program, run.words, run.given, run.folder, LD_PRELOAD=tools.preloaded, REPORT_IO=reported
-        )
+        order = [tools.program.encode(), *run.words]
+        got = children.run(order, run.given, run.folder, LD_PRELOAD=tools.preloaded, REPORT_IO=reported)
         with open(reported) as lines:
             return got, failing.calls_of(lines)
 
@@ -189,8 +190,15 @@ def wanted(tools: Tools, run: Run, call: Call, kind: Kind, ordinary: cases.Ended
     return cut_answer(tools, run, call, call.before) if kind == "none" else after_read(tools, run, call)
 
 
-def fault_of(tools: Tools, run: Run, call: Call, kind: Kind, ordinary: cases.Ended) -> list[str]:
-    got = with_failure(tools, run, call, kind)
+def with_each_failure(tools: Tools, run: Run, tried: Sequence[Failure]) -> list[children.Child]:
+    """What a run does where each of these calls fails, in a child each."""
+    orders = [f"{call.name} {call.number} {kind}" for call, kind in tried]
+    words = [tools.program.encode(), *run.words]
+    return children.ended(tools.preloaded, words, run.given, run.folder, orders)
+
+
+def fault_of(tools: Tools, run: Run, failure: Failure, ordinary: cases.Ended, got: children.Child) -> list[str]:
+    call, kind = failure
     hoped = wanted(tools, run, call, kind, ordinary)
     way = "as arguments" if run.words else "on standard input"
     return (
@@ -216,8 +224,11 @@ def check_run(pool: Pool, tools: Tools, run: Run) -> tuple[list[str], int]:
     tried = [(call, kind) for call in calls for kind in ERRORS[call.name] if has_stand_in(call, kind, calls)]
     # Cases begin at different calls, so that all kinds of calls are tried.
     chosen = tried[len(run.case.name) % tools.each :: tools.each]
-    found = pool.map(lambda one: fault_of(tools, run, one[0], one[1], ordinary), chosen)
-    return [fault for faults in found for fault in faults], len(chosen)
+    parts = pool.map(lambda it: with_each_failure(tools, run, it), children.pieces(chosen))
+    ended = [child for part in parts for child in part]
+    faults = [] if len(ended) == len(chosen) else [f"{run.case.name}: {len(ended)} of {len(chosen)} calls failed"]
+    found = pool.map(lambda it: fault_of(tools, run, it[0], ordinary, it[1]), zip(chosen, ended))
+    return faults + [fault for faults in found for fault in faults], len(chosen)
 
 
 def check_cases(pool: Pool, tools: Tools, names: list[str], room: str) -> tuple[list[str], int]:

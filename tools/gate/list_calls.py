@@ -1,6 +1,6 @@
 #!/usr/bin/env python3
 """Lists the public calls of crates: what a call says of itself, the clauses of its contract with the definitions that
-they cite, and the must-fail edits that turn it.
+they cite, and the edits for the prover that turn it: those of the gate, and those of mutants/.
 
 An edit turns the function whose text it changes. Where that function is private, it turns the public calls that come
 to it through private functions.
@@ -20,6 +20,7 @@ import textwrap
 from collections import defaultdict
 from collections.abc import Iterator
 from pathlib import Path
+from typing import NamedTuple
 
 sys.path.insert(0, str(Path(__file__).resolve().parents[1]))
 
@@ -29,25 +30,43 @@ from lib.calls import Function
 PAGE = os.path.join(programs.TOP, "docs", "understand", "PROOF.md")
 
 
-def with_edits(crate: str, faults: list[str]) -> list[tuple[Function, list[str]]]:
-    """The public calls of a crate, each with the edits that turn it."""
-    functions = calls.crate_functions(crate)
+class Call(NamedTuple):
+    """A public call, and the names of the edits that turn it: those of the gate, and those of mutants/."""
+
+    function: Function
+    edits: list[str]
+    more: list[str]
+
+
+def turning(functions: list[Function], edits: list[str], faults: list[str]) -> dict[Function, list[str]]:
+    """The public calls that edits turn, each with their names."""
     by: defaultdict[Function, list[str]] = defaultdict(list)
-    for edit in calls.edits_of(crate):
+    for edit in edits:
         name, turned = os.path.basename(edit)[: -len(".edit")], calls.turned(functions, edit)
         if not turned and not calls.is_of_a_definition(edit):
-            faults.append(f"{crate}: the edit {name} turns no public call")
+            faults.append(f"{calls.crate_of(edit)}: the edit {name} turns no public call")
         for function in turned:
             by[function].append(name)
-    return [(it, by[it]) for it in functions if it.is_public and (it.clauses or it in by or it.doc)]
+    return by
 
 
-def shown(function: Function, edits: list[str]) -> Iterator[str]:
-    yield f"{function.called()}: {function.doc}"
-    for clause in function.clauses:
+def with_edits(crate: str, faults: list[str]) -> list[Call]:
+    """The public calls of a crate, each with the edits that turn it."""
+    functions = calls.crate_functions(crate)
+    by = turning(functions, calls.edits_of(crate), faults)
+    more = turning(functions, calls.more_edits_of(crate), faults)
+    public = [it for it in functions if it.is_public and (it.clauses or it in by or it in more or it.doc)]
+    return [Call(it, by.get(it, []), more.get(it, [])) for it in public]
+
+
+def shown(call: Call) -> Iterator[str]:
+    yield f"{call.function.called()}: {call.function.doc}"
+    for clause in call.function.clauses:
         yield f"  ensures {clause.label or '..'}: {', '.join(clause.cited) or 'in own words'}"
-    if edits:
-        yield f"  edits: {', '.join(edits)}"
+    if call.edits:
+        yield f"  edits: {', '.join(call.edits)}"
+    if call.more:
+        yield f"  edits outside the gate: {', '.join(call.more)}"
 
 
 def proved_crates() -> list[str]:
@@ -106,12 +125,15 @@ def main() -> int:
     if not given.check:
         for crate, functions in found.items():
             print(f"== {crate}")
-            for line in (line for it in functions for line in shown(*it)):
+            for line in (line for it in functions for line in shown(it)):
                 print(textwrap.fill(line, 118, subsequent_indent="    ", break_on_hyphens=False))
         return 0
     prose = Path(PAGE).read_text("utf-8")
     faults += wrong_calls(prose) + wrong_definitions(prose)
-    print("\n".join([*faults, f"calls: {sum(map(len, found.values()))}, {len(faults)} faults"]))
+    every = [call for functions in found.values() for call in functions]
+    gate, only_more = sum(bool(it.edits) for it in every), sum(bool(it.more and not it.edits) for it in every)
+    turned = f"{gate} turned by edits of the gate, {only_more} only by others"
+    print("\n".join([*faults, f"calls: {len(every)}, {turned}, {len(faults)} faults"]))
     return 1 if faults else 0
 
 

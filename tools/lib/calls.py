@@ -196,8 +196,13 @@ def callers(functions: list[Function], begun: Function) -> list[Function]:
     return found
 
 
+def crate_of(edit: str) -> str:
+    """The crate that an edit changes: crates/CRATE/must-fail/NAME.edit or mutants/CRATE/NAME.edit."""
+    return next(it for it in reversed(edit.split(os.sep)[:-1]) if it != "must-fail")
+
+
 def turned(functions: list[Function], edit: str) -> list[Function]:
-    """The public calls that a must-fail edit turns."""
+    """The public calls that an edit for the prover turns."""
     lines = [it for it in read(edit) if it.startswith(("file: ", "old: "))]
     file, found = "", []
     for line in lines:
@@ -205,7 +210,7 @@ def turned(functions: list[Function], edit: str) -> list[Function]:
         if word == "file":
             file = rest.strip()
             continue
-        text = read(os.path.join(os.path.dirname(os.path.dirname(edit)), file))
+        text = read(os.path.join(programs.TOP, "crates", crate_of(edit), file))
         at = next((number for number, it in enumerate(text) if rest.strip() in it), -1)
         own = [it for it in functions if it.file == os.path.basename(file)]
         brought = re.findall(r"\w+", rest) if rest.startswith("use ") else []
@@ -224,4 +229,12 @@ def is_of_a_definition(edit: str) -> bool:
 
 
 def edits_of(crate: str) -> list[str]:
+    """The edits that the prover has to refuse in the gate."""
     return sorted(glob.glob(os.path.join(programs.TOP, "crates", crate, "must-fail", "*.edit")))
+
+
+def more_edits_of(crate: str) -> list[str]:
+    """The edits that the prover has to refuse outside the gate, by `make mutants`."""
+    return [
+        it for it in sorted(glob.glob(os.path.join(programs.TOP, "mutants", crate, "*.edit"))) if "prover:" in read(it)
+    ]

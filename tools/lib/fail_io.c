@@ -1,4 +1,4 @@
-/* Preloaded before a program: makes one call of `open`, `read`, `write` or `close` fail, and records every such call.
+/* Preloaded before a program: makes a call of `open`, `read`, `write` or `close` fail, and records every such call.
  *
  *   FAIL_IO   CALL NUMBER KIND [on]: the call with this number, counted from 1 among the calls of its name, fails.
  *             KIND is
@@ -7,18 +7,15 @@
  *               short                the call gives or takes 1 octet
  *               shrink               the file that is read is cut where the reading stands
  *             With `on` each later call of that name fails in the same way.
+ *   EACH_CHILD   a file of such lines, in the order in which the program makes the calls: each call fails in a child
+ *             (tools/lib/children.h)
  *   REPORT_IO   a file that gets a line for each call: CALL DESCRIPTOR RESULT PATH. PATH is that of the opened file,
  *             or `-`.
  */
 #define _GNU_SOURCE
-#include <errno.h>
-#include <fcntl.h>
+#include "children.h"
 #include <stdarg.h>
-#include <stdio.h>
-#include <stdlib.h>
 #include <string.h>
-#include <sys/syscall.h>
-#include <unistd.h>
 
 enum { OPEN, READ, WRITE, CLOSE, CALLS };
 enum { NONE = -1, SHORT = -2, SHRINK = -3 };
@@ -42,11 +39,12 @@ static int kind_of(const char *word)
     return strcmp(word, "shrink") ? atoi(word) : SHRINK;
 }
 
-__attribute__((constructor)) static void set_out(void)
+/* Takes an order, of which there may be none. */
+static void take(const char *order)
 {
-    const char *order = getenv("FAIL_IO");
     char call[8], word[16], on[4];
-    int words = order ? sscanf(order, "%7s %ld %15s %3s", call, &failing_number, word, on) : 0;
+    int words = order ? sscanf(order, "%7s %ld %15s%*1[ ]%3[on]", call, &failing_number, word, on) : 0;
+    failing_call = CALLS;
     if (words < 3)
         return;
     for (failing_call = 0; failing_call < CALLS && strcmp(names[failing_call], call); failing_call++)
@@ -55,10 +53,29 @@ __attribute__((constructor)) static void set_out(void)
     goes_on = words == 4;
 }
 
+__attribute__((constructor)) static void set_out(void)
+{
+    set_out_children();
+    take(line_of_a_child() ? line_of_a_child() : getenv("FAIL_IO"));
+}
+
+static int is_ordered(int call)
+{
+    return call == failing_call && (counts[call] == failing_number || (goes_on && counts[call] > failing_number));
+}
+
+/* Whether the call fails: in the program, where there are lines of children, only ever in a child. */
 static int fails(int call)
 {
-    long number = ++counts[call];
-    return call == failing_call && (number == failing_number || (goes_on && number > failing_number));
+    counts[call]++;
+    if (is_child || !line_of_a_child())
+        return is_ordered(call);
+    while (call == failing_call && counts[call] == failing_number) {
+        if (is_in_a_child())
+            return 1;
+        take(line_of_a_child());
+    }
+    return 0;
 }
 
 static const char *path_of(int descriptor)

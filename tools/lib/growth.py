@@ -2,10 +2,11 @@
 from __future__ import annotations
 
 import argparse
-import os
 from collections.abc import Sequence
 
-# Of a test or case with more than MOST allocations, MOST are refused. With more than MANY, a run takes longer: then a
+from lib import lanes
+
+# Of a test with more than MOST allocations, MOST are refused. With more than MANY, a run takes longer: then a
 # fifth of MOST are refused.
 MOST = 2000
 MANY = 20_000
@@ -26,5 +27,5 @@ def numbers(count: int, most: int | None = None) -> Sequence[int]:
 def jobs_of(words: argparse.ArgumentParser) -> None:
     """Adds the argument for the number of runs side by side."""
     words.add_argument(
-        "--jobs", type=int, default=os.cpu_count() or 1, help="number of runs side by side (one for each processor)"
+        "--jobs", type=int, default=lanes.processors(), help="number of runs side by side (one for each processor)"
     )

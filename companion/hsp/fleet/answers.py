@@ -122,12 +122,14 @@ def _ran(request: dict[str, Any], out: IO[bytes]) -> tuple[int, str, list[int]]:
     """Runs the command. Returns its status, its last line and the rows of each file."""
     words = [*DIES_WITH_ITS_PARENT, *words_of(request), "--log", "/dev/stdin"]
     with subprocess.Popen(words, stdin=subprocess.PIPE, stdout=out, stderr=subprocess.PIPE) as run:
+        assert run.stdin and run.stderr
         try:
-            assert run.stdin and run.stderr
             counts = _feed(run.stdin, request)
             said = run.stderr.read().decode("utf-8", "replace").strip()
         except BaseException:
             run.kill()
+            with contextlib.suppress(BrokenPipeError):  # what still waits for hsplan hides no fault
+                run.stdin.close()
             raise
     return run.returncode, said, counts
 

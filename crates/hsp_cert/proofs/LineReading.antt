@@ -56,7 +56,7 @@ module _ {Draft Claim : Type 0} (machine : Machine Draft Claim) where
   first_step None xs e h = let n = run-none xs in absurd cc
   first_step (Some d) xs e h = (d, refl)
 
-abbrev some_of : {A : Type 0} → A → Option A
+abbrev pub some_of : {A : Type 0} → A → Option A
 some_of x = Some x
 
 -- a step that was taken gave this

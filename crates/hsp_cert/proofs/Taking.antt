@@ -17,7 +17,7 @@ use Rattle.hsp_cert.specs.Drafts.{Drafted, Took}
 use Rattle.hsp_cert.specs.Steps.{claimed, has_ended, said_step, staged, start, step, step_at, step_line}
 use Rattle.hsp_cert.specs.Language.{HasNoEnd, IsEnd, LinesStand, Machine, run, stepped}
 use Rattle.hsp_cert.specs.Reading.{certificates}
-use Rattle.hsp_cert.proofs.LineReading.{Takes, first_step}
+use Rattle.hsp_cert.proofs.LineReading.{Takes, first_step, some_of}
 use Rattle.hsp_cert.proofs.LinesRead.{ReadsBack, claim_back, claim_unbroken, read_stand}
 use Rattle.hsp_cert.proofs.ListSteps.{when_taken}
 use Rattle.hsp_cert.proofs.ReadItems.{item_spelled}
@@ -29,9 +29,6 @@ abbrev pub reader : Machine Drafted Claim
 reader = record { start = start; step = step_line; has_ended = λ d. has_ended d.stage; claimed = claimed }
 
 -- ---- a line taken, and a line refused
-
-abbrev some_of : {A : Type 0} → A → Option A
-some_of x = Some x
 
 -- a step that was taken gave this
 pub took : {A : Type 0} (o : Option A) (x : A) → Took o true x → o ≡ Some x

@@ -8,7 +8,7 @@ use hsp_text::limits::{GREATEST_SUM, MOST_DEMAND_ROWS, MOST_HOSTS, MOST_SERVERS}
 use std::marker::Model;
 
 // A plan with its prices.
-#[derive(Debug, Drop)]
+#[derive(Drop)]
 pub(crate) struct PricedPlan {
     pub(crate) cost: u64,
     pub(crate) uses: Vec<UseLine>,
@@ -32,7 +32,7 @@ impl Model for PricedPlan {
 }
 
 // A set of rows with what it asks for and what it can reach.
-#[derive(Debug, Drop)]
+#[derive(Drop)]
 pub(crate) struct ShortSet {
     pub(crate) rows: Vec<u32>,
     pub(crate) demand: u64,
@@ -47,7 +47,7 @@ impl Model for ShortSet {
     ghost view = { λ s. record { rows = s.rows.items; demand = s.demand; capacity = s.capacity } };
 }
 
-#[derive(Debug, Drop)]
+#[derive(Drop)]
 pub(crate) enum Shown {
     Plan(PricedPlan),
     Shortage(ShortSet),
@@ -55,7 +55,7 @@ pub(crate) enum Shown {
 
 /// A plan with its prices, or a short set of rows with its sums. Its numbers are always within the orders and ranges of
 /// a certificate's text.
-#[derive(Debug, Drop)]
+#[derive(Drop)]
 pub struct Certificate {
     pub(crate) shown: Shown,
 }

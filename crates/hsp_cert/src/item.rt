@@ -4,7 +4,7 @@ ghost use Rattle.std.specs.Prelude.{◌≡◌};
 ghost use Rattle.hsp_cert.specs.Words.{spelled};
 
 /// The words that begin a line.
-#[derive(Clone, Copy, Debug, PartialEq, Eq)]
+#[derive(Clone, Copy)]
 pub(crate) enum Word {
     Version,
     Plan,
@@ -20,7 +20,7 @@ pub(crate) enum Word {
 }
 
 /// A word and the numbers behind it.
-#[derive(Clone, Copy, Debug, PartialEq, Eq)]
+#[derive(Clone, Copy)]
 pub(crate) enum Item {
     Alone(Word),
     One(Word, u64),

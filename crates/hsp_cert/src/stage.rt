@@ -1,5 +1,5 @@
 /// What the next line may be.
-#[derive(Clone, Copy, Debug, PartialEq, Eq)]
+#[derive(Clone, Copy)]
 pub(crate) enum Stage {
     Version,
     Kind,

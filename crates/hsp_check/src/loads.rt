@@ -8,7 +8,7 @@ use crate::sums::{End, add_hosts, add_up};
 use std::alloc::{AllocError, Global};
 
 /// What each row gets, and what each server and each host takes, in queries.
-#[derive(Debug, Drop)]
+#[derive(Drop)]
 pub struct Loads {
     pub rows: Vec<u128>,
     pub servers: Vec<u128>,

@@ -12,7 +12,7 @@ use crate::arc::NetworkArc;
 use std::alloc::{AllocError, Global};
 
 /// An arc with what a plan gives it, in queries.
-#[derive(Clone, Copy, Debug)]
+#[derive(Clone, Copy)]
 pub struct ArcFlow {
     pub arc: NetworkArc,
     pub flow: u64,

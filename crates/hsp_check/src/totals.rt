@@ -20,7 +20,7 @@ use hsp_instance::Instance;
 use std::alloc::{AllocError, Global};
 
 /// The sums of a plan and of its prices.
-#[derive(Debug, Drop)]
+#[derive(Drop)]
 pub struct PlanSums {
     pub loads: Loads,
     /// What the plan costs.

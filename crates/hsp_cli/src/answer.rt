@@ -18,7 +18,7 @@ use hsp_runs::{
 use std::alloc::Global;
 
 /// A text for standard output, and the status to end with after it.
-#[derive(Debug, Drop)]
+#[derive(Drop)]
 pub struct Answer {
     pub text: Vec<u8>,
     pub status: u8,
@@ -26,7 +26,7 @@ pub struct Answer {
 
 /// What a command ends with that was carried out: a status and, where it answered a log, the log's sums. `S` has the
 /// sums of a program's runs.
-#[derive(Debug, Drop)]
+#[derive(Drop)]
 pub struct Completed<S> {
     pub status: u8,
     pub sums: Option<S>,

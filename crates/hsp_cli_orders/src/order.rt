@@ -5,7 +5,7 @@ ghost use Rattle.std.specs.Prelude.{◌≡◌, ℕ, List};
 use std::marker::Model;
 
 /// The value of an option, or a word by its place: text among the words, seen as its octets.
-#[derive(Debug, Drop)]
+#[derive(Drop)]
 pub struct Word<'a> {
     text: &'a str,
 }
@@ -40,7 +40,7 @@ impl<'a> Word<'a> {
 }
 
 /// The files that say what is to be planned: `--settings F [--values F] --demand F --costs F --capacity F`.
-#[derive(Debug, Drop)]
+#[derive(Drop)]
 pub struct InputFiles<'a> {
     pub settings: Word<'a>,
     pub values: Option<Word<'a>>,
@@ -61,7 +61,7 @@ pub enum AskedReport {
 }
 
 /// One command with its values.
-#[derive(Debug, Drop)]
+#[derive(Drop)]
 pub enum Order<'a> {
     /// `locate --option O --servers N HANDLE`
     LocatePlace {

@@ -3,14 +3,14 @@
 use crate::order::{InputFiles, Word};
 
 /// The number of fronts, and the number of one of them: `--fronts N --front K`.
-#[derive(Debug, Drop)]
+#[derive(Drop)]
 pub struct FrontWords<'a> {
     pub fronts: Word<'a>,
     pub front: Word<'a>,
 }
 
 /// A log, and what its rows are joined by: `--settings F [--values F] --costs F --log F`.
-#[derive(Debug, Drop)]
+#[derive(Drop)]
 pub struct KindFiles<'a> {
     pub settings: Word<'a>,
     pub values: Option<Word<'a>>,
@@ -19,21 +19,21 @@ pub struct KindFiles<'a> {
 }
 
 /// What defines sites: `--settings F [--values F]`.
-#[derive(Debug, Drop)]
+#[derive(Drop)]
 pub struct SiteFiles<'a> {
     pub settings: Word<'a>,
     pub values: Option<Word<'a>>,
 }
 
 /// A log, and the sites at which its handles have places: the files of the sites with `--log F`.
-#[derive(Debug, Drop)]
+#[derive(Drop)]
 pub struct PlaceFiles<'a> {
     pub sites: SiteFiles<'a>,
     pub log: Word<'a>,
 }
 
 /// A log, a certificate, and what that is checked by: the files of the inputs with `--plan F --log F`.
-#[derive(Debug, Drop)]
+#[derive(Drop)]
 pub struct PlanFiles<'a> {
     pub inputs: InputFiles<'a>,
     pub plan: Word<'a>,
@@ -41,7 +41,7 @@ pub struct PlanFiles<'a> {
 }
 
 /// A log, and the service that its queries are for: `--settings F [--values F] --costs F --capacity F --log F`.
-#[derive(Debug, Drop)]
+#[derive(Drop)]
 pub struct ServiceFiles<'a> {
     pub settings: Word<'a>,
     pub values: Option<Word<'a>>,
@@ -51,14 +51,14 @@ pub struct ServiceFiles<'a> {
 }
 
 /// A log with its service, and a certificate by prices: the files of the service with `--prices F`.
-#[derive(Debug, Drop)]
+#[derive(Drop)]
 pub struct PriceFiles<'a> {
     pub service: ServiceFiles<'a>,
     pub prices: Word<'a>,
 }
 
 /// What a report by prices shows.
-#[derive(Clone, Copy, Debug, PartialEq, Eq)]
+#[derive(Clone, Copy)]
 pub enum AskedPriceReport {
     /// `load`: what each server takes.
     Load,
@@ -80,7 +80,7 @@ pub enum FaultsOf {
 }
 
 /// One command of `hsplan-stream` with its values.
-#[derive(Debug, Drop)]
+#[derive(Drop)]
 pub enum StreamOrder<'a> {
     /// `--help`, also behind a command
     Help,

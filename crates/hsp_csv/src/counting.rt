@@ -11,7 +11,7 @@ use csv::ByteRecord;
 use std::alloc::Global;
 
 // How many records there are.
-#[derive(Clone, Copy, Debug)]
+#[derive(Clone, Copy)]
 pub(crate) enum RecordCount {
     None,
     One,

@@ -3,7 +3,7 @@
 use crate::place::Place;
 
 /// A fault that a record has.
-#[derive(Debug, Drop)]
+#[derive(Drop)]
 pub struct Found<F> {
     /// The number of the record's row, from 0 below the header, where the fault is of one row.
     pub row: Option<u64>,
@@ -16,7 +16,7 @@ pub struct Found<F> {
 }
 
 /// What a record is, among those of a text.
-#[derive(Debug, Drop)]
+#[derive(Drop)]
 pub enum Checked<F> {
     /// It has no fault.
     Good,

@@ -11,7 +11,7 @@ use csv::ByteRecord;
 pub(crate) const BYTE_ORDER_MARK: &[u8] = b"\xEF\xBB\xBF";
 
 /// The fields of a row, as far as a row has one or two of them.
-#[derive(Clone, Copy, Debug)]
+#[derive(Clone, Copy)]
 pub enum RowFields<'a> {
     /// No record.
     Blank,

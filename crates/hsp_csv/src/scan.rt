@@ -6,7 +6,7 @@ ghost use Rattle.csv.specs.Reading.{default_config};
 ghost use Rattle.hsp_csv.specs.Scan.{is_move, state_of};
 
 /// Where the machine stands. There are no escapes and no comments.
-#[derive(Clone, Copy, Debug, PartialEq, Eq)]
+#[derive(Clone, Copy)]
 pub(crate) enum Stand {
     StartRecord,
     StartField,
@@ -17,7 +17,7 @@ pub(crate) enum Stand {
 }
 
 /// What an octet does.
-#[derive(Clone, Copy, Debug, PartialEq, Eq)]
+#[derive(Clone, Copy)]
 pub(crate) enum Move {
     Skip,
     Copy,

@@ -45,7 +45,7 @@ pub(crate) enum Given {
 }
 
 /// How many entries of a log were answered by each kind of answer.
-#[derive(Clone, Copy, Debug, PartialEq, Eq)]
+#[derive(Clone, Copy, PartialEq, Eq)]
 pub struct LogSums {
     pub assigned: u64,
     pub spent: u64,

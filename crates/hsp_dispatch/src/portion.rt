@@ -14,7 +14,7 @@ pub const GREATEST_UNIT: u64 = 1_000_000;
 ///
 /// The share of front `f` of `F` in a number `x` is the quotient of `x` by `F`, and 1 more where `f` is below the
 /// remainder.
-#[derive(Clone, Copy, Debug, PartialEq, Eq)]
+#[derive(Clone, Copy)]
 pub struct Portion {
     pub fronts: u32,
     pub front: u32,

@@ -28,7 +28,7 @@ use hsp_text::limits::MOST_LOG_ROWS;
 use std::alloc::{AllocError, Global};
 
 /// What is looked at.
-#[derive(Clone, Copy, Debug, PartialEq, Eq)]
+#[derive(Clone, Copy)]
 pub enum Asked {
     /// One of the three tables.
     Table(TableKind),
@@ -58,7 +58,7 @@ pub(crate) fn header_fault(asked: Asked) -> StreamFault
 }
 
 /// What a header states: a table, or a form of a log.
-#[derive(Clone, Copy, PartialEq, Eq)]
+#[derive(Clone, Copy)]
 pub(crate) enum Headed {
     Table(TableKind),
     Dispatched(LogForm),

@@ -146,7 +146,7 @@ fn a_text_without_its_end_has_ended(rt: HostRuntime) {
 
 #[test]
 fn nothing_follows_the_end(rt: HostRuntime) {
-    let texts: [(&[u8], u64); 4] = [
+    const TEXTS: [(&[u8], u64); 4] = [
         (
             b"HSPLAN 1\nSHORTAGE\ndemand 9\ncapacity 8\nrow 2\nEND\nx",
             7,
@@ -158,7 +158,7 @@ fn nothing_follows_the_end(rt: HostRuntime) {
         (b"HSPLAN 1\nPLAN\ncost 0\nEND\nEND\n", 5),
         (b"HSPLAN 1\nPLAN\ncost 0\nEND\nx\ny\n", 5),
     ];
-    for (text, line) in texts {
+    for (text, line) in TEXTS {
         is_fault(
             &rt,
             text,
@@ -170,7 +170,7 @@ fn nothing_follows_the_end(rt: HostRuntime) {
 
 #[test]
 fn the_first_bad_line_of_a_shortage_is_reported(rt: HostRuntime) {
-    let texts: [(&[u8], u64); 9] = [
+    const TEXTS: [(&[u8], u64); 9] = [
         (
             b"HSPLAN 1\nSHORTAGE\ndemand 09\ncapacity 8\nrow 2\nEND\n",
             3,
@@ -202,14 +202,14 @@ fn the_first_bad_line_of_a_shortage_is_reported(rt: HostRuntime) {
         ),
         (b"HSPLAN 2\nSHORTAGE\ndemand 9\ncapacity 8\nrow 2\nEND\n", 2),
     ];
-    for (text, line) in texts {
+    for (text, line) in TEXTS {
         is_bad_line(&rt, text, fault_of(rt.alloc(), text), line);
     }
 }
 
 #[test]
 fn the_first_bad_line_of_a_plan_is_reported(rt: HostRuntime) {
-    let texts: [(&[u8], u64); 15] = [
+    const TEXTS: [(&[u8], u64); 15] = [
         (b"HSPLAN 3\nPLAN\ncost 17\nEND\n", 1),
         (b"HSPLAN 1\nplan\ncost 17\nEND\n", 2),
         (b"HSPLAN 1\nPLAN\ncost 10000000000000001\nEND\n", 3),
@@ -229,14 +229,14 @@ fn the_first_bad_line_of_a_plan_is_reported(rt: HostRuntime) {
             8,
         ),
     ];
-    for (text, line) in texts {
+    for (text, line) in TEXTS {
         is_bad_line(&rt, text, fault_of(rt.alloc(), text), line);
     }
 }
 
 #[test]
 fn words_and_numbers_have_one_spelling(rt: HostRuntime) {
-    let texts: [(&[u8], u64); 12] = [
+    const TEXTS: [(&[u8], u64); 12] = [
         (b"\nHSPLAN 1\nPLAN\ncost 17\nEND\n", 1),
         (b"HSPLAN 1\r\nPLAN\r\ncost 17\r\nEND\r\n", 1),
         (b"HSPLAN 1\nPLAN\ncost 017\nEND\n", 3),
@@ -250,7 +250,7 @@ fn words_and_numbers_have_one_spelling(rt: HostRuntime) {
         (b"HSPLAN 1\nPLAN\ncost 17\nuse 0 0 5 0\nEND\n", 4),
         (b"HSPLAN 1\nPLAN\ncost 17\nEND \n", 4),
     ];
-    for (text, line) in texts {
+    for (text, line) in TEXTS {
         is_bad_line(&rt, text, fault_of(rt.alloc(), text), line);
     }
 }
@@ -324,8 +324,7 @@ fn is_use_and_cost(alloc: Global, cost: u64, one: UseLine) -> Result<bool, Alloc
 
 #[test]
 fn plans_are_made_within_their_ranges(rt: HostRuntime) {
-    let alloc = rt.alloc();
-    let uses = [
+    const USES: [(u64, u32, u32, u64, bool); 7] = [
         (10_000_000_000_000_000, 8191, 31, 1_000_000, true),
         (10_000_000_000_000_001, 8191, 31, 1_000_000, false),
         (0, 8192, 31, 1_000_000, false),
@@ -334,15 +333,7 @@ fn plans_are_made_within_their_ranges(rt: HostRuntime) {
         (0, 0, 0, 0, false),
         (0, 0, 0, 1, true),
     ];
-    for (cost, row, site, count, wanted) in uses {
-        let one = use_of(row, site, count);
-        let made = match is_use_and_cost(alloc, cost, one) {
-            Err(AllocError) => is_use_and_cost(alloc, cost, one),
-            made => made,
-        };
-        is_same_of(&rt, &(cost, one), made, Ok(wanted));
-    }
-    let counts = [
+    const COUNTS: [([usize; 3], u64, bool); 7] = [
         ([8192, 1024, 1024], 1_000_000_000_000, true),
         ([8193, 1024, 1024], 0, false),
         ([8192, 1025, 1024], 0, false),
@@ -351,7 +342,16 @@ fn plans_are_made_within_their_ranges(rt: HostRuntime) {
         ([0, 1, 0], 1_000_000_000_001, false),
         ([0, 0, 1], 1_000_000_000_001, false),
     ];
-    for (count, price, wanted) in counts {
+    let alloc = rt.alloc();
+    for (cost, row, site, count, wanted) in USES {
+        let one = use_of(row, site, count);
+        let made = match is_use_and_cost(alloc, cost, one) {
+            Err(AllocError) => is_use_and_cost(alloc, cost, one),
+            made => made,
+        };
+        is_same_of(&rt, &(cost, one), made, Ok(wanted));
+    }
+    for (count, price, wanted) in COUNTS {
         let made = match are_prices(alloc, count, price) {
             Err(AllocError) => are_prices(alloc, count, price),
             made => made,
@@ -449,16 +449,16 @@ fn shortage_is_made(rt: &impl Abort, alloc: Global, set: Set<'_>, wanted: bool) 
 
 #[test]
 fn shortages_are_made_within_their_ranges(rt: HostRuntime) {
-    let most = 10_000_000_000_000_000;
-    let sets: [(&[u32], u64, u64, bool); 6] = [
-        (&[0, 8191], most, most, true),
+    const MOST: u64 = 10_000_000_000_000_000;
+    const SETS: [(&[u32], u64, u64, bool); 6] = [
+        (&[0, 8191], MOST, MOST, true),
         (&[0, 8192], 9, 8, false),
         (&[2, 2], 9, 8, false),
         (&[2, 1], 9, 8, false),
         (&[2], 10_000_000_000_000_001, 8, false),
         (&[2], 9, 10_000_000_000_000_001, false),
     ];
-    for (rows, demand, capacity, wanted) in sets {
+    for (rows, demand, capacity, wanted) in SETS {
         shortage_is_made(&rt, rt.alloc(), (rows, demand, capacity), wanted);
     }
 }

@@ -95,23 +95,25 @@ fn room(alloc: Global) -> Result<Vec<u8>, AllocError> {
     }
 }
 
+// Texts, and their records.
+const RECORDS: [(&[u8], &[u8]); 12] = [
+    (b"", b""),
+    (b"\n\r\n\n", b""),
+    (b"a,b\nc,d\n", b"[a][b]\n[c][d]\n"),
+    (b"a,b\r\nc,d\r\n", b"[a][b]\n[c][d]\n"),
+    (b"a\n\n\r\nb", b"[a]\n[b]\n"),
+    (b"a,b\nc\nd,,\n", b"[a][b]\n[c]\n[d][][]\n"),
+    (b" a , b \n", b"[ a ][ b ]\n"),
+    (b"\"a,\"\"b\"\n", b"[a,\"b]\n"),
+    (b"\"a\nb\",c\n", b"[a\nb][c]\n"),
+    (b"\"\"\n", b"[]\n"),
+    (b"\xEF\xBB\xBFa,b\n", b"[a][b]\n"),
+    (b"\xEF\xBB\xBF\xEF\xBB\xBFa\n", b"[\xEF\xBB\xBFa]\n"),
+];
+
 #[test]
 fn records_of_a_text(rt: HostRuntime) -> Result<(), Fail> {
-    let cases: [(&[u8], &[u8]); 12] = [
-        (b"", b""),
-        (b"\n\r\n\n", b""),
-        (b"a,b\nc,d\n", b"[a][b]\n[c][d]\n"),
-        (b"a,b\r\nc,d\r\n", b"[a][b]\n[c][d]\n"),
-        (b"a\n\n\r\nb", b"[a]\n[b]\n"),
-        (b"a,b\nc\nd,,\n", b"[a][b]\n[c]\n[d][][]\n"),
-        (b" a , b \n", b"[ a ][ b ]\n"),
-        (b"\"a,\"\"b\"\n", b"[a,\"b]\n"),
-        (b"\"a\nb\",c\n", b"[a\nb][c]\n"),
-        (b"\"\"\n", b"[]\n"),
-        (b"\xEF\xBB\xBFa,b\n", b"[a][b]\n"),
-        (b"\xEF\xBB\xBF\xEF\xBB\xBFa\n", b"[\xEF\xBB\xBFa]\n"),
-    ];
-    for (text, wanted) in cases {
+    for (text, wanted) in RECORDS {
         let mut out = room(rt.alloc())?;
         let mut fault = first_ten(rt.alloc(), text, &mut out);
         if fault == Some(RecordsFault::OutOfMemory) {
@@ -126,13 +128,13 @@ fn records_of_a_text(rt: HostRuntime) -> Result<(), Fail> {
 
 #[test]
 fn a_reader_that_gives_little_or_fails(rt: HostRuntime) -> Result<(), Fail> {
-    let cases: [(usize, Option<RecordsFault>, &[u8]); 4] = [
+    const CASES: [(usize, Option<RecordsFault>, &[u8]); 4] = [
         (usize::MAX, None, b"[a][b]\n[c]\n"),
         (0, Some(RecordsFault::ReadFailed), b""),
         (6, Some(RecordsFault::ReadFailed), b""),
         (7, Some(RecordsFault::ReadFailed), b"[a][b]\n"),
     ];
-    for (good, wanted_fault, wanted) in cases {
+    for (good, wanted_fault, wanted) in CASES {
         let mut out = room(rt.alloc())?;
         let mut fault = first_ten(rt.alloc(), little(good), &mut out);
         if fault == Some(RecordsFault::OutOfMemory) {
@@ -147,8 +149,8 @@ fn a_reader_that_gives_little_or_fails(rt: HostRuntime) -> Result<(), Fail> {
 
 #[test]
 fn headers_are_reported(rt: HostRuntime) {
-    let header: [&[u8]; 2] = [b"a", b"b"];
-    let cases: [(&[u8], bool); 6] = [
+    const HEADER: [&[u8]; 2] = [b"a", b"b"];
+    const CASES: [(&[u8], bool); 6] = [
         (b"a,b\nc\n", true),
         (b"\xEF\xBB\xBFa,b", true),
         (b"a,c\n", false),
@@ -156,13 +158,13 @@ fn headers_are_reported(rt: HostRuntime) {
         (b"a,b,c\n", false),
         (b"", false),
     ];
-    for (text, wanted) in cases {
+    for (text, wanted) in CASES {
         let reader = OneByOne { text, good: 100 };
-        let mut found = headed(rt.alloc(), reader, &header);
+        let mut found = headed(rt.alloc(), reader, &HEADER);
         // Where a growth is refused, the second reading finds memory.
         if found == Err(RecordsFault::OutOfMemory) {
             let reader = OneByOne { text, good: 100 };
-            found = headed(rt.alloc(), reader, &header);
+            found = headed(rt.alloc(), reader, &HEADER);
         }
         is_same(&rt, found, Ok(wanted));
     }

@@ -61,7 +61,7 @@ fn the_least_integer_has_an_absolute_value(rt: HostRuntime) {
 
 #[test]
 fn places_are_those_of_the_standard(rt: HostRuntime) {
-    let cases: [(HashOption, &[u8], u32, u32); 11] = [
+    const CASES: [(HashOption, &[u8], u32, u32); 11] = [
         (HashOption::ByLocal, b"10/3", 2, 1),
         (HashOption::ByLocal, b"10/3", 3, 0),
         (HashOption::ByLocal, b"10/", 2, 0),
@@ -74,7 +74,7 @@ fn places_are_those_of_the_standard(rt: HostRuntime) {
         (HashOption::ByNa, b"10/1", 3, 2),
         (HashOption::ByHandle, b"10/1", 1, 0),
     ];
-    for (option, handle, servers, wanted) in cases {
+    for (option, handle, servers, wanted) in CASES {
         is_same(&rt, place(option, handle, servers), Some(wanted));
     }
 }

@@ -11,7 +11,7 @@ fn fault_of(octets: &[u8]) -> Option<HandleFault> {
 
 #[test]
 fn faults_are_reported_in_their_order(rt: HostRuntime) {
-    let cases: [(&[u8], Option<HandleFault>); 9] = [
+    const CASES: [(&[u8], Option<HandleFault>); 9] = [
         (b"10/1", None),
         (b"10/", None),
         (b"10.5/a/b", None),
@@ -22,7 +22,7 @@ fn faults_are_reported_in_their_order(rt: HostRuntime) {
         (b"10..5/x", Some(HandleFault::EmptySegment)),
         (b"10/\xff", Some(HandleFault::NotUtf8)),
     ];
-    for (octets, wanted) in cases {
+    for (octets, wanted) in CASES {
         is_same(&rt, fault_of(octets), wanted);
     }
 }

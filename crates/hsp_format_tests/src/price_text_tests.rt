@@ -137,12 +137,12 @@ fn a_text_by_prices_without_its_end_has_ended(rt: HostRuntime) {
 
 #[test]
 fn nothing_follows_the_end_of_prices(rt: HostRuntime) {
-    let texts: [(&[u8], u64); 3] = [
+    const TEXTS: [(&[u8], u64); 3] = [
         (b"HSPLAN PRICES 1\nPLAN\ncost 0\nEND\nEND\n", 5),
         (b"HSPLAN PRICES 1\nSHORT\ndemand 9\ncapacity 8\nEND\n\n", 6),
         (b"HSPLAN PRICES 1\nPLAN\ncost 0\nEND\nx\ny", 5),
     ];
-    for (text, line) in texts {
+    for (text, line) in TEXTS {
         let wanted = Some(CertFault::AfterEnd { line });
         is_same_of(&rt, &text, fault_of(rt.alloc(), text), wanted);
     }
@@ -150,7 +150,7 @@ fn nothing_follows_the_end_of_prices(rt: HostRuntime) {
 
 #[test]
 fn the_first_bad_line_of_a_plan_by_prices_is_reported(rt: HostRuntime) {
-    let texts: [(&[u8], u64); 18] = [
+    const TEXTS: [(&[u8], u64); 18] = [
         (b"HSPLAN PRICES 2\nPLAN\ncost 1\nEND\n", 1),
         (b"HSPLAN 1\nPLAN\ncost 1\nEND\n", 1),
         (b"HSPLAN PRICES 1\r\nPLAN\ncost 1\nEND\n", 1),
@@ -191,14 +191,14 @@ fn the_first_bad_line_of_a_plan_by_prices_is_reported(rt: HostRuntime) {
             4,
         ),
     ];
-    for (text, line) in texts {
+    for (text, line) in TEXTS {
         is_bad_line(&rt, text, fault_of(rt.alloc(), text), line);
     }
 }
 
 #[test]
 fn classes_stand_by_regions_and_then_by_servers(rt: HostRuntime) {
-    let texts: [(&[u8], u64); 4] = [
+    const TEXTS: [(&[u8], u64); 4] = [
         (UNORDERED, 9),
         (
             b"HSPLAN PRICES 1\nPLAN\ncost 1\nclass us 0 1 1 0\nclass eu 0 1 1 0\nEND\n",
@@ -213,14 +213,14 @@ fn classes_stand_by_regions_and_then_by_servers(rt: HostRuntime) {
             5,
         ),
     ];
-    for (text, line) in texts {
+    for (text, line) in TEXTS {
         is_bad_line(&rt, text, fault_of(rt.alloc(), text), line);
     }
 }
 
 #[test]
 fn the_first_bad_line_of_a_short_set_of_servers_is_reported(rt: HostRuntime) {
-    let texts: [(&[u8], u64); 7] = [
+    const TEXTS: [(&[u8], u64); 7] = [
         (b"HSPLAN PRICES 1\nSHORTAGE\ndemand 9\ncapacity 8\nEND\n", 2),
         (
             b"HSPLAN PRICES 1\nSHORT\nserver 1\nserver 1\ndemand 9\ncapacity 8\nEND\n",
@@ -244,7 +244,7 @@ fn the_first_bad_line_of_a_short_set_of_servers_is_reported(rt: HostRuntime) {
             5,
         ),
     ];
-    for (text, line) in texts {
+    for (text, line) in TEXTS {
         is_bad_line(&rt, text, fault_of(rt.alloc(), text), line);
     }
 }

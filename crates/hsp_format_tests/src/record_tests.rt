@@ -368,7 +368,7 @@ fn is_body(rt: &impl Abort, body: &[u8], wanted: Result<&[u8], RecordFault>) {
 
 #[test]
 fn request_bodies_are_read(rt: HostRuntime) {
-    let cases: [(&[u8], Result<&[u8], RecordFault>); 6] = [
+    const CASES: [(&[u8], Result<&[u8], RecordFault>); 6] = [
         (b"\0\0\0\x0210\0\0\0\0\0\0\0\0", Ok(b"10")),
         (b"\0\0\0\x0410/3\0\0\0\0\0\0\0\0", Ok(b"10/3")),
         (BODY, Ok(b"10/3")),
@@ -382,7 +382,7 @@ fn request_bodies_are_read(rt: HostRuntime) {
             Err(RecordFault::Trailing { at: 14 }),
         ),
     ];
-    for (body, wanted) in cases {
+    for (body, wanted) in CASES {
         is_body(&rt, body, wanted);
     }
 }

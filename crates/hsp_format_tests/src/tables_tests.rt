@@ -47,13 +47,13 @@ fn is_fault(rt: &impl Abort, text: &[u8], answer: Option<TableFault>, wanted: Op
 
 // The rows of the base's demand.
 fn is_the_base_demand(rt: &impl Abort, demand: &Demand) {
-    let rows: [(&[u8], &[u8], u64); 3] = [
+    const ROWS: [(&[u8], &[u8], u64); 3] = [
         (b"r1", b"10/1", 5),
         (b"r1", b"10/2", 4),
         (b"r2", b"10/3", 3),
     ];
     assert!(rt; demand.len() == 3);
-    for (number, (region, handle, count)) in rows.iter().enumerate() {
+    for (number, (region, handle, count)) in ROWS.iter().enumerate() {
         let row = demand.row(number as u32);
         is_same(rt, row.region, *region);
         is_same(rt, row.handle.bytes(), *handle);
@@ -73,14 +73,14 @@ fn the_base_demand_is_read(rt: HostRuntime) {
 
 // The rows of the base's costs, in their order and by what they are found by.
 fn are_the_base_costs(rt: &impl Abort, costs: &Costs) {
-    let rows: [(&[u8], &[u8], u64); 4] = [
+    const ROWS: [(&[u8], &[u8], u64); 4] = [
         (b"r1", b"E", 1),
         (b"r1", b"W", 4),
         (b"r2", b"E", 2),
         (b"r2", b"W", 3),
     ];
     assert!(rt; costs.len() == 4);
-    for (number, (region, site, cost)) in rows.iter().enumerate() {
+    for (number, (region, site, cost)) in ROWS.iter().enumerate() {
         let row = costs.row(number as u32);
         is_same(rt, row.region, *region);
         is_same(rt, row.site, *site);
@@ -98,7 +98,7 @@ fn the_base_costs_are_read(rt: HostRuntime) {
 
 // The rows of the base's capacities, in their order and by what they are found by.
 fn are_the_base_capacities(rt: &impl Abort, capacities: &Capacities) {
-    let rows: [(&[u8], u32, u64); 5] = [
+    const ROWS: [(&[u8], u32, u64); 5] = [
         (b"E", 7, 10),
         (b"E", 3, 6),
         (b"W", 1, 2),
@@ -106,7 +106,7 @@ fn are_the_base_capacities(rt: &impl Abort, capacities: &Capacities) {
         (b"W", 9, 10),
     ];
     assert!(rt; capacities.len() == 5);
-    for (number, (site, server_id, capacity)) in rows.iter().enumerate() {
+    for (number, (site, server_id, capacity)) in ROWS.iter().enumerate() {
         let row = capacities.row(number as u32);
         is_same(rt, row.site, *site);
         is_same(rt, row.server_id, *server_id);
@@ -140,21 +140,21 @@ fn the_base_settings_are_read(rt: HostRuntime) {
 
 #[test]
 fn faults_of_demand(rt: HostRuntime) {
-    let twice = Some(TableFault::RowTwice { row: 1 });
-    let number = Some(TableFault::BadNumber { row: 0 });
-    let fields = Some(TableFault::Fields { row: 0 });
-    let no_slash = HandleFault::NoSlash;
-    let cases: [(&[u8], Option<TableFault>); 16] = [
+    const TWICE: Option<TableFault> = Some(TableFault::RowTwice { row: 1 });
+    const NUMBER: Option<TableFault> = Some(TableFault::BadNumber { row: 0 });
+    const FIELDS: Option<TableFault> = Some(TableFault::Fields { row: 0 });
+    const NO_SLASH: HandleFault = HandleFault::NoSlash;
+    const CASES: [(&[u8], Option<TableFault>); 16] = [
         (b"", Some(TableFault::Header)),
         (b"region,handle\nr1,10/1,5\n", Some(TableFault::Header)),
         (b"region,handle,count\n", None),
-        (b"region,handle,count\nr1,10/1,5\nr1,10/1,6\n", twice),
-        (b"region,handle,count\nr1,10/1,1000001\n", number),
-        (b"region,handle,count\nr1,10/1,007\n", number),
-        (b"region,handle,count\nr1,10/1,-1\n", number),
+        (b"region,handle,count\nr1,10/1,5\nr1,10/1,6\n", TWICE),
+        (b"region,handle,count\nr1,10/1,1000001\n", NUMBER),
+        (b"region,handle,count\nr1,10/1,007\n", NUMBER),
+        (b"region,handle,count\nr1,10/1,-1\n", NUMBER),
         (b"region,handle,count\nr1,10/1,0\nr1,10/2,1000000\n", None),
-        (b"region,handle,count\nr1,10/1\n", fields),
-        (b"region,handle,count\nr1,10/1,5,\n", fields),
+        (b"region,handle,count\nr1,10/1\n", FIELDS),
+        (b"region,handle,count\nr1,10/1,5,\n", FIELDS),
         (
             b"region,handle,count\nr 1,10,x\n",
             Some(TableFault::BadName { row: 0 }),
@@ -163,94 +163,94 @@ fn faults_of_demand(rt: HostRuntime) {
             b"region,handle,count\nr1,10,x\n",
             Some(TableFault::BadHandle {
                 row: 0,
-                fault: no_slash,
+                fault: NO_SLASH,
             }),
         ),
         (b"region,handle,count\nr1,10/a,1\nr1,10/A,1\n", None),
-        (b"region,handle,count\nr1,10/1", fields),
-        (b"region,handle,count\nr1,10/1,", number),
+        (b"region,handle,count\nr1,10/1", FIELDS),
+        (b"region,handle,count\nr1,10/1,", NUMBER),
         (b"region,handle,count\nr1,10/1,5", None),
     ];
-    for (text, wanted) in cases {
+    for (text, wanted) in CASES {
         is_fault(&rt, text, demand_of(rt.alloc(), text).err(), wanted);
     }
 }
 
 #[test]
 fn faults_of_costs(rt: HostRuntime) {
-    let number = Some(TableFault::BadNumber { row: 0 });
-    let cases: [(&[u8], Option<TableFault>); 4] = [
+    const NUMBER: Option<TableFault> = Some(TableFault::BadNumber { row: 0 });
+    const CASES: [(&[u8], Option<TableFault>); 4] = [
         (b"region,handle,count\n", Some(TableFault::Header)),
         (
             b"region,site,cost\nr1,E,1\nr2,E,1\nr1,E,1\n",
             Some(TableFault::RowTwice { row: 2 }),
         ),
-        (b"region,site,cost\nr1,E,1000001\n", number),
+        (b"region,site,cost\nr1,E,1000001\n", NUMBER),
         (
             b"region,site,cost\nr1,,1\n",
             Some(TableFault::BadName { row: 0 }),
         ),
     ];
-    for (text, wanted) in cases {
+    for (text, wanted) in CASES {
         is_fault(&rt, text, costs_of(rt.alloc(), text).err(), wanted);
     }
 }
 
 #[test]
 fn faults_of_capacity(rt: HostRuntime) {
-    let twice = Some(TableFault::RowTwice { row: 1 });
-    let number = Some(TableFault::BadNumber { row: 0 });
-    let cases: [(&[u8], Option<TableFault>); 4] = [
+    const TWICE: Option<TableFault> = Some(TableFault::RowTwice { row: 1 });
+    const NUMBER: Option<TableFault> = Some(TableFault::BadNumber { row: 0 });
+    const CASES: [(&[u8], Option<TableFault>); 4] = [
         (
             b"site,server_id,capacity\nE,4294967295,1000000000\nW,4294967295,0\n",
             None,
         ),
-        (b"site,server_id,capacity\nE,4294967296,1\n", number),
-        (b"site,server_id,capacity\nE,1,1000000001\n", number),
-        (b"site,server_id,capacity\nE,1,1\nE,1,2\n", twice),
+        (b"site,server_id,capacity\nE,4294967296,1\n", NUMBER),
+        (b"site,server_id,capacity\nE,1,1000000001\n", NUMBER),
+        (b"site,server_id,capacity\nE,1,1\nE,1,2\n", TWICE),
     ];
-    for (text, wanted) in cases {
+    for (text, wanted) in CASES {
         is_fault(&rt, text, capacity_of(rt.alloc(), text).err(), wanted);
     }
 }
 
 #[test]
 fn faults_of_settings(rt: HostRuntime) {
-    let bad = Some(TableFault::BadSite { site: 0 });
-    let cases: [(&[u8], Option<TableFault>); 22] = [
+    const BAD: Option<TableFault> = Some(TableFault::BadSite { site: 0 });
+    const CASES: [(&[u8], Option<TableFault>); 22] = [
         (b"", None),
         (b"site = []", None),
         (b"\xFF", Some(TableFault::NotToml)),
         (b"a = ", Some(TableFault::NotToml)),
         (b"x = 1", Some(TableFault::UnknownKey)),
-        (b"site = 1", bad),
-        (b"site = [1]", bad),
+        (b"site = 1", BAD),
+        (b"site = [1]", BAD),
         (
             b"[[site]]\nname = \"E\"\nindex = 1\nsite = 1\n",
             Some(TableFault::UnknownKey),
         ),
-        (b"[[site]]\nindex = 1\n", bad),
-        (b"[[site]]\nname = 1\nindex = 1\n", bad),
-        (b"[[site]]\nname = \"E\"\nrecord = \"0\"\n", bad),
-        (b"[[site]]\nname = \"E\"\nrecord = \"0g\"\n", bad),
-        (b"[[site]]\nname = \"E\"\nrecord = 1\n", bad),
+        (b"[[site]]\nindex = 1\n", BAD),
+        (b"[[site]]\nname = 1\nindex = 1\n", BAD),
+        (b"[[site]]\nname = \"E\"\nrecord = \"0\"\n", BAD),
+        (b"[[site]]\nname = \"E\"\nrecord = \"0g\"\n", BAD),
+        (b"[[site]]\nname = \"E\"\nrecord = 1\n", BAD),
         (b"[[site]]\nname = \"E\"\nrecord = \"\"\n", None),
-        (b"[[site]]\nname = \"E\"\nrecord = \"\"\nindex = 1\n", bad),
-        (b"[[site]]\nname = \"E\"\n", bad),
-        (b"[[site]]\nname = \"E\"\nindex = -1\n", bad),
+        (b"[[site]]\nname = \"E\"\nrecord = \"\"\nindex = 1\n", BAD),
+        (b"[[site]]\nname = \"E\"\n", BAD),
+        (b"[[site]]\nname = \"E\"\nindex = -1\n", BAD),
         (b"[[site]]\nname = \"E\"\nindex = 4294967295\n", None),
-        (b"[[site]]\nname = \"E\"\nindex = 4294967296\n", bad),
-        (b"[[site]]\nname = \"E E\"\nindex = 1\n", bad),
+        (b"[[site]]\nname = \"E\"\nindex = 4294967296\n", BAD),
+        (b"[[site]]\nname = \"E E\"\nindex = 1\n", BAD),
         (
             b"[[site]]\nname = \"a1234567890123456789012345678901234567890123456789012345678901234\"\nindex = 1\n",
-            bad,
+            BAD,
         ),
         (
             b"[[site]]\nname = \"E\"\nindex = 1\n[[site]]\nname = \"E\"\nindex = 2\n",
             Some(TableFault::SiteTwice { site: 1 }),
         ),
     ];
-    for (text, wanted) in cases {
+    for (text, wanted) in CASES {
         is_fault(&rt, text, settings_of(rt.alloc(), text).err(), wanted);
     }
 }
@@ -266,12 +266,12 @@ fn long_texts_that_are_no_toml(rt: HostRuntime) {
 
 #[test]
 fn faults_of_hosts(rt: HostRuntime) {
-    let bad = Some(TableFault::BadHost { host: 0 });
-    let twice = Some(TableFault::HostTwice { host: 1 });
-    let cases: [(&[u8], Option<TableFault>); 11] = [
+    const BAD: Option<TableFault> = Some(TableFault::BadHost { host: 0 });
+    const TWICE: Option<TableFault> = Some(TableFault::HostTwice { host: 1 });
+    const CASES: [(&[u8], Option<TableFault>); 11] = [
         (b"host = []", None),
-        (b"host = 1", bad),
-        (b"host = [1]", bad),
+        (b"host = 1", BAD),
+        (b"host = [1]", BAD),
         (
             b"host = 1\nsite = 1\n",
             Some(TableFault::BadSite { site: 0 }),
@@ -282,28 +282,28 @@ fn faults_of_hosts(rt: HostRuntime) {
         ),
         (
             b"[[host]]\naddress = \"aaaaaaaaaaaaaaaaaaaaaaaaaaaaaaa\"\nlimit = 1\n",
-            bad,
+            BAD,
         ),
         (
             b"[[host]]\naddress = \"aaaaaaaaaaaaaaaaaaaaaaaaaaaaaaaa\"\n",
-            bad,
+            BAD,
         ),
-        (b"[[host]]\nlimit = 1\n", bad),
+        (b"[[host]]\nlimit = 1\n", BAD),
         (
             b"[[host]]\naddress = \"aaaaaaaaaaaaaaaaaaaaaaaaaaaaaaaa\"\nlimit = -1\n",
-            bad,
+            BAD,
         ),
         (
             b"[[host]]\naddress = \"aaaaaaaaaaaaaaaaaaaaaaaaaaaaaaaa\"\nlimit = 1000000000001\n",
-            bad,
+            BAD,
         ),
         (
             b"[[host]]\naddress = \"aaaaaaaaaaaaaaaaaaaaaaaaaaaaaaaa\"\nlimit = 1\n[[host]]\n\
             address = \"AAAAAAAAAAAAAAAAAAAAAAAAAAAAAAAA\"\nlimit = 1\n",
-            twice,
+            TWICE,
         ),
     ];
-    for (text, wanted) in cases {
+    for (text, wanted) in CASES {
         is_fault(&rt, text, settings_of(rt.alloc(), text).err(), wanted);
     }
 }
@@ -368,14 +368,14 @@ fn text_of(rt: &impl Abort, alloc: Global, numbered: Numbered<'_>) -> Vec<u8> {
 
 #[test]
 fn demand_at_the_limits(rt: HostRuntime) {
-    let head = b"region,handle,count\n";
-    let rows: [(&[u8], &[u8], u64, Option<TableFault>); 4] = [
+    const ROWS: [(&[u8], &[u8], u64, Option<TableFault>); 4] = [
         (b"r1,10/", b",1\n", 8192, None),
         (b"r1,10/", b",1\n", 8193, Some(TableFault::TooManyRows)),
         (b"r", b",10/1,1\n", 64, None),
         (b"r", b",10/1,1\n", 65, Some(TableFault::TooManyRegions)),
     ];
-    for (before, after, end, wanted) in rows {
+    let head = b"region,handle,count\n";
+    for (before, after, end, wanted) in ROWS {
         let numbered = Numbered {
             head,
             before,
@@ -391,13 +391,13 @@ fn demand_at_the_limits(rt: HostRuntime) {
 
 #[test]
 fn costs_at_the_limits(rt: HostRuntime) {
-    let head = b"region,site,cost\n";
-    let rows: [(&[u8], &[u8], u64, Option<TableFault>); 3] = [
+    const ROWS: [(&[u8], &[u8], u64, Option<TableFault>); 3] = [
         (b"r1,s", b",1\n", 2048, None),
         (b"r1,s", b",1\n", 2049, Some(TableFault::TooManyRows)),
         (b"r", b",E,1\n", 65, Some(TableFault::TooManyRegions)),
     ];
-    for (before, after, end, wanted) in rows {
+    let head = b"region,site,cost\n";
+    for (before, after, end, wanted) in ROWS {
         let numbered = Numbered {
             head,
             before,

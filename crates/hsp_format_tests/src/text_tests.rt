@@ -7,7 +7,7 @@ use std::process::Abort;
 
 #[test]
 fn whole_numbers_are_read(rt: HostRuntime) {
-    let cases: [(&[u8], Result<u64, WholeFault>); 8] = [
+    const CASES: [(&[u8], Result<u64, WholeFault>); 8] = [
         (b"0", Ok(0)),
         (b"1000000", Ok(1_000_000)),
         (b"", Err(WholeFault::NotWhole)),
@@ -17,7 +17,7 @@ fn whole_numbers_are_read(rt: HostRuntime) {
         (b"1000001", Err(WholeFault::TooLarge)),
         (b"999999999999999999999999999999", Err(WholeFault::TooLarge)),
     ];
-    for (text, wanted) in cases {
+    for (text, wanted) in CASES {
         is_same(&rt, read_whole(text, 1_000_000), wanted);
     }
 }
@@ -51,7 +51,7 @@ fn digits_are_appended(rt: HostRuntime) {
 
 #[test]
 fn names_are_reported(rt: HostRuntime) {
-    let cases: [(&[u8], bool); 7] = [
+    const CASES: [(&[u8], bool); 7] = [
         (b"r1", true),
         (b"Aa0-_.", true),
         (b"", false),
@@ -60,19 +60,19 @@ fn names_are_reported(rt: HostRuntime) {
         (&[b'x'; 64], true),
         (&[b'x'; 65], false),
     ];
-    for (text, wanted) in cases {
+    for (text, wanted) in CASES {
         is_same(&rt, is_name(text), wanted);
     }
 }
 
 #[test]
 fn lines_are_split(rt: HostRuntime) {
-    let cases: [(&[u8], Option<(&[u8], &[u8])>); 3] = [
+    const CASES: [(&[u8], Option<(&[u8], &[u8])>); 3] = [
         (b"a b\nc\n", Some((b"a b", b"c\n"))),
         (b"\n", Some((b"", b""))),
         (b"c", None),
     ];
-    for (text, wanted) in cases {
+    for (text, wanted) in CASES {
         is_same(&rt, next_line(text), wanted);
     }
 }
@@ -102,13 +102,7 @@ fn are_pieces(rt: &impl Abort, text: &[u8], pieces: &[&[u8]]) {
 
 #[test]
 fn pieces_are_appended(rt: HostRuntime) {
-    let mut out = Vec::new(rt.alloc());
-    // Where a growth is refused, the second call finds memory.
-    if push_pieces(&mut out).is_err() {
-        out.clear();
-        is_same(&rt, push_pieces(&mut out), Ok(()));
-    }
-    let wanted: [&[u8]; 6] = [
+    const WANTED: [&[u8]; 6] = [
         b"use 0 12 18446744073709551615\n",
         b"END\n",
         b" 7",
@@ -116,7 +110,13 @@ fn pieces_are_appended(rt: HostRuntime) {
         b"340282366920938463463374607431768211455",
         b"20000000000000000000",
     ];
-    are_pieces(&rt, out.as_slice(), &wanted);
+    let mut out = Vec::new(rt.alloc());
+    // Where a growth is refused, the second call finds memory.
+    if push_pieces(&mut out).is_err() {
+        out.clear();
+        is_same(&rt, push_pieces(&mut out), Ok(()));
+    }
+    are_pieces(&rt, out.as_slice(), &WANTED);
 }
 
 // Takes at most `step` octets a call, and none once `room` were taken: then a write fails, or takes 0 octets.
@@ -158,14 +158,14 @@ fn space(rt: &impl Abort, alloc: Global) -> Vec<u8> {
 
 #[test]
 fn texts_are_written_whole_or_cut(rt: HostRuntime) {
-    let cases: [(usize, usize, bool, Result<(), WriteFailed>, &[u8]); 5] = [
+    const CASES: [(usize, usize, bool, Result<(), WriteFailed>, &[u8]); 5] = [
         (1, 4, true, Ok(()), b"abcd"),
         (3, 4, true, Ok(()), b"abcd"),
         (1, 2, true, Err(WriteFailed), b"ab"),
         (9, 3, false, Err(WriteFailed), b"abc"),
         (9, 0, false, Err(WriteFailed), b""),
     ];
-    for (step, room, fails, wanted, taken) in cases {
+    for (step, room, fails, wanted, taken) in CASES {
         let mut writer = Narrow {
             taken: space(&rt, rt.alloc()),
             step,

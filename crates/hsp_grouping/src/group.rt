@@ -8,7 +8,7 @@ use std::alloc::{AllocError, Global};
 use std::marker::Model;
 
 /// The region and the kept arcs that rows share, and how many queries they ask for together.
-#[derive(Debug, Drop)]
+#[derive(Drop)]
 pub struct RowGroup {
     pub region: Vec<u8>,
     pub arcs: Vec<Arc>,

@@ -1,5 +1,5 @@
 /// The octets of the inputs that define an instance. Sites of the settings refer to the value list by its indices.
-#[derive(Debug, Drop)]
+#[derive(Drop)]
 pub struct Inputs {
     pub settings: Vec<u8>,
     pub values: Option<Vec<u8>>,

@@ -9,7 +9,7 @@ use std::marker::Model;
 /// equal.
 ///
 /// Groups are numbered from 0 on, in the order in which they are first seen.
-#[derive(Debug, Drop)]
+#[derive(Drop)]
 pub struct Groups {
     pub(crate) count: u32,
     pub(crate) of_rows: Vec<u32>,

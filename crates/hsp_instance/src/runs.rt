@@ -8,7 +8,7 @@ use std::marker::Model;
 /// Where the run of each group begins and ends in a list that is sorted by its groups.
 ///
 /// Groups are numbered from 0 on. The entries of a group are those from its beginning up to the beginning of the next.
-#[derive(Debug, Drop)]
+#[derive(Drop)]
 pub struct Runs {
     starts: Vec<usize>,
 }

@@ -8,7 +8,7 @@ use hsp_hash::HashOption;
 use std::marker::Model;
 
 // A server of a site.
-#[derive(Debug, Drop)]
+#[derive(Drop)]
 pub(crate) struct SiteServer {
     pub(crate) id: u32,
     pub(crate) address: [u8; 16],
@@ -23,7 +23,7 @@ impl Model for SiteServer {
 }
 
 // A site.
-#[derive(Debug, Drop)]
+#[derive(Drop)]
 pub(crate) struct Site {
     pub(crate) name: Vec<u8>,
     pub(crate) option: HashOption,
@@ -45,7 +45,7 @@ impl Model for Site {
 /// Sites, each with a name, a hash option and one or more servers.
 ///
 /// There are at most 32 sites, and they have at most 1,024 servers together.
-#[derive(Debug, Drop)]
+#[derive(Drop)]
 pub struct Sites {
     pub(crate) sites: Vec<Site>,
 }

@@ -377,16 +377,16 @@ fn hosts_have_limits_and_prices(rt: HostRuntime) {
 
 #[test]
 fn a_host_is_counted_once(rt: HostRuntime) {
+    const CASES: [(Set, Verdict); 2] = [
+        ((&[0, 1, 2], 12, 2), Verdict::Yes),
+        ((&[0, 1, 2], 12, 16), Verdict::No(Reason::CapacitySum)),
+    ];
     let texts = Texts {
         hosts: TWO,
         costs: b"region,site,cost\nr1,E,1\nr2,E,2\n",
         ..BASE
     };
-    let cases: [(Set, Verdict); 2] = [
-        ((&[0, 1, 2], 12, 2), Verdict::Yes),
-        ((&[0, 1, 2], 12, 16), Verdict::No(Reason::CapacitySum)),
-    ];
-    sets_have(&rt, rt.alloc(), texts, &cases);
+    sets_have(&rt, rt.alloc(), texts, &CASES);
 }
 
 #[test]

@@ -17,7 +17,7 @@ use std::str;
 /// The first `/` ends the naming authority, which is one or more segments joined by `.`. No segment is empty. The local
 /// name may be empty and may hold further `/`. A handle is UTF-8 of at most 4,096 octets. Two handles are equal when
 /// their octets are equal.
-#[derive(Clone, Copy, Debug)]
+#[derive(Clone, Copy)]
 pub struct HandleRef<'a> {
     octets: &'a [u8],
     slash: usize,

@@ -13,7 +13,7 @@ fn dot_in(text: &[u8]) -> Option<usize>
 }
 
 /// The segments of a naming authority that are still to come: what stands before, between and after its dots.
-#[derive(Clone, Copy, Debug)]
+#[derive(Clone, Copy)]
 pub struct Segments<'a> {
     rest: Option<&'a [u8]>,
 }

@@ -132,62 +132,62 @@ fn rows_have_their_arcs_whichever_are_kept(rt: HostRuntime) {
 
 #[test]
 fn few_rows_keep_all_arcs_by_a_guess(rt: HostRuntime) {
+    const BOTH: [&[Arc]; 3] = [&[TO_A, FIRST_AT_B], &[TO_A, SECOND_AT_B], &[LAST_AT_B]];
     let alloc = rt.alloc();
     let mut rows = three_rows(&rt, alloc);
     if keep_guessed(alloc, &rows.numbers, &mut rows.rows, &mut Silent).is_err() {
         let again = keep_guessed(alloc, &rows.numbers, &mut rows.rows, &mut Silent);
         assert!(rt; again.is_ok(), "there is memory");
     }
-    let both: [&[Arc]; 3] = [&[TO_A, FIRST_AT_B], &[TO_A, SECOND_AT_B], &[LAST_AT_B]];
-    all_keep(&rt, alloc, &rows, both);
+    all_keep(&rt, alloc, &rows, BOTH);
 }
 
 // At the price 9 a query from r1 pays 10 at both.
 #[test]
 fn least_arcs_are_kept_beside_those_that_were(rt: HostRuntime) {
+    const BOTH: [&[Arc]; 3] = [&[TO_A, FIRST_AT_B], &[TO_A, SECOND_AT_B], &[LAST_AT_B]];
     let alloc = rt.alloc();
     let mut rows = three_rows(&rt, alloc);
     is_same(&rt, keep_least(&rt, &mut rows, &[0, 0, 0]), 3);
     all_keep(&rt, alloc, &rows, [&[TO_A], &[TO_A], &[LAST_AT_B]]);
     is_same(&rt, keep_least(&rt, &mut rows, &[8, 0, 0]), 0);
     is_same(&rt, keep_least(&rt, &mut rows, &[9, 0, 0]), 2);
-    let both: [&[Arc]; 3] = [&[TO_A, FIRST_AT_B], &[TO_A, SECOND_AT_B], &[LAST_AT_B]];
-    all_keep(&rt, alloc, &rows, both);
+    all_keep(&rt, alloc, &rows, BOTH);
 }
 
 // At the price 10 it pays 11 at A.
 #[test]
 fn a_price_may_make_the_far_site_the_least(rt: HostRuntime) {
+    const AWAY: [&[Arc]; 3] = [&[FIRST_AT_B], &[SECOND_AT_B], &[LAST_AT_B]];
     let alloc = rt.alloc();
     let mut rows = three_rows(&rt, alloc);
     is_same(&rt, keep_least(&rt, &mut rows, &[10, 0, 0]), 3);
-    let away: [&[Arc]; 3] = [&[FIRST_AT_B], &[SECOND_AT_B], &[LAST_AT_B]];
-    all_keep(&rt, alloc, &rows, away);
+    all_keep(&rt, alloc, &rows, AWAY);
 }
 
 // B costs 9 more. At the price 1 of the server 1 it costs 10 more there.
 #[test]
 fn arcs_within_a_window_are_kept(rt: HostRuntime) {
+    const NEAR: [&[Arc]; 3] = [&[TO_A, FIRST_AT_B], &[TO_A], &[LAST_AT_B]];
     let alloc = rt.alloc();
     let mut rows = three_rows(&rt, alloc);
     keep_near(&rt, &mut rows, &[0, 0, 0], 8);
     all_keep(&rt, alloc, &rows, [&[TO_A], &[TO_A], &[LAST_AT_B]]);
     keep_near(&rt, &mut rows, &[0, 1, 0], 9);
-    let near: [&[Arc]; 3] = [&[TO_A, FIRST_AT_B], &[TO_A], &[LAST_AT_B]];
-    all_keep(&rt, alloc, &rows, near);
+    all_keep(&rt, alloc, &rows, NEAR);
 }
 
 // Rows that keep nothing yet keep what leads out of the server 0. Then only the second row keeps nothing that leads out
 // of the server 1.
 #[test]
 fn arcs_that_lead_out_of_a_set_are_kept(rt: HostRuntime) {
+    const AWAY: [&[Arc]; 3] = [&[FIRST_AT_B], &[SECOND_AT_B], &[LAST_AT_B]];
+    const MORE: [&[Arc]; 3] = [&[FIRST_AT_B], &[TO_A, SECOND_AT_B], &[LAST_AT_B]];
     let alloc = rt.alloc();
     let mut rows = three_rows(&rt, alloc);
     is_same(&rt, keep_leaving(&rt, &mut rows, &[true, false, false]), 3);
-    let away: [&[Arc]; 3] = [&[FIRST_AT_B], &[SECOND_AT_B], &[LAST_AT_B]];
-    all_keep(&rt, alloc, &rows, away);
+    all_keep(&rt, alloc, &rows, AWAY);
     is_same(&rt, keep_leaving(&rt, &mut rows, &[true, false, false]), 0);
     is_same(&rt, keep_leaving(&rt, &mut rows, &[false, true, false]), 1);
-    let more: [&[Arc]; 3] = [&[FIRST_AT_B], &[TO_A, SECOND_AT_B], &[LAST_AT_B]];
-    all_keep(&rt, alloc, &rows, more);
+    all_keep(&rt, alloc, &rows, MORE);
 }

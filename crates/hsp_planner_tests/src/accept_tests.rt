@@ -148,7 +148,7 @@ fn prices_that_are_one_off_are_refused(rt: HostRuntime) {
 #[test]
 fn longer_lists_are_refused(rt: HostRuntime) {
     if let Some(network) = network_of(&rt, SHARED_HOST) {
-        let longer = [
+        const LONGER: [Plan<'static>; 4] = [
             Plan {
                 flows: &[3, 1, 0, 1, 2, 0],
                 ..CHEAPEST
@@ -166,7 +166,7 @@ fn longer_lists_are_refused(rt: HostRuntime) {
                 ..CHEAPEST
             },
         ];
-        for plan in longer {
+        for plan in LONGER {
             judges_plan(&rt, rt.alloc(), &network, plan, false);
         }
         judges_set(&rt, rt.alloc(), &network, &[true, true, true], false);
@@ -176,7 +176,7 @@ fn longer_lists_are_refused(rt: HostRuntime) {
 #[test]
 fn shorter_lists_are_refused(rt: HostRuntime) {
     if let Some(network) = network_of(&rt, SHARED_HOST) {
-        let shorter = [
+        const SHORTER: [Plan<'static>; 4] = [
             Plan {
                 flows: &[3, 1, 0, 1],
                 ..CHEAPEST
@@ -194,7 +194,7 @@ fn shorter_lists_are_refused(rt: HostRuntime) {
                 ..CHEAPEST
             },
         ];
-        for plan in shorter {
+        for plan in SHORTER {
             judges_plan(&rt, rt.alloc(), &network, plan, false);
         }
         judges_set(&rt, rt.alloc(), &network, &[true], false);
@@ -215,42 +215,42 @@ const FULL_SERVER: NetworkLists<'static> = NetworkLists {
 #[test]
 fn prices_above_the_bound_are_refused(rt: HostRuntime) {
     if let Some(network) = network_of(&rt, FULL_SERVER) {
-        let at_the_bound = Plan {
+        const AT_THE_BOUND: Plan<'static> = Plan {
             flows: &[2],
             sources: &[3],
             servers: &[2],
             hosts: &[],
         };
-        judges_plan(&rt, rt.alloc(), &network, at_the_bound, true);
-        let above = Plan {
+        const ABOVE: Plan<'static> = Plan {
             sources: &[4],
             servers: &[3],
-            ..at_the_bound
+            ..AT_THE_BOUND
         };
-        judges_plan(&rt, rt.alloc(), &network, above, false);
+        judges_plan(&rt, rt.alloc(), &network, AT_THE_BOUND, true);
+        judges_plan(&rt, rt.alloc(), &network, ABOVE, false);
     }
 }
 
 #[test]
 fn prices_without_costs_are_refused(rt: HostRuntime) {
-    let lists = NetworkLists {
+    const LISTS: NetworkLists<'static> = NetworkLists {
         costs: &[0],
         ..FULL_SERVER
     };
-    if let Some(network) = network_of(&rt, lists) {
-        let free = Plan {
+    if let Some(network) = network_of(&rt, LISTS) {
+        const FREE: Plan<'static> = Plan {
             flows: &[2],
             sources: &[0],
             servers: &[0],
             hosts: &[],
         };
-        judges_plan(&rt, rt.alloc(), &network, free, true);
-        let priced = Plan {
+        const PRICED: Plan<'static> = Plan {
             sources: &[1],
             servers: &[1],
-            ..free
+            ..FREE
         };
-        judges_plan(&rt, rt.alloc(), &network, priced, false);
+        judges_plan(&rt, rt.alloc(), &network, FREE, true);
+        judges_plan(&rt, rt.alloc(), &network, PRICED, false);
     }
 }
 
@@ -259,7 +259,7 @@ const HALF: u64 = 9_223_372_036_854_775_808;
 
 #[test]
 fn sums_of_a_source_that_wrap_are_refused(rt: HostRuntime) {
-    let lists = NetworkLists {
+    const LISTS: NetworkLists<'static> = NetworkLists {
         demands: &[0],
         capacities: &[HALF, HALF],
         limits: &[],
@@ -268,19 +268,19 @@ fn sums_of_a_source_that_wrap_are_refused(rt: HostRuntime) {
         servers: &[0, 1],
         costs: &[0, 0],
     };
-    if let Some(network) = network_of(&rt, lists) {
-        let none = Plan {
+    if let Some(network) = network_of(&rt, LISTS) {
+        const NONE: Plan<'static> = Plan {
             flows: &[0, 0],
             sources: &[0],
             servers: &[0, 0],
             hosts: &[],
         };
-        judges_plan(&rt, rt.alloc(), &network, none, true);
-        let wraps = Plan {
+        const WRAPS: Plan<'static> = Plan {
             flows: &[HALF, HALF],
-            ..none
+            ..NONE
         };
-        judges_plan(&rt, rt.alloc(), &network, wraps, false);
+        judges_plan(&rt, rt.alloc(), &network, NONE, true);
+        judges_plan(&rt, rt.alloc(), &network, WRAPS, false);
     }
 }
 
@@ -323,7 +323,7 @@ fn loads_that_wrap_are_refused(rt: HostRuntime) {
 
 #[test]
 fn short_sets_are_distinguished_from_others(rt: HostRuntime) {
-    let lists = NetworkLists {
+    const LISTS: NetworkLists<'static> = NetworkLists {
         demands: &[4, 3, 2],
         capacities: &[6, 2],
         limits: &[],
@@ -332,7 +332,7 @@ fn short_sets_are_distinguished_from_others(rt: HostRuntime) {
         servers: &[0, 0, 1],
         costs: &[1, 1, 1],
     };
-    if let Some(network) = network_of(&rt, lists) {
+    if let Some(network) = network_of(&rt, LISTS) {
         judges_set(&rt, rt.alloc(), &network, &[true, true, false], true);
         judges_set(&rt, rt.alloc(), &network, &[true, true, true], true);
         judges_set(&rt, rt.alloc(), &network, &[true, false, false], false);
@@ -385,7 +385,7 @@ fn short_sets_of_large_numbers_are_reported(rt: HostRuntime) {
 
 #[test]
 fn lists_that_are_no_network_are_reported(rt: HostRuntime) {
-    for lists in [
+    const LISTS: [NetworkLists<'static>; 7] = [
         NetworkLists {
             hosts: &[Some(0), Some(0)],
             ..SHARED_HOST
@@ -414,7 +414,8 @@ fn lists_that_are_no_network_are_reported(rt: HostRuntime) {
             sources: &[0, 0, 1, 0, 1],
             ..SHARED_HOST
         },
-    ] {
+    ];
+    for lists in LISTS {
         assert!(rt; Network::checked(lists).is_none());
     }
 }

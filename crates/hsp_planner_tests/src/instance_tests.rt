@@ -399,14 +399,14 @@ fn servers_stand_site_by_site(rt: HostRuntime) {
 
 #[test]
 fn rows_are_found_by_region_and_handle(rt: HostRuntime) {
-    let base = instance_of(&rt, rt.alloc(), SETTINGS, BASE);
-    let cases: [(&[u8], &[u8], Option<u32>); 4] = [
+    const CASES: [(&[u8], &[u8], Option<u32>); 4] = [
         (b"r1", b"10/2", Some(1)),
         (b"r2", b"10/3", Some(2)),
         (b"r2", b"10/2", None),
         (b"10/1", b"r1", None),
     ];
-    for (region, handle, wanted) in cases {
+    let base = instance_of(&rt, rt.alloc(), SETTINGS, BASE);
+    for (region, handle, wanted) in CASES {
         is_same(&rt, base.find_row(region, handle), wanted);
     }
 }

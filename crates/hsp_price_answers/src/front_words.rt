@@ -8,7 +8,7 @@ use hsp_dispatch::front_share::Front;
 use hsp_stream::{StreamFault, front_at, fronts_at};
 
 /// The words of a front: how many there are, and the number of one of them. Absent words mean 1 and 0.
-#[derive(Debug, Drop)]
+#[derive(Drop)]
 pub struct FrontChoice {
     pub fronts: Option<Vec<u8>>,
     pub front: Option<Vec<u8>>,

@@ -22,7 +22,7 @@ use std::alloc::{AllocError, Global};
 use std::io::Read;
 
 /// What a report shows.
-#[derive(Debug, Clone, Copy, PartialEq, Eq)]
+#[derive(Clone, Copy)]
 pub enum PriceReportKind {
     /// What each server takes by a plan.
     Load,

@@ -9,7 +9,7 @@ use hsp_text::limits::{GREATEST_SUM, MOST_HOSTS, MOST_SERVERS};
 use std::marker::Model;
 
 /// A plan by prices and classes. Its numbers are always within the orders and ranges of a certificate's text.
-#[derive(Debug, Drop)]
+#[derive(Drop)]
 pub struct PricedPlan {
     pub(crate) cost: u64,
     pub(crate) server_prices: Vec<u64>,
@@ -40,7 +40,7 @@ impl Model for PricedPlan {
 
 /// A set of servers, what the rows ask for that can go nowhere else, and what the set takes. Its numbers are always
 /// within the orders and ranges of a certificate's text.
-#[derive(Debug, Drop)]
+#[derive(Drop)]
 pub struct ShortServers {
     pub(crate) servers: Vec<u32>,
     pub(crate) demand: u64,
@@ -67,7 +67,7 @@ impl Model for ShortServers {
 }
 
 /// A certificate by prices.
-#[derive(Debug, Drop)]
+#[derive(Drop)]
 pub enum PriceCertificate {
     Plan(PricedPlan),
     Shortage(ShortServers),

@@ -3,7 +3,7 @@
 use std::marker::Model;
 
 /// A class of rows: its region, its servers in ascending order, and how many queries go to each.
-#[derive(Debug, Drop)]
+#[derive(Drop)]
 pub struct Class {
     pub region: Vec<u8>,
     pub servers: Vec<u32>,

@@ -19,7 +19,7 @@ use std::alloc::{AllocError, Global};
 use std::marker::Model;
 
 /// A certificate as far as its lines were read.
-#[derive(Debug, Drop)]
+#[derive(Drop)]
 pub(crate) struct Draft {
     stage: Stage,
     cost: u64,

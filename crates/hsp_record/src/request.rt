@@ -9,7 +9,7 @@ use crate::reading::{read_run, read_u32};
 use std::marker::Model;
 
 /// A resolution request (RFC 3652, section 3.2.1), seen as the octets of its handle.
-#[derive(Debug, Drop)]
+#[derive(Drop)]
 pub struct Request<'a> {
     pub(crate) handle: &'a [u8],
 }

@@ -5,7 +5,7 @@ ghost use Rattle.std.specs.Prelude.{◌≡◌, ◌<◌, ◌≤◌, length, Some,
 use std::marker::Model;
 
 /// An attribute of a site and its value.
-#[derive(Debug, Drop)]
+#[derive(Drop)]
 pub(crate) struct Attribute {
     pub(crate) name: Vec<u8>,
     pub(crate) value: Vec<u8>,
@@ -20,7 +20,7 @@ impl Model for Attribute {
 }
 
 /// A service interface of a server.
-#[derive(Debug, Drop)]
+#[derive(Drop)]
 pub(crate) struct ServiceInterface {
     pub(crate) service_type: u8,
     pub(crate) protocol: u8,
@@ -40,7 +40,7 @@ impl Model for ServiceInterface {
 }
 
 /// A server record of a site (RFC 3651, section 3.2.2).
-#[derive(Debug, Drop)]
+#[derive(Drop)]
 pub struct ServerRecord {
     pub(crate) id: u32,
     pub(crate) address: [u8; 16],
@@ -102,7 +102,7 @@ impl ServerRecord {
 }
 
 /// HS_SITE data (RFC 3651, section 3.2.2): a site of at most 1,024 servers.
-#[derive(Debug, Drop)]
+#[derive(Drop)]
 pub struct SiteRecord {
     pub(crate) version: u16,
     pub(crate) protocol: (u8, u8),

@@ -6,7 +6,7 @@ ghost use Rattle.std.specs.List.{find};
 use std::marker::Model;
 
 /// The references of a value: their number, and the octets that spell them.
-#[derive(Debug, Drop)]
+#[derive(Drop)]
 pub(crate) struct References<'a> {
     pub(crate) count: u32,
     pub(crate) octets: &'a [u8],
@@ -37,7 +37,7 @@ impl<'a> References<'a> {
 }
 
 /// A handle value (RFC 3651, section 3.1). Its type and data are lent from the octets that it was read from.
-#[derive(Debug, Drop)]
+#[derive(Drop)]
 pub struct Value<'a> {
     pub(crate) index: u32,
     pub(crate) type_octets: &'a [u8],
@@ -106,7 +106,7 @@ impl<'a> Value<'a> {
 }
 
 /// A list of handle values of distinct indices.
-#[derive(Debug, Drop)]
+#[derive(Drop)]
 pub struct ValueList<'a> {
     pub(crate) values: Vec<Value<'a>>,
 }

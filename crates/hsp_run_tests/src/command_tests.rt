@@ -234,7 +234,7 @@ fn a_dispatch_is_ordered(rt: HostRuntime) {
 
 #[test]
 fn a_dispatch_at_fronts_is_ordered(rt: HostRuntime) {
-    let cases: [(&[u8], &str); 3] = [
+    const CASES: [(&[u8], &str); 3] = [
         (
             b"dispatch --settings s --demand d --costs c --capacity k --plan p --log l --fronts 2",
             "dispatch|s|none|d|c|k|p|l|2",
@@ -248,14 +248,14 @@ fn a_dispatch_at_fronts_is_ordered(rt: HostRuntime) {
             "dispatch|s|none|d|c|k|p|l|x",
         ),
     ];
-    for (line, wanted) in cases {
+    for (line, wanted) in CASES {
         gives(&rt, rt.alloc(), line, wanted);
     }
 }
 
 #[test]
 fn a_report_is_ordered(rt: HostRuntime) {
-    let cases: [(&[u8], &str); 3] = [
+    const CASES: [(&[u8], &str); 3] = [
         (
             b"report --settings s --demand d --costs c --capacity k --plan p --kind load",
             "report|s|none|d|c|k|p|Load",
@@ -269,14 +269,14 @@ fn a_report_is_ordered(rt: HostRuntime) {
             "report|s|none|d|c|k|p|Shortage",
         ),
     ];
-    for (line, wanted) in cases {
+    for (line, wanted) in CASES {
         gives(&rt, rt.alloc(), line, wanted);
     }
 }
 
 #[test]
 fn other_words_are_no_order(rt: HostRuntime) {
-    let lines: [&[u8]; 25] = [
+    const LINES: [&[u8]; 25] = [
         b"",
         b"locate",
         b"plan",
@@ -303,7 +303,7 @@ fn other_words_are_no_order(rt: HostRuntime) {
         b"report --settings s --demand d --costs c --capacity k --plan p --kind loads",
         b"report --settings s --demand d --costs c --capacity k --plan p --kind Load",
     ];
-    for line in lines {
+    for line in LINES {
         refused(&rt, rt.alloc(), line);
     }
 }

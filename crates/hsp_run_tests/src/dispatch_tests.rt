@@ -37,20 +37,20 @@ const WORKED: Worked<'static> = Worked {
 
 #[test]
 fn logs_are_answered(rt: HostRuntime) {
-    let one = LogSums {
+    const ONE: LogSums = LogSums {
         assigned: 1,
         ..NO_SUMS
     };
-    let cases: [(&[u8], LogSums, &[u8]); 3] = [
+    const CASES: [(&[u8], LogSums, &[u8]); 3] = [
         (LOG, SUMS, LINES),
         (
             b"region,body\nr2,0000000431302f330000000000000000\n",
-            one,
+            ONE,
             b"assigned E 1 3\n",
         ),
         (b"region,handle\n", NO_SUMS, b""),
     ];
-    for (log, sums, text) in cases {
+    for (log, sums, text) in CASES {
         let ended = run_twice(&rt, rt.alloc(), base_plan(BY_ONE), log, 100);
         has_ended(&rt, &ended, Ok(of_one(sums)), text);
     }
@@ -126,7 +126,7 @@ fn what_is_not_accepted_answers_nothing(rt: HostRuntime) {
 
 #[test]
 fn faults_of_logs_have_their_lines(rt: HostRuntime) {
-    let cases: [(LogFault, u8, &[u8]); 8] = [
+    const CASES: [(LogFault, u8, &[u8]); 8] = [
         (LogFault::ReadFailed, 5, b"hsplan: log: ReadFailed\n"),
         (LogFault::WriteFailed, 5, b"hsplan: log: WriteFailed\n"),
         (LogFault::Header, 1, b"hsplan: log: Header\n"),
@@ -152,7 +152,7 @@ fn faults_of_logs_have_their_lines(rt: HostRuntime) {
             b"hsplan: log: BadFront row 2\n",
         ),
     ];
-    for (fault, status, wanted) in cases {
+    for (fault, status, wanted) in CASES {
         is_reported(&rt, rt.alloc(), &Fault::Log(fault), wanted, status);
     }
 }

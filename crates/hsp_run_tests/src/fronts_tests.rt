@@ -49,18 +49,18 @@ const WORKED: Worked<'static> = Worked {
 
 #[test]
 fn fronts_answer_by_their_shares(rt: HostRuntime) {
-    let only = FrontSums {
+    const ONLY: FrontSums = FrontSums {
         assigned: 1,
         no_front: 5,
         unknown: 1,
         ..NO_SUMS
     };
-    let cases: [(&[u8], &[u8], FrontSums, &[u8]); 4] = [
+    const CASES: [(&[u8], &[u8], FrontSums, &[u8]); 4] = [
         (b"2", LOG, SUMS, LINES),
         (
             b"1",
             LOG,
-            only,
+            ONLY,
             b"nofront\nassigned E 1 3\nnofront\nnofront\nnofront\nnofront\nunknown\n",
         ),
         (
@@ -76,7 +76,7 @@ fn fronts_answer_by_their_shares(rt: HostRuntime) {
         ),
         (b"2", b"front,region,handle\n", NO_SUMS, b""),
     ];
-    for (fronts, log, sums, text) in cases {
+    for (fronts, log, sums, text) in CASES {
         let asked = base_plan(Answerers::Fronts(fronts));
         let ended = run_twice(&rt, rt.alloc(), asked, log, 100);
         has_ended(&rt, &ended, Ok(sums), text);
@@ -91,8 +91,8 @@ fn has_bad_fronts(rt: &impl Abort, alloc: Global, asked: Asked<'_>) {
 
 #[test]
 fn no_number_of_fronts_is_refused_first(rt: HostRuntime) {
-    let words: [&[u8]; 8] = [b"0", b"65", b"x", b"", b"-1", b"02", b"2 ", b"4294967298"];
-    for word in words {
+    const WORDS: [&[u8]; 8] = [b"0", b"65", b"x", b"", b"-1", b"02", b"2 ", b"4294967298"];
+    for word in WORDS {
         let by = Answerers::Fronts(word);
         has_bad_fronts(&rt, rt.alloc(), base_plan(by));
         let lacking = Asked {

@@ -20,7 +20,7 @@ fn all_have_lines(rt: &impl Abort, alloc: Global, cases: &[(Fault, &[u8])]) {
 
 #[test]
 fn greatest_numbers_of_records_have_their_lines(rt: HostRuntime) {
-    let cases: [(Fault, &[u8]); 3] = [
+    const CASES: [(Fault, &[u8]); 3] = [
         (
             Fault::Site(RecordFault::Truncated { at: usize::MAX }),
             b"hsplan: site: Truncated at 18446744073709551615\n",
@@ -34,12 +34,12 @@ fn greatest_numbers_of_records_have_their_lines(rt: HostRuntime) {
             b"hsplan: values: IndexTwice index 4294967295\n",
         ),
     ];
-    all_have_lines(&rt, rt.alloc(), &cases);
+    all_have_lines(&rt, rt.alloc(), &CASES);
 }
 
 #[test]
 fn greatest_numbers_of_settings_have_their_lines(rt: HostRuntime) {
-    let cases: [(Fault, &[u8]); 4] = [
+    const CASES: [(Fault, &[u8]); 4] = [
         (
             Fault::Settings(TableFault::BadSite { site: u32::MAX }),
             b"hsplan: settings: BadSite site 4294967295\n",
@@ -57,12 +57,12 @@ fn greatest_numbers_of_settings_have_their_lines(rt: HostRuntime) {
             b"hsplan: settings: HostTwice host 4294967295\n",
         ),
     ];
-    all_have_lines(&rt, rt.alloc(), &cases);
+    all_have_lines(&rt, rt.alloc(), &CASES);
 }
 
 #[test]
 fn greatest_numbers_of_tables_have_their_lines(rt: HostRuntime) {
-    let cases: [(Fault, &[u8]); 5] = [
+    const CASES: [(Fault, &[u8]); 5] = [
         (
             Fault::Demand(TableFault::Fields { row: u32::MAX }),
             b"hsplan: demand: Fields row 4294967295\n",
@@ -87,12 +87,12 @@ fn greatest_numbers_of_tables_have_their_lines(rt: HostRuntime) {
             b"hsplan: capacity: RowTwice row 4294967295\n",
         ),
     ];
-    all_have_lines(&rt, rt.alloc(), &cases);
+    all_have_lines(&rt, rt.alloc(), &CASES);
 }
 
 #[test]
 fn greatest_numbers_of_sites_have_their_lines(rt: HostRuntime) {
-    let cases: [(Fault, &[u8]); 6] = [
+    const CASES: [(Fault, &[u8]); 6] = [
         (
             Fault::Build(BuildFault::NoValue { site: u32::MAX }),
             b"hsplan: build: NoValue site 4294967295\n",
@@ -121,12 +121,12 @@ fn greatest_numbers_of_sites_have_their_lines(rt: HostRuntime) {
             b"hsplan: build: ServerIdTwice site 4294967295\n",
         ),
     ];
-    all_have_lines(&rt, rt.alloc(), &cases);
+    all_have_lines(&rt, rt.alloc(), &CASES);
 }
 
 #[test]
 fn greatest_numbers_of_tables_that_name_sites_have_their_lines(rt: HostRuntime) {
-    let cases: [(Fault, &[u8]); 3] = [
+    const CASES: [(Fault, &[u8]); 3] = [
         (
             Fault::Build(BuildFault::UnknownSite {
                 table: Table::Capacity,
@@ -146,12 +146,12 @@ fn greatest_numbers_of_tables_that_name_sites_have_their_lines(rt: HostRuntime) 
             b"hsplan: build: NoCapacity site 4294967295 server_id 4294967295\n",
         ),
     ];
-    all_have_lines(&rt, rt.alloc(), &cases);
+    all_have_lines(&rt, rt.alloc(), &CASES);
 }
 
 #[test]
 fn greatest_numbers_of_certificates_and_logs_have_their_lines(rt: HostRuntime) {
-    let cases: [(Fault, &[u8]); 6] = [
+    const CASES: [(Fault, &[u8]); 6] = [
         (
             Fault::Cert(CertFault::BadLine { line: u64::MAX }),
             b"hsplan: certificate: BadLine line 18446744073709551615\n",
@@ -177,5 +177,5 @@ fn greatest_numbers_of_certificates_and_logs_have_their_lines(rt: HostRuntime) {
             b"hsplan: log: BadFront row 4294967295\n",
         ),
     ];
-    all_have_lines(&rt, rt.alloc(), &cases);
+    all_have_lines(&rt, rt.alloc(), &CASES);
 }

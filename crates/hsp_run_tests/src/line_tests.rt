@@ -89,13 +89,13 @@ fn locates(rt: &impl Abort, alloc: Global, asked: Asked<'_>, handle: &[u8], want
 
 #[test]
 fn places_are_printed(rt: HostRuntime) {
-    let cases: [(&[u8], &[u8], &[u8], &[u8]); 4] = [
+    const CASES: [(&[u8], &[u8], &[u8], &[u8]); 4] = [
         (b"local", b"2", b"10/3", b"1\n"),
         (b"local", b"3", b"10/3", b"0\n"),
         (b"na", b"3", b"10/1", b"2\n"),
         (b"handle", b"1", b"10/1", b"0\n"),
     ];
-    for (option, servers, handle, wanted) in cases {
+    for (option, servers, handle, wanted) in CASES {
         locates(
             &rt,
             rt.alloc(),
@@ -108,12 +108,12 @@ fn places_are_printed(rt: HostRuntime) {
 
 #[test]
 fn servers_at_sites_are_printed(rt: HostRuntime) {
-    let cases: [(&[u8], &[u8]); 3] = [
+    const CASES: [(&[u8], &[u8]); 3] = [
         (b"10/1", b"E 1 3\nW 2 9\n"),
         (b"10/2", b"E 0 7\nW 1 2\n"),
         (b"10/3", b"E 1 3\nW 0 1\n"),
     ];
-    for (handle, wanted) in cases {
+    for (handle, wanted) in CASES {
         locates(
             &rt,
             rt.alloc(),
@@ -202,7 +202,7 @@ fn sites_are_located_by_values(rt: HostRuntime) {
 
 #[test]
 fn the_first_fault_is_reported(rt: HostRuntime) {
-    let cases: [(&[u8], &[u8], &[u8], Fault); 6] = [
+    const CASES: [(&[u8], &[u8], &[u8], Fault); 6] = [
         (b"x", b"0", b"10", Fault::BadOption),
         (b"local", b"0", b"10", Fault::BadServers),
         (b"local", b"1025", b"10/3", Fault::BadServers),
@@ -210,7 +210,7 @@ fn the_first_fault_is_reported(rt: HostRuntime) {
         (b"local", b"", b"10/3", Fault::BadServers),
         (b"local", b"2", b"10", Fault::Handle(HandleFault::NoSlash)),
     ];
-    for (option, servers, handle, wanted) in cases {
+    for (option, servers, handle, wanted) in CASES {
         locates(
             &rt,
             rt.alloc(),
@@ -244,7 +244,7 @@ fn is_refused(rt: &impl Abort, alloc: Global, fault: &Fault, wanted: &[u8]) {
 
 #[test]
 fn faults_have_their_lines_and_statuses(rt: HostRuntime) {
-    let cases: [(Fault, &[u8], u8); 11] = [
+    const CASES: [(Fault, &[u8], u8); 11] = [
         (Fault::BadOption, b"hsplan: BadOption\n", 1),
         (Fault::BadServers, b"hsplan: BadServers\n", 1),
         (
@@ -277,14 +277,14 @@ fn faults_have_their_lines_and_statuses(rt: HostRuntime) {
         (Fault::NotSiteValue, b"hsplan: NotSiteValue\n", 1),
         (Fault::OutOfMemory, b"hsplan: OutOfMemory\n", 4),
     ];
-    for (fault, wanted, status) in cases {
+    for (fault, wanted, status) in CASES {
         is_reported(&rt, rt.alloc(), &fault, wanted, status);
     }
 }
 
 #[test]
 fn faults_of_settings_have_their_lines(rt: HostRuntime) {
-    let cases: [(TableFault, &[u8]); 9] = [
+    const CASES: [(TableFault, &[u8]); 9] = [
         (TableFault::NotToml, b"hsplan: settings: NotToml\n"),
         (TableFault::UnknownKey, b"hsplan: settings: UnknownKey\n"),
         (
@@ -313,18 +313,18 @@ fn faults_of_settings_have_their_lines(rt: HostRuntime) {
             b"hsplan: settings: TooManyHosts\n",
         ),
     ];
-    for (fault, wanted) in cases {
+    for (fault, wanted) in CASES {
         is_refused(&rt, rt.alloc(), &Fault::Settings(fault), wanted);
     }
 }
 
 #[test]
 fn faults_of_rows_have_their_lines(rt: HostRuntime) {
-    let bad_handle = TableFault::BadHandle {
+    const BAD_HANDLE: TableFault = TableFault::BadHandle {
         row: 0,
         fault: HandleFault::NoSlash,
     };
-    let cases: [(TableFault, &[u8]); 8] = [
+    const CASES: [(TableFault, &[u8]); 8] = [
         (TableFault::Header, b"hsplan: settings: Header\n"),
         (
             TableFault::Fields { row: 0 },
@@ -334,7 +334,7 @@ fn faults_of_rows_have_their_lines(rt: HostRuntime) {
             TableFault::BadName { row: 0 },
             b"hsplan: settings: BadName row 0\n",
         ),
-        (bad_handle, b"hsplan: settings: BadHandle row 0 NoSlash\n"),
+        (BAD_HANDLE, b"hsplan: settings: BadHandle row 0 NoSlash\n"),
         (
             TableFault::BadNumber { row: 0 },
             b"hsplan: settings: BadNumber row 0\n",
@@ -349,18 +349,18 @@ fn faults_of_rows_have_their_lines(rt: HostRuntime) {
             b"hsplan: settings: TooManyRegions\n",
         ),
     ];
-    for (fault, wanted) in cases {
+    for (fault, wanted) in CASES {
         is_refused(&rt, rt.alloc(), &Fault::Settings(fault), wanted);
     }
 }
 
 #[test]
 fn faults_of_sites_have_their_lines(rt: HostRuntime) {
-    let truncated = BuildFault::BadRecord {
+    const TRUNCATED: BuildFault = BuildFault::BadRecord {
         site: 1,
         fault: RecordFault::Truncated { at: 44 },
     };
-    let cases: [(BuildFault, &[u8]); 7] = [
+    const CASES: [(BuildFault, &[u8]); 7] = [
         (
             BuildFault::NoValue { site: 0 },
             b"hsplan: build: NoValue site 0\n",
@@ -370,7 +370,7 @@ fn faults_of_sites_have_their_lines(rt: HostRuntime) {
             b"hsplan: build: NotSiteValue site 0\n",
         ),
         (
-            truncated,
+            TRUNCATED,
             b"hsplan: build: BadRecord site 1 Truncated at 44\n",
         ),
         (
@@ -390,24 +390,24 @@ fn faults_of_sites_have_their_lines(rt: HostRuntime) {
             b"hsplan: build: TooManyServers\n",
         ),
     ];
-    for (fault, wanted) in cases {
+    for (fault, wanted) in CASES {
         is_refused(&rt, rt.alloc(), &Fault::Build(fault), wanted);
     }
 }
 
 #[test]
 fn faults_of_what_tables_name_have_their_lines(rt: HostRuntime) {
-    let unknown_site = BuildFault::UnknownSite {
+    const UNKNOWN_SITE: BuildFault = BuildFault::UnknownSite {
         table: Table::Costs,
         row: 0,
     };
-    let no_capacity = BuildFault::NoCapacity {
+    const NO_CAPACITY: BuildFault = BuildFault::NoCapacity {
         site: 1,
         server_id: 9,
     };
-    let cases: [(BuildFault, &[u8]); 4] = [
+    const CASES: [(BuildFault, &[u8]); 4] = [
         (
-            unknown_site,
+            UNKNOWN_SITE,
             b"hsplan: build: UnknownSite table costs row 0\n",
         ),
         (
@@ -415,12 +415,12 @@ fn faults_of_what_tables_name_have_their_lines(rt: HostRuntime) {
             b"hsplan: build: UnknownServer row 0\n",
         ),
         (
-            no_capacity,
+            NO_CAPACITY,
             b"hsplan: build: NoCapacity site 1 server_id 9\n",
         ),
         (BuildFault::OutOfMemory, b"hsplan: build: OutOfMemory\n"),
     ];
-    for (fault, wanted) in cases {
+    for (fault, wanted) in CASES {
         is_refused(&rt, rt.alloc(), &Fault::Build(fault), wanted);
     }
 }
@@ -436,7 +436,7 @@ fn is_displayed(rt: &impl Abort, alloc: Global, fault: &Fault, wanted: &str) {
 
 #[test]
 fn faults_of_words_and_values_are_displayed(rt: HostRuntime) {
-    let cases: [(Fault, &str); 10] = [
+    const CASES: [(Fault, &str); 10] = [
         (Fault::BadOption, "bad option"),
         (Fault::BadServers, "bad servers"),
         (Fault::BadIndex, "bad index"),
@@ -448,14 +448,14 @@ fn faults_of_words_and_values_are_displayed(rt: HostRuntime) {
         (Fault::Refused(Reason::Cost), "check: Cost"),
         (Fault::Log(LogFault::Header), "log: Header"),
     ];
-    for (fault, wanted) in cases {
+    for (fault, wanted) in CASES {
         is_displayed(&rt, rt.alloc(), &fault, wanted);
     }
 }
 
 #[test]
 fn faults_of_inputs_are_displayed(rt: HostRuntime) {
-    let cases: [(Fault, &str); 9] = [
+    const CASES: [(Fault, &str); 9] = [
         (Fault::Handle(HandleFault::NoSlash), "handle: NoSlash"),
         (
             Fault::Site(RecordFault::Trailing { at: 48 }),
@@ -475,7 +475,7 @@ fn faults_of_inputs_are_displayed(rt: HostRuntime) {
         ),
         (Fault::Cert(CertFault::Ended), "certificate: Ended"),
     ];
-    for (fault, wanted) in cases {
+    for (fault, wanted) in CASES {
         is_displayed(&rt, rt.alloc(), &fault, wanted);
     }
 }
@@ -490,13 +490,13 @@ fn line_of<R: Read + Copy + Drop>(rt: &impl Abort, alloc: Global, reader: R) -> 
 
 #[test]
 fn first_lines_are_read(rt: HostRuntime) {
-    let cases: [(&[u8], &[u8]); 4] = [
+    const CASES: [(&[u8], &[u8]); 4] = [
         (b"a  b\nc", b"a  b"),
         (b"c", b"c"),
         (b"", b""),
         (b"\n\n", b""),
     ];
-    for (text, wanted) in cases {
+    for (text, wanted) in CASES {
         let line = line_of(&rt, rt.alloc(), text).expect(&rt, "there is a line");
         is_same(&rt, line.as_slice(), wanted);
     }

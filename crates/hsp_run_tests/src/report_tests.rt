@@ -36,12 +36,12 @@ const MISSING: &[u8] = b"short 9 - 8 = 1\n row   count region\n   2       9 r2\n
 
 #[test]
 fn reports_are_of_their_kinds(rt: HostRuntime) {
-    let cases: [(Texts<'_>, &[u8], ReportKind, &[u8]); 3] = [
+    const CASES: [(Texts<'_>, &[u8], ReportKind, &[u8]); 3] = [
         (BASE, PLAN, ReportKind::Load, LOADS),
         (BASE, PLAN, ReportKind::Region, REGIONS),
         (LACKING, SHORTAGE, ReportKind::Shortage, MISSING),
     ];
-    for (texts, cert, kind, wanted) in cases {
+    for (texts, cert, kind, wanted) in CASES {
         let report = reported(&rt, rt.alloc(), texts, cert, kind);
         let text = report.expect(&rt, "there is a report");
         is_same(&rt, text.as_slice(), wanted);
@@ -50,7 +50,7 @@ fn reports_are_of_their_kinds(rt: HostRuntime) {
 
 #[test]
 fn what_has_no_report_is_reported(rt: HostRuntime) {
-    let cases: [(Texts<'_>, &[u8], ReportKind, Fault); 7] = [
+    const CASES: [(Texts<'_>, &[u8], ReportKind, Fault); 7] = [
         (
             UNASKED,
             b"",
@@ -79,7 +79,7 @@ fn what_has_no_report_is_reported(rt: HostRuntime) {
             Fault::Cert(CertFault::Ended),
         ),
     ];
-    for (texts, cert, kind, wanted) in cases {
+    for (texts, cert, kind, wanted) in CASES {
         let found = reported(&rt, rt.alloc(), texts, cert, kind).err();
         is_same(&rt, found, Some(wanted));
     }

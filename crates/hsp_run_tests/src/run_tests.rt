@@ -87,7 +87,7 @@ const PRICES: &[u8] =
 
 #[test]
 fn plans_are_judged(rt: HostRuntime) {
-    let uses: [(&[u8], &[u8], Verdict); 5] = [
+    const PLANS: [(&[u8], &[u8], Verdict); 5] = [
         (b"cost 17\n", USES, Verdict::Yes),
         (b"cost 16\n", USES, Verdict::No(Reason::Cost)),
         (
@@ -106,7 +106,7 @@ fn plans_are_judged(rt: HostRuntime) {
             Verdict::No(Reason::Load),
         ),
     ];
-    for (cost, uses, wanted) in uses {
+    for (cost, uses, wanted) in PLANS {
         let text = plan_text(&rt, rt.alloc(), cost, uses, PRICES);
         checks(&rt, rt.alloc(), BASE, &text, wanted);
     }
@@ -114,7 +114,7 @@ fn plans_are_judged(rt: HostRuntime) {
 
 #[test]
 fn prices_are_judged(rt: HostRuntime) {
-    let prices: [(&[u8], Reason); 4] = [
+    const CASES: [(&[u8], Reason); 4] = [
         (
             b"row 0 2\nrow 1 1\nrow 2 3\nserver 0 0\nserver 1 1\nserver 2 0\nserver 3 0\n",
             Reason::Shape,
@@ -132,7 +132,7 @@ fn prices_are_judged(rt: HostRuntime) {
             Reason::IdlePrice,
         ),
     ];
-    for (prices, reason) in prices {
+    for (prices, reason) in CASES {
         let text = plan_text(&rt, rt.alloc(), b"cost 17\n", USES, prices);
         checks(&rt, rt.alloc(), BASE, &text, Verdict::No(reason));
     }
@@ -140,7 +140,7 @@ fn prices_are_judged(rt: HostRuntime) {
 
 #[test]
 fn shortages_are_judged(rt: HostRuntime) {
-    let sets: [(&[u8], Verdict); 5] = [
+    const SETS: [(&[u8], Verdict); 5] = [
         (
             b"HSPLAN 1\nSHORTAGE\ndemand 9\ncapacity 8\nrow 2\nEND\n",
             Verdict::Yes,
@@ -162,21 +162,21 @@ fn shortages_are_judged(rt: HostRuntime) {
             Verdict::No(Reason::Shape),
         ),
     ];
-    for (text, wanted) in sets {
+    for (text, wanted) in SETS {
         checks(&rt, rt.alloc(), LACKING, text, wanted);
     }
 }
 
 #[test]
 fn equal_costs_leave_several_best_plans(rt: HostRuntime) {
+    const PLANS: [&[u8]; 3] = [b"use 0 0 2\n", b"use 0 0 1\nuse 0 1 1\n", b"use 0 1 2\n"];
     let texts = Texts {
         demand: b"region,handle,count\nr1,10/1,2\n",
         costs: b"region,site,cost\nr1,E,1\nr1,W,1\n",
         ..BASE
     };
     let prices: &[u8] = b"row 0 1\nserver 0 0\nserver 1 0\nserver 2 0\nserver 3 0\nserver 4 0\n";
-    let plans: [&[u8]; 3] = [b"use 0 0 2\n", b"use 0 0 1\nuse 0 1 1\n", b"use 0 1 2\n"];
-    for uses in plans {
+    for uses in PLANS {
         let text = plan_text(&rt, rt.alloc(), b"cost 2\n", uses, prices);
         checks(&rt, rt.alloc(), texts, &text, Verdict::Yes);
     }
@@ -247,7 +247,7 @@ fn has_line(rt: &impl Abort, alloc: Global, verdict: &Verdict, wanted: &[u8]) {
 
 #[test]
 fn verdicts_have_their_lines(rt: HostRuntime) {
-    let cases: [(Verdict, &[u8], u8); 12] = [
+    const CASES: [(Verdict, &[u8], u8); 12] = [
         (Verdict::Yes, b"yes\n", 0),
         (Verdict::No(Reason::Shape), b"no 1 Shape\n", 3),
         (Verdict::No(Reason::NoSuchUse), b"no 2 NoSuchUse\n", 3),
@@ -261,7 +261,7 @@ fn verdicts_have_their_lines(rt: HostRuntime) {
         (Verdict::No(Reason::CapacitySum), b"no 10 CapacitySum\n", 3),
         (Verdict::No(Reason::NotShort), b"no 11 NotShort\n", 3),
     ];
-    for (verdict, wanted, status) in cases {
+    for (verdict, wanted, status) in CASES {
         is_same(&rt, verdict_status(&verdict), status);
         has_line(&rt, rt.alloc(), &verdict, wanted);
     }
@@ -269,17 +269,17 @@ fn verdicts_have_their_lines(rt: HostRuntime) {
 
 #[test]
 fn faults_of_tables_and_certificates_have_their_lines(rt: HostRuntime) {
-    let bad_handle = TableFault::BadHandle {
+    const BAD_HANDLE: TableFault = TableFault::BadHandle {
         row: 0,
         fault: HandleFault::NoSlash,
     };
-    let cases: [(Fault, &[u8]); 8] = [
+    const CASES: [(Fault, &[u8]); 8] = [
         (
             Fault::Demand(TableFault::RowTwice { row: 1 }),
             b"hsplan: demand: RowTwice row 1\n",
         ),
         (
-            Fault::Demand(bad_handle),
+            Fault::Demand(BAD_HANDLE),
             b"hsplan: demand: BadHandle row 0 NoSlash\n",
         ),
         (Fault::Costs(TableFault::Header), b"hsplan: costs: Header\n"),
@@ -304,7 +304,7 @@ fn faults_of_tables_and_certificates_have_their_lines(rt: HostRuntime) {
             b"hsplan: certificate: OutOfMemory\n",
         ),
     ];
-    for (fault, wanted) in cases {
+    for (fault, wanted) in CASES {
         is_reported(&rt, rt.alloc(), &fault, wanted, 1);
     }
 }
@@ -419,30 +419,30 @@ fn hosts_limit_plans(rt: HostRuntime) {
 
 #[test]
 fn shortages_are_reported(rt: HostRuntime) {
-    let unserved = Texts {
+    const UNSERVED: Texts<'static> = Texts {
         demand: b"region,handle,count\nr3,10/1,1\n",
         ..BASE
     };
-    let without_w = Texts {
+    const WITHOUT_W: Texts<'static> = Texts {
         demand: b"region,handle,count\nr1,10/1,4\nr1,10/2,1\nr2,10/3,4\n",
         costs: b"region,site,cost\nr1,E,1\nr2,E,2\n",
         ..BASE
     };
-    let cases: [(Texts<'_>, &[u8]); 3] = [
+    const CASES: [(Texts<'_>, &[u8]); 3] = [
         (
             LACKING,
             b"HSPLAN 1\nSHORTAGE\ndemand 9\ncapacity 8\nrow 2\nEND\n",
         ),
         (
-            unserved,
+            UNSERVED,
             b"HSPLAN 1\nSHORTAGE\ndemand 1\ncapacity 0\nrow 0\nEND\n",
         ),
         (
-            without_w,
+            WITHOUT_W,
             b"HSPLAN 1\nSHORTAGE\ndemand 8\ncapacity 6\nrow 0\nrow 2\nEND\n",
         ),
     ];
-    for (texts, wanted) in cases {
+    for (texts, wanted) in CASES {
         let plan = held_plan(&rt, rt.alloc(), texts);
         is_text(&rt, &plan, true, wanted);
     }
@@ -488,14 +488,14 @@ pub(crate) const SHORTAGE: &[u8] = b"HSPLAN 1\nSHORTAGE\ndemand 9\ncapacity 8\nr
 
 #[test]
 fn certificates_that_are_not_accepted_have_their_lines(rt: HostRuntime) {
-    let cases: [(Fault, &[u8]); 2] = [
+    const CASES: [(Fault, &[u8]); 2] = [
         (
             Fault::Refused(Reason::IdlePrice),
             b"hsplan: check: IdlePrice\n",
         ),
         (Fault::WrongKind, b"hsplan: WrongKind\n"),
     ];
-    for (fault, wanted) in cases {
+    for (fault, wanted) in CASES {
         is_reported(&rt, rt.alloc(), &fault, wanted, 3);
     }
 }

@@ -16,7 +16,7 @@ use hsp_text::push_whole;
 use std::alloc::{AllocError, Global};
 
 /// What decides the server of a handle.
-#[derive(Debug, Drop)]
+#[derive(Drop)]
 pub enum Locate {
     /// A hash option, `na`, `local` or `handle`, and a number of servers.
     Place {

@@ -17,7 +17,7 @@ use std::alloc::{AllocError, Global};
 use std::marker::Model;
 
 /// The text of the certificate of a plan, or of a shortage where there is no plan.
-#[derive(Debug, Drop)]
+#[derive(Drop)]
 pub struct PlanText {
     bytes: Vec<u8>,
     is_short: bool,

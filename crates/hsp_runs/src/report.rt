@@ -12,7 +12,7 @@ use hsp_report::{load_report, region_report, shortage_report};
 use std::alloc::Global;
 
 /// What a report shows.
-#[derive(Debug, Clone, Copy, PartialEq, Eq)]
+#[derive(Clone, Copy)]
 pub enum ReportKind {
     /// What each server takes by a plan.
     Load,

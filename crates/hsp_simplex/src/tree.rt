@@ -11,7 +11,7 @@ use crate::lists::{ABSENT, get_or, number_of};
 use std::alloc::{AllocError, Global};
 
 /// Whether a transshipment node's outlet is in the tree, and otherwise at which bound it is.
-#[derive(Clone, Copy, PartialEq, Eq, Drop)]
+#[derive(Clone, Copy, Drop)]
 pub enum OutletState {
     Basic,
     AtLower,
@@ -51,7 +51,7 @@ impl Node {
 }
 
 /// What the network simplex took.
-#[derive(Clone, Copy, Debug, Default, Drop)]
+#[derive(Clone, Copy, Default, Drop)]
 pub struct SimplexEffort {
     /// How often an arc entered.
     pub pivots: u64,

@@ -19,7 +19,7 @@ use hsp_talk::{LONGEST_ROW, Refusal};
 use std::alloc::{AllocError, Global};
 
 /// The first row that isn't blank is not a header.
-#[derive(Debug, Drop)]
+#[derive(Drop)]
 pub struct NoHeader;
 
 /// What a row behind the header asks.

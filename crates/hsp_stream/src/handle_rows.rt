@@ -12,7 +12,7 @@ use hsp_talk::{LONGEST_ROW, Refusal};
 use std::alloc::Global;
 
 /// What the rows of a log of handles have.
-#[derive(Clone, Copy, Debug, PartialEq, Eq)]
+#[derive(Clone, Copy)]
 pub enum HandleForm {
     /// A handle.
     Handle,

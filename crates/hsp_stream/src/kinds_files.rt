@@ -13,7 +13,7 @@ use hsp_tables::{Costs, Settings};
 use std::alloc::Global;
 
 /// The files that `kinds` joins rows by.
-#[derive(Debug, Drop)]
+#[derive(Drop)]
 pub struct KindsInputs {
     /// The settings.
     pub settings: Vec<u8>,

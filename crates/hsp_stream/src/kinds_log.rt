@@ -25,7 +25,7 @@ use std::io::Read;
 pub const GREATEST_ROW_COUNT: u64 = 1_000_000_000_000;
 
 /// What the header of a log names.
-#[derive(Clone, Copy, Debug, PartialEq, Eq)]
+#[derive(Clone, Copy)]
 pub enum CountForm {
     /// A region and a handle. Each row counts 1.
     Ones,

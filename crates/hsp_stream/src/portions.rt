@@ -16,7 +16,7 @@ use hsp_text::read_whole;
 
 /// The words of a portion: how many answers each query of the plan stands for, how many fronts there are, and the
 /// number of one of them. Absent words mean 1, 1 and 0.
-#[derive(Debug, Drop)]
+#[derive(Drop)]
 pub struct PortionWords {
     pub unit: Option<Vec<u8>>,
     pub fronts: Option<Vec<u8>>,

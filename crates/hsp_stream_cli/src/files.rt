@@ -12,14 +12,14 @@ use hsp_stream::KindsInputs;
 use std::alloc::Global;
 
 /// The octets that define sites: settings, and the value list that they may refer to.
-#[derive(Debug, Drop)]
+#[derive(Drop)]
 pub(crate) struct Sources {
     pub(crate) settings: Vec<u8>,
     pub(crate) values: Option<Vec<u8>>,
 }
 
 /// A certificate by prices, and the inputs that it is checked by, but for the log.
-#[derive(Debug, Drop)]
+#[derive(Drop)]
 pub(crate) struct Priced {
     /// Their table of demand has no row.
     pub(crate) inputs: Inputs,

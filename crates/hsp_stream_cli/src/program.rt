@@ -13,7 +13,7 @@ use std::alloc::{AllocError, Global};
 pub struct HsplanStream;
 
 /// How many rows of a log were answered by each kind of answer.
-#[derive(Clone, Copy, Debug, PartialEq, Eq)]
+#[derive(Clone, Copy)]
 pub enum Sums {
     /// By a plan.
     Plan(StreamSums),

@@ -117,7 +117,7 @@ fn rows_are_answered_by_their_kinds(rt: HostRuntime) {
 // number, and a body that is cut.
 #[test]
 fn other_rows_are_unknown_or_refused(rt: HostRuntime) {
-    let cases: [(&[u8], &[u8], [u64; 4]); 2] = [
+    const CASES: [(&[u8], &[u8], [u64; 4]); 2] = [
         (
             b"region,handle\nr3,10/1\nr2,10/1\nr1,10\nr1\nr1,10/1",
             b"unknown\nunknown\nrefused BadHandle NoSlash\nrefused Fields\nassigned E 1 3\n",
@@ -131,7 +131,7 @@ fn other_rows_are_unknown_or_refused(rt: HostRuntime) {
             [2, 0, 0, 4],
         ),
     ];
-    for (log, sent, sums) in cases {
+    for (log, sent, sums) in CASES {
         answers(&rt, rt.alloc(), WHOLE, log, (sent, sums));
     }
 }
@@ -161,7 +161,7 @@ fn a_query_of_the_plan_stands_for_a_unit(rt: HostRuntime) {
 // of each row at each site, and the last has none.
 #[test]
 fn a_front_answers_by_its_share(rt: HostRuntime) {
-    let cases: [(&[u8], &[u8], &[u8], &[u8], [u64; 4]); 4] = [
+    const CASES: [(&[u8], &[u8], &[u8], &[u8], [u64; 4]); 4] = [
         (
             b"1",
             b"2",
@@ -191,7 +191,7 @@ fn a_front_answers_by_its_share(rt: HostRuntime) {
             [0, 6, 0, 0],
         ),
     ];
-    for (unit, fronts, front, sent, sums) in cases {
+    for (unit, fronts, front, sent, sums) in CASES {
         let words = Words {
             unit: Some(unit),
             front: Some((fronts, front)),
@@ -202,36 +202,36 @@ fn a_front_answers_by_its_share(rt: HostRuntime) {
 
 #[test]
 fn the_first_fault_of_the_words_and_the_plan_is_found(rt: HostRuntime) {
-    let bad_unit = Words {
+    const BAD_UNIT: Words<'static> = Words {
         unit: Some(b"0"),
         front: Some((b"65", b"70")),
     };
-    let bad_fronts = Words {
+    const BAD_FRONTS: Words<'static> = Words {
         unit: None,
         front: Some((b"65", b"70")),
     };
-    let bad_front = Words {
+    const BAD_FRONT: Words<'static> = Words {
         unit: None,
         front: Some((b"2", b"2")),
     };
-    let short: &[u8] = b"HSPLAN 1\nSHORTAGE\ndemand 1\ncapacity 0\nrow 0\nEND\n";
-    let cases: [(&[u8], Words<'_>, StreamFault); 6] = [
-        (b"", bad_unit, StreamFault::BadUnit),
-        (b"", bad_fronts, StreamFault::Input(Fault::BadFronts)),
-        (b"", bad_front, StreamFault::BadFront),
+    const SHORT: &[u8] = b"HSPLAN 1\nSHORTAGE\ndemand 1\ncapacity 0\nrow 0\nEND\n";
+    const CASES: [(&[u8], Words<'_>, StreamFault); 6] = [
+        (b"", BAD_UNIT, StreamFault::BadUnit),
+        (b"", BAD_FRONTS, StreamFault::Input(Fault::BadFronts)),
+        (b"", BAD_FRONT, StreamFault::BadFront),
         (
             b"",
             WHOLE,
             StreamFault::Input(Fault::Cert(CertFault::Ended)),
         ),
         (
-            short,
+            SHORT,
             WHOLE,
             StreamFault::Input(Fault::Refused(Reason::DemandSum)),
         ),
         (PLAN, WHOLE, StreamFault::Log(RowFault::Header)),
     ];
-    for (plan, words, wanted) in cases {
+    for (plan, words, wanted) in CASES {
         has_fault(&rt, rt.alloc(), plan, words, wanted);
     }
 }

@@ -41,7 +41,7 @@ fn has_faults(
 
 #[test]
 fn faulty_rows_of_a_table_are_listed(rt: HostRuntime) {
-    let cases: [(TableKind, &[u8], bool, &[u8]); 4] = [
+    const CASES: [(TableKind, &[u8], bool, &[u8]); 4] = [
         (
             TableKind::Demand,
             b"region,handle,count\nr1,10/1,5\n",
@@ -67,7 +67,7 @@ fn faulty_rows_of_a_table_are_listed(rt: HostRuntime) {
             b"row,line,field,octet,fault\n,1,,0,capacity: Header\n",
         ),
     ];
-    for (table, text, some, listed) in cases {
+    for (table, text, some, listed) in CASES {
         let asked = Asked::Table(table);
         has_faults(&rt, rt.alloc(), asked, Rows::only(text), (Ok(some), listed));
     }
@@ -75,7 +75,7 @@ fn faulty_rows_of_a_table_are_listed(rt: HostRuntime) {
 
 #[test]
 fn faulty_rows_of_a_log_are_listed(rt: HostRuntime) {
-    let cases: [(&[u8], &[u8]); 3] = [
+    const CASES: [(&[u8], &[u8]); 3] = [
         (
             b"region,handle\nr1,10/1\nr1\n",
             b"row,line,field,octet,fault\n1,3,,22,log: Fields row 1\n",
@@ -89,7 +89,7 @@ fn faulty_rows_of_a_log_are_listed(rt: HostRuntime) {
             b"row,line,field,octet,fault\n0,2,0,7,log: BadHandle row 0 NoSlash\n",
         ),
     ];
-    for (text, listed) in cases {
+    for (text, listed) in CASES {
         has_faults(
             &rt,
             rt.alloc(),

@@ -80,7 +80,7 @@ fn has_fault<R: Read + Copy + Drop>(
 // For r1 the handles 10/7 and 10/1 are one kind, and 10/4 and 10/9 are one. For r2 the places at W make no difference.
 #[test]
 fn rows_of_one_kind_are_one_row(rt: HostRuntime) {
-    let cases: [(&[u8], &[u8]); 4] = [
+    const CASES: [(&[u8], &[u8]); 4] = [
         (b"region,handle\n", b"region,handle,count\n"),
         (
             b"region,handle\nr1,10/1\nr1,10/4\nr1,10/7\nr1,10/3\nr1,10/9\nr1,10/2\nr1,10/1\n",
@@ -95,7 +95,7 @@ fn rows_of_one_kind_are_one_row(rt: HostRuntime) {
             b"region,handle,count\nr1,10/7,1000000\nr9,10/1,9\n",
         ),
     ];
-    for (log, wanted) in cases {
+    for (log, wanted) in CASES {
         has_table(&rt, rt.alloc(), None, log, wanted);
     }
 }
@@ -103,21 +103,21 @@ fn rows_of_one_kind_are_one_row(rt: HostRuntime) {
 // A sum is rounded up once, at the end.
 #[test]
 fn counts_are_in_units(rt: HostRuntime) {
-    let log: &[u8] = b"region,handle,count\nr1,10/1,5\nr1,10/4,20\nr1,10/7,6\n";
-    let cases: [(&[u8], &[u8]); 3] = [
+    const CASES: [(&[u8], &[u8]); 3] = [
         (b"1", b"region,handle,count\nr1,10/1,11\nr1,10/4,20\n"),
         (b"10", b"region,handle,count\nr1,10/1,2\nr1,10/4,2\n"),
         (b"1000000", b"region,handle,count\nr1,10/1,1\nr1,10/4,1\n"),
     ];
-    for (unit, wanted) in cases {
+    let log: &[u8] = b"region,handle,count\nr1,10/1,5\nr1,10/4,20\nr1,10/7,6\n";
+    for (unit, wanted) in CASES {
         has_table(&rt, rt.alloc(), Some(unit), log, wanted);
     }
 }
 
 #[test]
 fn the_first_fault_of_the_files_is_found(rt: HostRuntime) {
-    let unknown: &[u8] = b"region,site,cost\nr1,X,1\n";
-    let cases: [(&[u8], Option<&[u8]>, StreamFault); 4] = [
+    const UNKNOWN: &[u8] = b"region,site,cost\nr1,X,1\n";
+    const CASES: [(&[u8], Option<&[u8]>, StreamFault); 4] = [
         (b"x", Some(b"0"), StreamFault::BadUnit),
         (b"x", Some(b"1000001"), StreamFault::BadUnit),
         (
@@ -126,7 +126,7 @@ fn the_first_fault_of_the_files_is_found(rt: HostRuntime) {
             StreamFault::Input(Fault::Costs(TableFault::Header)),
         ),
         (
-            unknown,
+            UNKNOWN,
             None,
             StreamFault::Input(Fault::Build(BuildFault::UnknownSite {
                 table: hsp_instance::Table::Costs,
@@ -134,14 +134,14 @@ fn the_first_fault_of_the_files_is_found(rt: HostRuntime) {
             })),
         ),
     ];
-    for (costs, unit, wanted) in cases {
+    for (costs, unit, wanted) in CASES {
         has_fault(&rt, rt.alloc(), costs, unit, b"bad\n".as_slice(), wanted);
     }
 }
 
 #[test]
 fn the_first_fault_of_the_log_is_found(rt: HostRuntime) {
-    let cases: [(&[u8], RowFault); 6] = [
+    const CASES: [(&[u8], RowFault); 6] = [
         (b"", RowFault::Header),
         (b"handle\n", RowFault::Header),
         (
@@ -164,7 +164,7 @@ fn the_first_fault_of_the_log_is_found(rt: HostRuntime) {
             RowFault::BadNumber { row: 1 },
         ),
     ];
-    for (log, wanted) in cases {
+    for (log, wanted) in CASES {
         has_fault(&rt, rt.alloc(), COSTS, None, log, StreamFault::Log(wanted));
     }
 }

@@ -33,7 +33,7 @@ fn all_have_lines(rt: &impl Abort, alloc: Global, cases: &[(StreamFault, &[u8], 
 
 #[test]
 fn faults_of_words_and_files_have_their_lines(rt: HostRuntime) {
-    let cases: [(StreamFault, &[u8], u8); 8] = [
+    const CASES: [(StreamFault, &[u8], u8); 8] = [
         (StreamFault::BadUnit, b"hsplan-stream: BadUnit\n", 1),
         (StreamFault::BadFront, b"hsplan-stream: BadFront\n", 1),
         (
@@ -59,12 +59,12 @@ fn faults_of_words_and_files_have_their_lines(rt: HostRuntime) {
         (StreamFault::TooLarge, b"hsplan-stream: plan: TooLarge\n", 1),
         (StreamFault::OutOfMemory, b"hsplan-stream: OutOfMemory\n", 4),
     ];
-    all_have_lines(&rt, rt.alloc(), &cases);
+    all_have_lines(&rt, rt.alloc(), &CASES);
 }
 
 #[test]
 fn faults_of_logs_have_their_lines(rt: HostRuntime) {
-    let cases: [(StreamFault, &[u8], u8); 6] = [
+    const CASES: [(StreamFault, &[u8], u8); 6] = [
         (
             StreamFault::Log(RowFault::ReadFailed),
             b"hsplan-stream: log: ReadFailed\n",
@@ -99,12 +99,12 @@ fn faults_of_logs_have_their_lines(rt: HostRuntime) {
             1,
         ),
     ];
-    all_have_lines(&rt, rt.alloc(), &cases);
+    all_have_lines(&rt, rt.alloc(), &CASES);
 }
 
 #[test]
 fn greatest_rows_have_their_lines(rt: HostRuntime) {
-    let cases: [(StreamFault, &[u8], u8); 4] = [
+    const CASES: [(StreamFault, &[u8], u8); 4] = [
         (
             StreamFault::Log(RowFault::BadName { row: u64::MAX }),
             b"hsplan-stream: log: BadName row 18446744073709551615\n",
@@ -126,7 +126,7 @@ fn greatest_rows_have_their_lines(rt: HostRuntime) {
             1,
         ),
     ];
-    all_have_lines(&rt, rt.alloc(), &cases);
+    all_have_lines(&rt, rt.alloc(), &CASES);
 }
 
 #[test]
@@ -159,7 +159,7 @@ fn is_displayed(rt: &impl Abort, alloc: Global, fault: &StreamFault, wanted: &st
 
 #[test]
 fn faults_are_displayed(rt: HostRuntime) {
-    let cases: [(StreamFault, &str); 7] = [
+    const CASES: [(StreamFault, &str); 7] = [
         (StreamFault::BadUnit, "bad unit"),
         (StreamFault::BadFront, "bad front"),
         (StreamFault::Refused(PriceReason::Load), "check: Load"),
@@ -171,7 +171,7 @@ fn faults_are_displayed(rt: HostRuntime) {
         (StreamFault::TooLarge, "plan: too large"),
         (StreamFault::OutOfMemory, "out of memory"),
     ];
-    for (fault, wanted) in cases {
+    for (fault, wanted) in CASES {
         is_displayed(&rt, rt.alloc(), &fault, wanted);
     }
 }

@@ -176,7 +176,7 @@ fn has_fault(rt: &impl Abort, alloc: Global, prices: &[u8], front: Front<'_>, wa
 
 #[test]
 fn the_first_fault_of_the_words_and_the_prices_is_found(rt: HostRuntime) {
-    let cases: [(&[u8], Front<'_>, StreamFault); 8] = [
+    const CASES: [(&[u8], Front<'_>, StreamFault); 8] = [
         (
             b"",
             Some((b"65", b"70")),
@@ -194,7 +194,7 @@ fn the_first_fault_of_the_words_and_the_prices_is_found(rt: HostRuntime) {
         (TOO_MUCH, None, StreamFault::Refused(PriceReason::Load)),
         (PLAN, None, StreamFault::Log(RowFault::Header)),
     ];
-    for (prices, front, wanted) in cases {
+    for (prices, front, wanted) in CASES {
         has_fault(&rt, rt.alloc(), prices, front, wanted);
     }
 }

@@ -34,7 +34,7 @@ fn reads(rt: &impl Abort, alloc: Global, line: &[u8], wanted: Shown<'_>) {
 
 #[test]
 fn plain_lines_are_cut_at_commas(rt: HostRuntime) {
-    let cases: [(&[u8], Shown<'_>); 7] = [
+    const CASES: [(&[u8], Shown<'_>); 7] = [
         (b"", (0, b"", b"")),
         (b"a", (1, b"a", b"")),
         (b" a ", (1, b" a ", b"")),
@@ -43,14 +43,14 @@ fn plain_lines_are_cut_at_commas(rt: HostRuntime) {
         (b"a,b,", (3, b"", b"")),
         (b"\xEF\xBB\xBFa,b", (2, b"\xEF\xBB\xBFa", b"b")),
     ];
-    for (line, wanted) in cases {
+    for (line, wanted) in CASES {
         reads(&rt, rt.alloc(), line, wanted);
     }
 }
 
 #[test]
 fn lines_with_quotes_are_records(rt: HostRuntime) {
-    let cases: [(&[u8], Shown<'_>); 7] = [
+    const CASES: [(&[u8], Shown<'_>); 7] = [
         (b"\"a,b\",c", (2, b"a,b", b"c")),
         (b"a,\"say \"\"b\"\"\"", (2, b"a", b"say \"b\"")),
         (b"\"\"", (1, b"", b"")),
@@ -59,21 +59,21 @@ fn lines_with_quotes_are_records(rt: HostRuntime) {
         (b"a,\"b", (2, b"a", b"b")),
         (b"\xEF\xBB\xBF\"a\",b", (2, b"\xEF\xBB\xBF\"a\"", b"b")),
     ];
-    for (line, wanted) in cases {
+    for (line, wanted) in CASES {
         reads(&rt, rt.alloc(), line, wanted);
     }
 }
 
 #[test]
 fn a_carriage_return_ends_a_record(rt: HostRuntime) {
-    let cases: [(&[u8], Shown<'_>); 5] = [
+    const CASES: [(&[u8], Shown<'_>); 5] = [
         (b"a,b\r", (2, b"a", b"b")),
         (b"\r", (0, b"", b"")),
         (b"a\rb", (3, b"", b"")),
         (b"\ra", (1, b"a", b"")),
         (b"a,b,c\r", (3, b"", b"")),
     ];
-    for (line, wanted) in cases {
+    for (line, wanted) in CASES {
         reads(&rt, rt.alloc(), line, wanted);
     }
 }
@@ -81,14 +81,14 @@ fn a_carriage_return_ends_a_record(rt: HostRuntime) {
 // A reader keeps nothing of an earlier line.
 #[test]
 fn a_reader_reads_line_after_line(rt: HostRuntime) {
-    let mut reader = RowReader::new(rt.alloc());
-    let cases: [(&[u8], Shown<'_>); 4] = [
+    const CASES: [(&[u8], Shown<'_>); 4] = [
         (b"\"a,b\",c", (2, b"a,b", b"c")),
         (b"d", (1, b"d", b"")),
         (b"\"e\"", (1, b"e", b"")),
         (b"\r", (0, b"", b"")),
     ];
-    for (line, wanted) in cases {
+    let mut reader = RowReader::new(rt.alloc());
+    for (line, wanted) in CASES {
         // Where memory ran out once, it is there again.
         if reader.read(rt.alloc(), line).is_err() {
             is_same(&rt, reader.read(rt.alloc(), line).is_ok(), true);
@@ -101,14 +101,14 @@ fn a_reader_reads_line_after_line(rt: HostRuntime) {
 
 #[test]
 fn a_mark_at_the_start_is_passed_over_once(rt: HostRuntime) {
-    let cases: [(&[u8], &[u8]); 5] = [
+    const CASES: [(&[u8], &[u8]); 5] = [
         (b"", b""),
         (b"region", b"region"),
         (b"\xEF\xBB\xBFregion", b"region"),
         (b"\xEF\xBB\xBF\xEF\xBB\xBFa", b"\xEF\xBB\xBFa"),
         (b"\xEF\xBB", b"\xEF\xBB"),
     ];
-    for (line, wanted) in cases {
+    for (line, wanted) in CASES {
         is_same(&rt, without_mark(line), wanted);
     }
 }

@@ -63,15 +63,15 @@ fn has_places(
 
 #[test]
 fn handles_have_places(rt: HostRuntime) {
-    let head: &[u8] = b"handle,site,place,server_id\n";
-    let by_values = Sites {
+    const HEAD: &[u8] = b"handle,site,place,server_id\n";
+    const BY_VALUES: Sites<'static> = Sites {
         settings: BY_INDEX,
         values: Some(VALUES),
     };
-    let cases: [(Sites<'_>, &[u8], Result<(), StreamFault>, &[u8]); 5] = [
-        (SITES, b"handle\n", Ok(()), head),
+    const CASES: [(Sites<'_>, &[u8], Result<(), StreamFault>, &[u8]); 5] = [
+        (SITES, b"handle\n", Ok(()), HEAD),
         (
-            by_values,
+            BY_VALUES,
             b"handle\n10/1\n",
             Ok(()),
             b"handle,site,place,server_id\n10/1,X,0,7\n",
@@ -98,27 +98,27 @@ fn handles_have_places(rt: HostRuntime) {
             b"handle,site,place,server_id\n\"10/a,b\",E,0,7\n\"10/a,b\",W,2,9\n",
         ),
     ];
-    for (sites, log, ended, sent) in cases {
+    for (sites, log, ended, sent) in CASES {
         has_places(&rt, rt.alloc(), sites, Rows::only(log), (ended, sent));
     }
 }
 
 #[test]
 fn places_have_their_first_fault(rt: HostRuntime) {
-    let no_settings = Sites {
+    const NO_SETTINGS: Sites<'static> = Sites {
         settings: b"=",
         values: None,
     };
-    let cases: [(Sites<'_>, &[u8], StreamFault); 3] = [
+    const CASES: [(Sites<'_>, &[u8], StreamFault); 3] = [
         (
-            no_settings,
+            NO_SETTINGS,
             b"x",
             StreamFault::Input(Fault::Settings(TableFault::NotToml)),
         ),
         (SITES, b"x\n", StreamFault::Log(RowFault::Header)),
         (SITES, b"", StreamFault::Log(RowFault::Header)),
     ];
-    for (sites, log, fault) in cases {
+    for (sites, log, fault) in CASES {
         has_places(&rt, rt.alloc(), sites, Rows::only(log), (Err(fault), b""));
     }
 }

@@ -41,7 +41,7 @@ impl Model for Capacities {
 }
 
 /// A row of the capacities.
-#[derive(Clone, Copy, Debug)]
+#[derive(Clone, Copy)]
 pub struct CapacityRow<'a> {
     /// The name of the site.
     pub site: &'a [u8],

@@ -40,7 +40,7 @@ impl Model for Costs {
 }
 
 /// A row of the costs.
-#[derive(Clone, Copy, Debug)]
+#[derive(Clone, Copy)]
 pub struct CostRow<'a> {
     /// The name of the region.
     pub region: &'a [u8],

@@ -55,7 +55,7 @@ impl Clone for Demand {
 }
 
 /// A row of the demand.
-#[derive(Clone, Copy, Debug)]
+#[derive(Clone, Copy)]
 pub struct DemandRow<'a> {
     /// The name of the region.
     pub region: &'a [u8],

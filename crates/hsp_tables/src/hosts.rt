@@ -17,7 +17,7 @@ use std::alloc::Global;
 use toml::{Table, Value};
 
 // A host of the settings.
-#[derive(Clone, Copy, Debug)]
+#[derive(Clone, Copy)]
 pub(crate) struct Host {
     pub(crate) address: [u8; 16],
     pub(crate) limit: u64,

@@ -111,14 +111,14 @@ impl Equivalent<PairKey> for LentPair<'_> {
 }
 
 // The site and the identifier by which a server is found.
-#[derive(Debug, PartialEq, Eq, Hash, Drop)]
+#[derive(PartialEq, Eq, Hash, Drop)]
 pub(crate) struct ServerKey {
     pub(crate) site: Vec<u8>,
     pub(crate) server_id: u32,
 }
 
 // The same, lent.
-#[derive(Clone, Copy, Debug, PartialEq, Eq, Hash)]
+#[derive(Clone, Copy, PartialEq, Eq, Hash)]
 pub(crate) struct LentServer<'a> {
     pub(crate) site: &'a [u8],
     pub(crate) server_id: u32,

@@ -19,7 +19,7 @@ use std::alloc::Global;
 use toml::{Table, Value};
 
 /// What a site is read from.
-#[derive(Clone, Copy, Debug)]
+#[derive(Clone, Copy)]
 pub enum Source<'a> {
     /// The octets of a site record.
     Octets(&'a [u8]),
@@ -28,14 +28,14 @@ pub enum Source<'a> {
 }
 
 // What a site is read from, as the settings hold it.
-#[derive(Debug, Drop)]
+#[derive(Drop)]
 pub(crate) enum OwnedSource {
     Octets(Vec<u8>),
     Index(u32),
 }
 
 // A site of the settings.
-#[derive(Debug, Drop)]
+#[derive(Drop)]
 pub(crate) struct SettingsSite {
     pub(crate) name: Vec<u8>,
     pub(crate) source: OwnedSource,

@@ -17,7 +17,7 @@ use hsp_csv::{Checked, PlacedRecord, is_header};
 use std::alloc::{AllocError, Global};
 
 /// One of the three tables.
-#[derive(Clone, Copy, Debug, PartialEq, Eq)]
+#[derive(Clone, Copy)]
 pub enum TableKind {
     Demand,
     Costs,

@@ -118,7 +118,7 @@ impl<'a> Peer for RepeatingPeer<'a> {
 }
 
 /// What happens in place of a first call. The later calls go well.
-#[derive(Clone, Copy, Debug, PartialEq, Eq)]
+#[derive(Clone, Copy)]
 pub enum First {
     /// It goes well too.
     Well,
@@ -195,7 +195,7 @@ impl Write for FakeWriter {
 }
 
 /// A row that a responder refuses.
-#[derive(Clone, Copy, Debug, Drop)]
+#[derive(Clone, Copy, Drop)]
 pub struct BadRow;
 
 /// Counts rows, and answers each by its number and itself. `-` has no answer, `=` has two lines, `!` is a bad row, and

@@ -8,7 +8,7 @@ use hsp_talk::{Failed, Peer, Responder, Stop, talk};
 use std::alloc::Global;
 
 /// What happened at a peer.
-#[derive(Debug, Drop)]
+#[derive(Drop)]
 pub enum Turn {
     Received(Vec<u8>),
     Sent(Vec<u8>),

@@ -4,7 +4,7 @@ use crate::known::{KnownPeer, Turn, hold};
 
 #[test]
 fn each_row_is_answered_before_the_next_read(rt: HostRuntime) {
-    let cases: [(&[&[u8]], &[u8]); 5] = [
+    const CASES: [(&[&[u8]], &[u8]); 5] = [
         (&[], b"<.ended"),
         (&[b"a\n", b"b\n"], b"<a\n>1 a\n<b\n>2 b\n<.ended"),
         (&[b"a", b"b\nc", b"\n"], b"<a<b\nc>1 ab\n<\n>2 c\n<.ended"),
@@ -14,14 +14,14 @@ fn each_row_is_answered_before_the_next_read(rt: HostRuntime) {
             b"<=\n-\n>1 =\n1 =\n<-\n<a\n>4 a\n<.ended",
         ),
     ];
-    for (pieces, wanted) in cases {
+    for (pieces, wanted) in CASES {
         goes(&rt, rt.alloc(), pieces, ALL, wanted);
     }
 }
 
 #[test]
 fn rows_are_lines(rt: HostRuntime) {
-    let cases: [(&[&[u8]], &[u8]); 5] = [
+    const CASES: [(&[&[u8]], &[u8]); 5] = [
         (&[b"a\nb"], b"<a\nb>1 a\n<>2 b\n.ended"),
         (&[b"a", b"b"], b"<a<b<>1 ab\n.ended"),
         (&[b"\n"], b"<\n<.ended"),
@@ -31,52 +31,52 @@ fn rows_are_lines(rt: HostRuntime) {
         ),
         (&[b"a\r\n"], b"<a\r\n>1 a\r\n<.ended"),
     ];
-    for (pieces, wanted) in cases {
+    for (pieces, wanted) in CASES {
         goes(&rt, rt.alloc(), pieces, ALL, wanted);
     }
 }
 
 #[test]
 fn a_refused_row_stops_the_talk(rt: HostRuntime) {
-    let cases: [(&[&[u8]], &[u8]); 4] = [
+    const CASES: [(&[&[u8]], &[u8]); 4] = [
         (&[b"a\n!\nb\n"], b"<a\n!\nb\n>1 a\n.bad"),
         (&[b"a\n!"], b"<a\n!>1 a\n<.bad"),
         (&[b"!\n"], b"<!\n.bad"),
         (&[b"a\n?\nb\n"], b"<a\n?\nb\n>1 a\n.memory"),
     ];
-    for (pieces, wanted) in cases {
+    for (pieces, wanted) in CASES {
         goes(&rt, rt.alloc(), pieces, ALL, wanted);
     }
 }
 
 #[test]
 fn reads_and_writes_fail(rt: HostRuntime) {
-    let pieces: [&[u8]; 2] = [b"a\nb", b"c\n"];
-    let cases: [(u32, u32, &[u8]); 5] = [
+    const PIECES: [&[u8]; 2] = [b"a\nb", b"c\n"];
+    const CASES: [(u32, u32, &[u8]); 5] = [
         (0, 9, b".read"),
         (1, 9, b"<a\nb>1 a\n.read"),
         (2, 9, b"<a\nb>1 a\n<c\n>2 bc\n.read"),
         (9, 0, b"<a\nb.write"),
         (9, 1, b"<a\nb>1 a\n<c\n.write"),
     ];
-    for (reads, writes, wanted) in cases {
-        goes(&rt, rt.alloc(), &pieces, Limits { reads, writes }, wanted);
+    for (reads, writes, wanted) in CASES {
+        goes(&rt, rt.alloc(), &PIECES, Limits { reads, writes }, wanted);
     }
 }
 
 #[test]
 fn a_reader_and_a_writer_are_a_peer(rt: HostRuntime) {
-    let whole: &[u8] = b">1 a>\n|>2 b>\n|.ended<2";
-    let cases: [(First, &[u8]); 7] = [
-        (First::Well, whole),
+    const WHOLE: &[u8] = b">1 a>\n|>2 b>\n|.ended<2";
+    const CASES: [(First, &[u8]); 7] = [
+        (First::Well, WHOLE),
         (First::ReadInterrupted, b">1 a>\n|>2 b>\n|.ended<3"),
-        (First::WriteInterrupted, whole),
+        (First::WriteInterrupted, WHOLE),
         (First::ReadFails, b".read<1"),
         (First::WriteFails, b".write<1"),
         (First::WriteTakesNone, b".write<1"),
         (First::FlushFails, b">1 a>\n.write<1"),
     ];
-    for (first, wanted) in cases {
+    for (first, wanted) in CASES {
         goes_joined(&rt, rt.alloc(), first, wanted);
     }
 }

@@ -20,7 +20,7 @@ use std::marker::Model;
 
 /// A region and numbers, as what the rows of a kind share: their region, and the places of their handles at the sites
 /// where the region has a cost.
-#[derive(Debug, PartialEq, Eq, Hash, Drop)]
+#[derive(PartialEq, Eq, Hash, Drop)]
 pub struct KindKey {
     region: Vec<u8>,
     places: Vec<u32>,
@@ -49,7 +49,7 @@ impl KindKey {
 }
 
 /// The same, lent.
-#[derive(Clone, Copy, Debug, PartialEq, Eq, Hash)]
+#[derive(Clone, Copy, PartialEq, Eq, Hash)]
 pub struct LentKind<'a> {
     pub region: &'a [u8],
     pub places: &'a [u32],

@@ -27,7 +27,7 @@ use std::marker::Model;
 const MOST_KINDS: usize = MOST_DEMAND_ROWS;
 
 // What names a kind beside its region, and the count of its rows together.
-#[derive(Debug, Drop)]
+#[derive(Drop)]
 pub(crate) struct KindCount {
     handle: Vec<u8>,
     count: u64,

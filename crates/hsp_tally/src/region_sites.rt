@@ -13,7 +13,7 @@ use indexmap::IndexMap;
 use std::alloc::{AllocError, Global};
 
 // How a site finds the place of a handle: its hash option, and how many servers it has.
-#[derive(Clone, Copy, Debug, Drop)]
+#[derive(Clone, Copy, Drop)]
 pub(crate) struct SiteHash {
     pub(crate) option: HashOption,
     pub(crate) servers: u32,
