@@ -10,6 +10,9 @@ its tests. What rt kept of an earlier run on the machine is not proved again, an
 
 A check is a process of its own. Once a second each check is asked for the processor time that it took, so up to a
 second of each check is missed.
+
+Every half minute a loop of a fixed length is timed too. Its seconds say how fast a processor was meanwhile, so that
+runs on other machines and at other hours can be compared.
 """
 from __future__ import annotations
 
@@ -17,13 +20,14 @@ import argparse
 import glob
 import os
 import re
+import statistics
 import subprocess
 import time
 import sys
 from collections import defaultdict
 from collections.abc import Iterator
 from pathlib import Path
-from typing import IO
+from typing import IO, NamedTuple
 
 sys.path.insert(0, str(Path(__file__).resolve().parents[1]))
 
@@ -34,8 +38,19 @@ KINDS = ("proof", "before the edits", "edits", "tests")
 TICK = os.sysconf("SC_CLK_TCK")
 # The crate of a check, its kind, the edit that it tries, and its seconds so far.
 Check = tuple[str, str, str, float]
-# A status, seconds by the clock, and the seconds by crate and kind, and by crate and edit.
-Measured = tuple[int, float, dict[tuple[str, str], float], dict[tuple[str, str], float]]
+# How many rounds the loop has that is timed, and how many seconds lie between two of its runs.
+ROUNDS, BETWEEN = 2_500_000, 30
+
+
+class Measured(NamedTuple):
+    """The status of rt ci, its seconds by the clock, the seconds of a processor by crate and kind, and by crate and
+    edit, and those of each run of the loop."""
+
+    status: int
+    clock: float
+    took: dict[tuple[str, str], float]
+    edits: dict[tuple[str, str], float]
+    loops: list[float]
 
 
 def kind_of(words: list[str]) -> str:
@@ -73,16 +88,26 @@ def checks_of(parent: int) -> Iterator[tuple[tuple[str, str], Check]]:
             continue
 
 
+def loop_seconds() -> float:
+    """The seconds of a processor that the loop of a fixed length takes."""
+    began, total = time.process_time(), 0
+    for number in range(ROUNDS):
+        total += number * number & 0xFFFF
+    return time.process_time() - began
+
+
 def measured(jobs: int, log: IO[str]) -> Measured:
-    """Runs rt ci to its end. Returns its status, the seconds by the clock, what checks took by crate and kind, and what
-    each edit took."""
+    """Runs rt ci to its end, and the loop beside it."""
     began = time.monotonic()
     seen: dict[tuple[str, str], Check] = {}
+    loops: list[float] = []
     run = subprocess.Popen(
         ["rt", "ci"], cwd=programs.TOP, env={**os.environ, "RT_JOBS": str(jobs)}, stdout=log, stderr=subprocess.STDOUT
     )
     while run.poll() is None:
         seen.update(checks_of(run.pid))
+        if time.monotonic() - began > BETWEEN * (len(loops) + 1):
+            loops.append(loop_seconds())
         time.sleep(1)
     took: defaultdict[tuple[str, str], float] = defaultdict(float)
     edits: defaultdict[tuple[str, str], float] = defaultdict(float)
@@ -90,7 +115,7 @@ def measured(jobs: int, log: IO[str]) -> Measured:
         took[crate, kind] += seconds
         if edit:
             edits[crate, edit] += seconds
-    return run.returncode, time.monotonic() - began, took, edits
+    return Measured(run.returncode, time.monotonic() - began, took, edits, loops)
 
 
 def main() -> int:
@@ -100,7 +125,7 @@ def main() -> int:
     arguments.add_argument("--edits", action="store_true")
     given = arguments.parse_args()
     with open(given.log, "w", encoding="utf-8") as log:
-        status, clock, took, edits = measured(given.jobs, log)
+        status, clock, took, edits, loops = measured(given.jobs, log)
     print(f"| Crate | {' | '.join(it.capitalize() for it in KINDS)} |")
     print("|---" * (len(KINDS) + 1) + "|")
     for crate in dict.fromkeys(crate for crate, _ in took):
@@ -113,6 +138,8 @@ def main() -> int:
         f"{sum(took.values()) / 60:.0f} minutes of a processor, {clock / 60:.0f} by the clock, "
         f"{given.jobs} checks side by side"
     )
+    quarters = statistics.quantiles(loops, n=4) if len(loops) > 1 else loops
+    print(f"quarters of the {len(loops)} loops, in seconds: {', '.join(f'{it:.2f}' for it in quarters)}")
     with open(given.log, encoding="utf-8") as log:
         print(log.read().splitlines()[-1])
     return status
