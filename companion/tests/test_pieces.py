@@ -3,6 +3,7 @@
 from __future__ import annotations
 
 import bz2
+import contextlib
 import csv
 import functools
 import gzip
@@ -436,15 +437,24 @@ def test_an_interrupt_ends_all_processes(tmp_path: Path) -> None:
     assert sorted(path.name for path in tmp_path.iterdir()) == ["log", "networks.csv", "pipe"]
 
 
+def end_of(pipe: Path) -> None:
+    """Ends a pipe for whoever reads it. Nobody may read it, and then this does not wait for a reader."""
+    with contextlib.suppress(OSError):
+        os.close(os.open(pipe, os.O_WRONLY | os.O_NONBLOCK))
+
+
 def test_no_process_outlives_a_command_that_is_killed(tmp_path: Path) -> None:
     """The one that waits for a pipe ends when that does."""
     run = started(tmp_path)
     helpers = children(run.pid)
     run.kill()
     run.wait(timeout=60)
-    with open(tmp_path / "pipe", "wb"):
-        pass
-    until(lambda: are_gone(helpers))
+
+    def ended() -> bool:
+        end_of(tmp_path / "pipe")
+        return are_gone(helpers)
+
+    until(ended)
 
 
 def test_standard_input_is_a_log_beside_others(tmp_path: Path) -> None:
