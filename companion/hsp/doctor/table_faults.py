@@ -140,19 +140,9 @@ def _faulty(draft: Draft, table: str, listed_row: list[str]) -> Faulty:
     octets, number, at = draft.text.octets, int(field) if field else None, int(octet)
     begin, end = max(octets.rfind(b"\n", 0, at), octets.rfind(b"\r", 0, at)) + 1, LINE_END.search(octets, at)
     column = len(decoded(octets[begin:at]))
-    row = row_of(draft, int(line), number or 0, column)
+    row = row_at(draft, int(line))
     is_there = draft.text.line(row.first) == decoded(octets[begin : end.start() if end else None])
     return Faulty(draft, table, row, said_of(1, words), number, column if is_there else None)
-
-
-def row_of(draft: Draft, line: int, field: int, column: int) -> Row:
-    """The row whose field begins at a column of a line: mostly the one that begins in this line."""
-    spans = spans_of(draft.text.line(line))
-    if field < len(spans) and spans[field][0] == column:
-        return row_at(draft, line)
-    rows = table_of(draft.text).rows
-    around = [row for row in rows if row.first <= line <= row.last]
-    return around[0] if around else row_at(draft, line)
 
 
 def row_at(draft: Draft, first: int) -> Row:

@@ -1,7 +1,7 @@
 -- Records with their places are the records, and each field has a place.
-use Rattle.std.proofs.Common.{◌≡◌, ◌+◌, ◌∙◌, ℕ, zero, suc, List, [], ◌∷◌, ◌++◌, length, map, Option, Some, None}
+use Rattle.std.proofs.Common.{◌≡◌, ◌∙◌, ℕ, zero, suc, List, [], ◌∷◌, ◌++◌, length, Option, Some, None}
 use Rattle.std.proofs.Common.{option_map}
-use Rattle.std.proofs.Common.{Bool, true, false, cond, refl, sym, ap, arith}
+use Rattle.std.proofs.Common.{Bool, true, false, cond, refl, ap}
 use Rattle.std.proofs.lemmas.List.{length-append}
 use Rattle.std.specs.List.{AllByRecursion}
 use Rattle.csv.specs.Machine.{Read, ends_at_end, fields_after, next_record, step}
@@ -10,7 +10,7 @@ use Rattle.csv.specs.declared.parser.Action.{Action}
 use Rattle.csv.specs.declared.parser.Action.TheVariants as action
 use Rattle.csv.specs.declared.parser.State.{State}
 use Rattle.csv.specs.declared.parser.State.TheVariants as state
-use Rattle.hsp_csv.specs.Places.{IsWhole, Placed, Walk, ends_record, fields_in, fresh, placed_from, placed_next}
+use Rattle.hsp_csv.specs.Places.{IsWhole, Walk, ends_record, fields_in, fresh, placed_from, placed_next}
 use Rattle.hsp_csv.specs.Places.{placed_of}
 use Rattle.hsp_csv.specs.Places.{places_after, start_of, walk_after, walk_at_end, walk_to_end}
 use Rattle.hsp_csv.specs.Records.{Fields, records_of}

@@ -1,7 +1,7 @@
 -- Each record with places takes octets of the text, so that as many steps as there are octets, and one, list every one.
 use Rattle.std.proofs.Common.{◌≡◌, ◌<◌, ◌+◌, ◌⊎◌, inl, inr, ℕ, zero, suc, List, [], ◌∷◌, length, Option, Some, None}
 use Rattle.std.proofs.Common.{option_map}
-use Rattle.std.proofs.Common.{Bool, true, false, refl, sym, ap, ◌∙◌, add-one, arith, cond}
+use Rattle.std.proofs.Common.{Bool, true, false, refl, sym, ap, add-one, arith, cond}
 use Rattle.csv.specs.Machine.{ends_at_end}
 use Rattle.csv.specs.declared.parser.State.{State}
 use Rattle.csv.specs.declared.parser.State.TheVariants as state

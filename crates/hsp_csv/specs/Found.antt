@@ -17,7 +17,8 @@ abbrev pub first_fault : {Fault : Type 0} → List (Found Fault) → Option Faul
 first_fault [] = None
 first_fault (found ∷ more) = Some found.fault
 
--- where a field of a record begins or, where there is no one field, the record
+-- The octet at which a field of a record begins or, where there is no one field, the record. The line is always that in
+-- which the record begins.
 abbrev pub place_at : Placed → Option ℕ → Place
 place_at one None = begin_of one
-place_at one (Some field) = place_of one field
+place_at one (Some field) = record (place_of one field) { line = (begin_of one).line }

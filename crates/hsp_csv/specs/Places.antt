@@ -4,7 +4,7 @@
 -- from
 -- between two records into one, and each further field behind the octet that ends the field before it.
 use Rattle.std.specs.Prelude.{◌≡◌, ◌+◌, ◌-◌, ◌^◌, ◌==◌, ◌&&◌, ◌||◌, ⊤, Bool, true, false, not, ℕ, zero, suc, List, []}
-use Rattle.std.specs.Prelude.{◌∷◌, ◌++◌, length, min, get_or, map, Option, Some, None, option_map, if◌then◌else◌}
+use Rattle.std.specs.Prelude.{◌∷◌, ◌++◌, length, min, get_or, map, Option, Some, None, if◌then◌else◌}
 use Rattle.csv.specs.Machine.{carriage_return, ends_at_end, field_after, fields_after, is_end, line_feed, step}
 use Rattle.csv.specs.Reading.{default_config, strip_bom}
 use Rattle.csv.specs.declared.parser.Action.{Action}

@@ -2,7 +2,8 @@
 
 ghost use Rattle.std.specs.Prelude.{◌≡◌, ◌++◌, ◌∷◌, [], IfOk, OnOk};
 ghost use Rattle.csv.specs.Records.{fields_of, partial_of};
-ghost use Rattle.hsp_csv.specs.Places.{begin_of, ends_record, first_line, fresh, place_of, walk_after, walk_at_end};
+ghost use Rattle.hsp_csv.specs.Found.{place_at};
+ghost use Rattle.hsp_csv.specs.Places.{ends_record, first_line, fresh, place_of, walk_after, walk_at_end};
 ghost use Rattle.hsp_csv.specs.Scan.{state_of};
 ghost use Rattle.hsp_csv.specs.Walks.{shown, walk_of};
 
@@ -37,8 +38,8 @@ impl PlacedRecord {
         &self.fields
     }
 
-    /// Where a field begins: at its quote, if it has one. Where there is no such field, it is the start of a text.
-    pub fn place(&self, field: u32) -> Place
+    // Where a field begins: at its quote, if it has one. Where there is no such field, it is the start of a text.
+    fn place(&self, field: u32) -> Place
         ensures { result ≡ place_of (shown self.now) field }
     {
         match self.places.get(field as usize) {
@@ -47,11 +48,19 @@ impl PlacedRecord {
         }
     }
 
-    /// Where the record begins.
-    pub fn begin(&self) -> Place
-        ensures { result ≡ begin_of (shown self.now) }
+    /// The octet at which a field begins, at its quote if it has one, or at which the record begins where there is no
+    /// one field. The line is that in which the record begins.
+    pub fn place_at(&self, field: Option<u32>) -> Place
+        ensures { result ≡ place_at (shown self.now) field }
     {
-        self.place(0)
+        let begin = self.place(0);
+        match field {
+            Some(field) => Place {
+                line: begin.line,
+                ..self.place(field)
+            },
+            None => begin,
+        }
     }
 }
 

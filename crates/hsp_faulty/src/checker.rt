@@ -2,7 +2,6 @@
 
 ghost use Rattle.std.specs.Prelude.{◌≡◌, ◌∷◌, IfErr, IfNone, IfOk, IfSome, List, OnOk};
 ghost use Rattle.csv.specs.Records.{fields_of};
-ghost use Rattle.hsp_csv.specs.Found.{place_at};
 ghost use Rattle.hsp_csv.specs.Places.{Placed};
 ghost use Rattle.hsp_csv.specs.Walks.{shown};
 ghost use Rattle.hsp_csv.specs.declared.found.Checked.TheVariants.{Faulty, Last};
@@ -17,7 +16,7 @@ ghost use Rattle.hsp_faulty.specs.Faulty.{fault_of_table, found_at, found_beyond
 ghost use Rattle.hsp_faulty.specs.Faulty.{header_fault, named};
 
 use csv::ByteRecord;
-use hsp_csv::{Checked, Found, Place, PlacedRecord};
+use hsp_csv::{Checked, Found, PlacedRecord};
 use hsp_dispatch::{LogFault, LogForm, check_row, field_at_fault, log_form_of};
 use hsp_faults::Fault;
 use hsp_stream::{
@@ -131,16 +130,6 @@ fn checked_in_table(kind: TableKind, checked: Checked<TableFault>) -> Checked<St
     }
 }
 
-// Where a field of a record begins or, where there is no one field, the record.
-fn place_at(placed: &PlacedRecord, field: Option<u32>) -> Place
-    ensures { result ≡ place_at (shown placed.now) field }
-{
-    match field {
-        Some(field) => placed.place(field),
-        None => placed.begin(),
-    }
-}
-
 // A fault of the row with a number.
 fn faulty(
     placed: &PlacedRecord,
@@ -153,7 +142,7 @@ fn faulty(
     Checked::Faulty(Found {
         row: Some(row),
         field,
-        place: place_at(placed, field),
+        place: placed.place_at(field),
         fault,
     })
 }
@@ -165,7 +154,7 @@ fn too_long(placed: &PlacedRecord) -> Checked<StreamFault>
     Checked::Last(Found {
         row: None,
         field: None,
-        place: placed.begin(),
+        place: placed.place_at(None),
         fault: StreamFault::Input(Fault::Log(LogFault::LogTooLong)),
     })
 }

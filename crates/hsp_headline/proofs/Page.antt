@@ -277,7 +277,7 @@ module _ (handles : ReadingsAreHandles) where
       )
 
 -- costs of the page are read as its rows
-costs_are_read_as : (sites : List Site) (text : List ℕ) (rows : List CostEntry) → AllByRecursion IsSite sites
+pub costs_are_read_as : (sites : List Site) (text : List ℕ) (rows : List CostEntry) → AllByRecursion IsSite sites
     → AreCosts sites text rows → table_of cost_table (records_of text) ≡ Ok rows
 costs_are_read_as sites text rows of are =
     let keyed : AreKeyed _ _ _ rows =

@@ -18,7 +18,7 @@ use Rattle.hsp_dispatch.proofs.FrontShares.{shares_add_up}
 use Rattle.hsp_price_dispatch.specs.Choosing.{answer_by, left_by}
 use Rattle.hsp_price_dispatch.specs.Holding.{Held, host_room_at, left_where, room_at}
 use Rattle.hsp_price_dispatch.specs.Laws.{AnswersByItsOwn, AreBegun}
-use Rattle.hsp_price_dispatch.specs.Laws.{EndsInTheSame, GoesByItsEntries, NeverExceedsTogether}
+use Rattle.hsp_price_dispatch.specs.Laws.{EndsInTheSame, GoesByItsEntries, GoesOnWithTheRest, NeverExceedsTogether}
 use Rattle.hsp_price_dispatch.specs.Laws.{RoomsAddUp, answers_at, answers_to, count_at, count_on, event_answer}
 use Rattle.hsp_price_dispatch.specs.Laws.{left_after}
 use Rattle.hsp_price_dispatch.specs.Starting.{Fits, capacity_at, limit_at}
@@ -29,11 +29,12 @@ use Rattle.hsp_price_dispatch.proofs.Sums.{sent_where, shares_together, whole}
 
 -- ---- each front alone
 
--- what one entry more leaves
-left_push : (own : Held) (entries : List Entry) (entry : Entry)
-    → left_after own (entries ++ entry ∷ []) ≡ left_by (left_after own entries) entry
-left_push own [] entry = refl
-left_push own (first ∷ entries) entry = left_push (left_by own first) entries entry
+-- the second of two parts is answered by what the first leaves
+pub goes_on_with_the_rest : GoesOnWithTheRest
+goes_on_with_the_rest own [] more = (refl, refl)
+goes_on_with_the_rest own (entry ∷ entries) more =
+    let later = goes_on_with_the_rest (left_by own entry) entries more in
+    (ap (λ (given : List PriceAnswer). answer_by own entry ∷ given) later.0, later.1)
 
 module _ (begun : ℕ → Held) (front : ℕ) where
   -- the answers at a front are those to its own entries
@@ -50,7 +51,7 @@ module _ (begun : ℕ → Held) (front : ℕ) where
             ap (λ (f : ℕ). answer_by (left_after (begun f) (entries_at f before)) event.entry) here in
             let next : left_after (begun front) (entries_at front (before ++ event ∷ [])) ≡ left_by state event.entry =
             ap (left_after (begun front)) (more_here front before event here)
-            ∙ left_push (begun front) (entries_at front before) event.entry in
+            ∙ (goes_on_with_the_rest (begun front) (entries_at front before) (event.entry ∷ [])).1 in
             rw (eq-eqb event.front front here)
             (ap₂ (λ (x : PriceAnswer) (xs : List PriceAnswer). x ∷ xs) own
             (later ∙ ap (λ (held : Held). answers_to held (entries_at front events)) next))

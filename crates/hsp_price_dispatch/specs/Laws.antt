@@ -1,5 +1,5 @@
 -- What holds of every plan and of every list of queries.
-use Rattle.std.specs.Prelude.{◌≡◌, ◌≤◌, ◌<◌, ◌*◌, ◌+◌, ◌==◌, ◌⊎◌, Bool, false}
+use Rattle.std.specs.Prelude.{◌≡◌, ◌≤◌, ◌<◌, ◌*◌, ◌+◌, ◌==◌, ◌++◌, ◌⊎◌, Bool, false}
 use Rattle.std.specs.Prelude.{true, ℕ, List, [], ◌∷◌, All, Some, count_by}
 use Rattle.std.specs.Prelude.{length, if◌then◌else◌}
 use Rattle.std.specs.List.{Contains}
@@ -31,6 +31,13 @@ answers_to own (entry ∷ entries) = answer_by own entry ∷ answers_to (left_by
 abbrev pub left_after : Held → List Entry → Held
 left_after own [] = own
 left_after own (entry ∷ entries) = left_after (left_by own entry) entries
+
+-- of a log in two parts, the second is answered by what the first leaves, and leaves what the whole log does
+abbrev pub GoesOnWithTheRest : Type 0
+GoesOnWithTheRest =
+    (own : Held) (entries more : List Entry)
+    → (answers_to own (entries ++ more) ≡ answers_to own entries ++ answers_to (left_after own entries) more)
+    × (left_after own (entries ++ more) ≡ left_after (left_after own entries) more)
 
 -- whether a query goes to a server that passes a test
 abbrev pub goes_to : (ℕ → Bool) → PriceAnswer → Bool

@@ -1,7 +1,8 @@
 // What holds of every plan and of every list of queries.
 
 ghost use Rattle.hsp_price_dispatch.specs.Laws.{AnswersByItsOwn, AnswersByTheGreatestPart, EndsInTheSame};
-ghost use Rattle.hsp_price_dispatch.specs.Laws.{GivesTheGreatestPart, GoesByItsEntries, GoesOverItsArcs};
+ghost use Rattle.hsp_price_dispatch.specs.Laws.{GivesTheGreatestPart, GoesByItsEntries, GoesOnWithTheRest};
+ghost use Rattle.hsp_price_dispatch.specs.Laws.{GoesOverItsArcs};
 ghost use Rattle.hsp_price_dispatch.specs.Laws.{IsDivertedLeast, IsFullWithoutRoom, IsUnknownWithoutCost, LeastAreArcs};
 ghost use Rattle.hsp_price_dispatch.specs.Laws.{NeverExceeds, NeverExceedsTogether, RoomsAddUp, TakesHostRoom};
 ghost use Rattle.hsp_price_dispatch.specs.Laws.{TakesRoom};
@@ -53,6 +54,11 @@ pub fn unknown_without_cost()
 /// A query is answered by `Full` only where the server of each of its arcs, or its host, has no room left.
 pub fn full_without_room()
     ensures { IsFullWithoutRoom }
+{}
+
+/// Of a log in two parts, the second part is answered by what the first leaves, and leaves what the whole log does.
+pub fn log_in_parts()
+    ensures { GoesOnWithTheRest }
 {}
 
 /// Each front answers by what it began with and by its own earlier entries, as if there were no other.

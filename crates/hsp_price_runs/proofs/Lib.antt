@@ -4,3 +4,4 @@ mod LogReading
 pub mod Judged
 mod RowsSpelled
 pub mod Shown
+mod OneTheory

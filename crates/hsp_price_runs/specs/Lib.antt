@@ -6,3 +6,4 @@ pub mod Asking
 pub mod PriceReport
 pub mod PricesShown
 pub mod PriceVerdictText
+pub mod OneTheory

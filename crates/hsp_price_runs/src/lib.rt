@@ -2,6 +2,7 @@
 #![tactic(auto)]
 
 mod asked;
+pub mod laws;
 mod log_pass;
 mod report;
 mod run;

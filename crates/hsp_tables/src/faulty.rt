@@ -2,7 +2,6 @@
 
 ghost use Rattle.std.specs.Prelude.{◌≡◌, [], ◌∷◌, Err, IfOk, OnOk, Result, map};
 ghost use Rattle.csv.specs.Records.{fields_of};
-ghost use Rattle.hsp_csv.specs.Found.{place_at};
 ghost use Rattle.hsp_csv.specs.Walks.{shown};
 ghost use Rattle.hsp_tables.specs.Faulty.{checked_as, field_at_fault, first_bad, is_of_field, next_row, with_good};
 ghost use Rattle.hsp_tables.specs.Kept.{IsKept};
@@ -13,7 +12,7 @@ use crate::fault::TableFault;
 use crate::keyed::Regions;
 use crate::table::{Kind, Three, add_record};
 use csv::ByteRecord;
-use hsp_csv::{Checked, Found, Place, PlacedRecord, three_fields};
+use hsp_csv::{Checked, Found, PlacedRecord, three_fields};
 use indexmap::IndexMap;
 use std::alloc::{AllocError, Global};
 
@@ -72,16 +71,6 @@ fn field_at_fault<K: Kind>(fault: TableFault, fields: &ByteRecord) -> Option<u32
     }
 }
 
-// Where a field of a record begins or, where there is no one field, the record.
-fn place_at(placed: &PlacedRecord, field: Option<u32>) -> Place
-    ensures { result ≡ place_at (shown placed.now) field }
-{
-    match field {
-        Some(field) => placed.place(field),
-        None => placed.begin(),
-    }
-}
-
 // What a record is that has a fault.
 #[tactic(auto, using(crate::proofs::FaultyRows::checked_faulty))]
 fn faulty<K: Kind>(row: u32, placed: &PlacedRecord, fault: TableFault) -> Checked<TableFault>
@@ -92,7 +81,7 @@ fn faulty<K: Kind>(row: u32, placed: &PlacedRecord, fault: TableFault) -> Checke
         return Checked::Last(Found {
             row: None,
             field: None,
-            place: placed.begin(),
+            place: placed.place_at(None),
             fault,
         });
     }
@@ -100,7 +89,7 @@ fn faulty<K: Kind>(row: u32, placed: &PlacedRecord, fault: TableFault) -> Checke
     Checked::Faulty(Found {
         row: Some(u64::from(row)),
         field,
-        place: place_at(placed, field),
+        place: placed.place_at(field),
         fault,
     })
 }

@@ -1,4 +1,4 @@
-use Rattle.std.proofs.Common.{◌≡◌, ◌∷◌, [], ◌∙◌, List, ℕ}
+use Rattle.std.proofs.Common.{◌≡◌, ◌∷◌, []}
 use Rattle.hsp_csv.proofs.PassedMarks.{keeps_on, passes, stops_first, stops_second, stops_third}
 use Rattle.hsp_csv.proofs.places.Octets.pass_mark.Goals as goal
 
