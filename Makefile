@@ -4,8 +4,9 @@
 #                  with PROVED=1 the program is proved and built first
 # make uninstall   removes what make install put there
 # make prove       proves the program's crates from nothing, and builds the program
-# make release     writes the folder release from what was proved and built: an archive and a package of Debian
-# make deb         writes the package of Debian of the release anew
+# make release     writes the folder release: the programs that were proved and built here, and their sums
+# make deb         makes a package of Debian in out/, of the programs built here or else of the released ones
+# make archive     makes an archive in out/ in the same way
 # make quick       runs the checks that need no built program: documents, examples, completions, types
 # make check       runs what needs no kit, over the released programs: documents, examples, hsp, cases, random inputs
 # make test        runs the whole gate: the checks of documents and examples, every proof from nothing,
@@ -21,7 +22,7 @@ DESTDIR ?=
 # HSPLAN and HSPLAN_STREAM name the programs that a check tries. Here these are the ones that are built.
 unexport HSPLAN HSPLAN_STREAM
 
-.PHONY: demo try install uninstall prove release deb quick check test gate scripts unproved mutants fuzz
+.PHONY: demo try install uninstall prove release deb archive quick check test gate scripts unproved mutants fuzz
 
 demo:
 	@tools/demo.py
@@ -41,8 +42,8 @@ prove:
 release:
 	@tools/make_release.py
 
-deb:
-	@tools/make_release.py --deb
+deb archive:
+	@tools/make_package.py $@
 
 quick:
 	tools/gate/packages.py

@@ -9,7 +9,7 @@ Each ends with status 0 only where no step fails. RT_JOBS=N takes N processors.
 
 Without the kit the steps are those of `make quick` and `make scripts`, read from the Makefile, and a minute of random
 inputs. Those are left out that take what only the kit makes. THINNED says which try less than in the gate, so that all
-end within ten minutes on two processors. The programs are unpacked from release/ once their sum is compared.
+end within ten minutes on two processors. The sums of the released programs are compared first.
 """
 from __future__ import annotations
 
@@ -19,7 +19,6 @@ import os
 import re
 import subprocess
 import sys
-import tempfile
 import time
 from typing import NamedTuple
 
@@ -120,12 +119,11 @@ def ran_all(every: list[list[str]]) -> tuple[list[Ended], str]:
     return failed, f"{len(done)} steps, {len(failed)} failed, {(time.monotonic() - begun) / 60:.1f} minutes"
 
 
-def check_released(folder: str) -> bool:
-    """Whether every step passes that needs no kit, over the released programs, which are unpacked into a folder."""
+def check_released() -> bool:
+    """Whether every step passes that needs no kit, over the released programs."""
     if why := programs.unfit():
         raise programs.Missing(why)
-    room = programs.unpacked(folder)
-    os.environ.update({programs.variable(it): os.path.join(room, "bin", it) for it in programs.PROGRAMS})
+    os.environ.update({programs.variable(it): programs.released_program(it) for it in programs.PROGRAMS})
     other = "" if programs.made().get("sources") == programs.digest() else ", made of other sources than these"
     print(f"over the released programs, version {programs.released()}{other}", flush=True)
     failed, line = ran_all(without_the_kit())
@@ -154,8 +152,7 @@ def main() -> int:
     if given.unproved:
         print(f"{programs.NEED_KIT}; without it this is `make check`", flush=True)
     try:
-        with tempfile.TemporaryDirectory() as folder:
-            fine = check_built() if given.built else packages.are_there() and check_released(folder)
+        fine = check_built() if given.built else packages.are_there() and check_released()
     except programs.Missing as missing:
         print(missing, file=sys.stderr)
         fine = False

@@ -65,13 +65,13 @@ def ran(program: str, folder: str) -> bool:
 
 
 def main() -> int:
-    with tempfile.TemporaryDirectory() as room, tempfile.TemporaryDirectory() as unpacking:
-        try:
-            program = programs.chosen("hsplan", unpacking)
-        except programs.Missing as missing:
-            print(missing, file=sys.stderr)
-            return 1
-        print(f"By {program.kind}.", flush=True)
+    try:
+        program = programs.chosen("hsplan")
+    except programs.Missing as missing:
+        print(missing, file=sys.stderr)
+        return 1
+    print(f"By {program.kind}.", flush=True)
+    with tempfile.TemporaryDirectory() as room:
         folder = os.path.join(room, "two-sites")
         shutil.copytree(EXAMPLE, folder)
         accepted = ran(program.path, folder)

@@ -14,7 +14,6 @@ import argparse
 import os
 import subprocess
 import sys
-import tempfile
 
 from lib import companion, pages, programs
 
@@ -79,15 +78,14 @@ def answers(path: str) -> bool:
 
 def install(root: str) -> int:
     keep_folders(root, absent_of(root))
-    with tempfile.TemporaryDirectory() as folder:
-        for name in programs.PROGRAMS:
-            program = programs.chosen(name, os.path.join(folder, name))
-            target = os.path.join(root, "bin", name)
-            put(programs.octets_of(program.path), target, 0o755)
-            if not answers(target):
-                print(f"{target} is installed, and does not run", file=sys.stderr)
-                return 1
-            print(f"{target} is installed, and runs: {program.kind}")
+    for name in programs.PROGRAMS:
+        program = programs.chosen(name)
+        target = os.path.join(root, "bin", name)
+        put(programs.octets_of(program.path), target, 0o755)
+        if not answers(target):
+            print(f"{target} is installed, and does not run", file=sys.stderr)
+            return 1
+        print(f"{target} is installed, and runs: {program.kind}")
     target = os.path.join(root, "bin", "hsp")
     put(companion.archive(), target, 0o755)
     print(companion_line(target))

@@ -13,22 +13,20 @@ from __future__ import annotations
 
 import subprocess
 import sys
-import tempfile
 
 from lib import programs
 
 
 def run(words: list[str]) -> int:
     """The status of the program, or 127 where no program can be run."""
-    with tempfile.TemporaryDirectory() as folder:
-        try:
-            program = programs.chosen("hsplan", folder)
-        except programs.Missing as missing:
-            print(missing, file=sys.stderr)
-            return 127
-        if program.is_other:
-            print(f"note: this is {program.kind}", file=sys.stderr)
-        return subprocess.run([program.path, *words]).returncode
+    try:
+        program = programs.chosen("hsplan")
+    except programs.Missing as missing:
+        print(missing, file=sys.stderr)
+        return 127
+    if program.is_other:
+        print(f"note: this is {program.kind}", file=sys.stderr)
+    return subprocess.run([program.path, *words]).returncode
 
 
 def main() -> int:

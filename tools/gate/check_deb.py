@@ -190,7 +190,7 @@ def main() -> int:
     begun = time.monotonic()
     if programs.is_absent(*map(programs.tested, programs.PROGRAMS)):
         return 1
-    if not deb.packer():
+    if not deb.has_packer():
         print("NOT TRIED: the package of Debian: this machine has no dpkg-deb")
         return 0
     with tempfile.TemporaryDirectory() as room:

@@ -1,22 +1,19 @@
 #!/usr/bin/env python3
 """Compares the folder `release` with this tree and with what the gate proved and built, and tries it without the kit.
 
-A release is written once for each version. Where VERSION is ahead of it, its files are NOT COMPARED with this tree, only
-its sum with release/SHA256SUMS. Otherwise it fails where
+A release is written once for each version. Where VERSION is ahead of it, it is NOT COMPARED with this tree. Otherwise it
+fails where
 
 - the sources or a sum differ from what release/MADE and release/SHA256SUMS state;
-- the archive lacks a file of this tree, or holds another one;
-- a page in it has a link that leads to nothing;
-- a program in it is not octet for octet the one in crates/NAME/out;
-- the package of Debian is not octet for octet the one that is made of this tree and the released programs.
+- a program in it is not octet for octet the one in crates/NAME/out.
 
 With another kit than that of MADE, two builds may differ. Then the programs are reported as NOT COMPARED, with the
-lines of both kits, and the cases of checks/hsplan are run with the released program. With another dpkg-deb than that
-of MADE, only what the packages hold is compared.
+lines of both kits, and the cases of checks/hsplan are run with the released program.
 
 Then a copy of the tree in an empty folder, without anything built, is tried with a PATH that has no `rt`, and as a
-user other than root. Tried are `make demo`, `make try`, `make install` and the installed program, and what is printed
-on another machine, without a release, and with a forged one.
+user other than root. Tried are `make demo`, `make try`, `make install` and the installed program, the archive and the
+package that `make archive` and `make deb` make, and what is printed on another machine, without a release, and with a
+forged one.
 
     tools/gate/check_release.py              does all
     tools/gate/check_release.py --unbuilt    compares no program with one that is built here, and needs no kit
@@ -24,7 +21,6 @@ on another machine, without a release, and with a forged one.
 from __future__ import annotations
 
 import argparse
-import filecmp
 import os
 import shutil
 import stat
@@ -37,7 +33,7 @@ from pathlib import Path
 
 sys.path.insert(0, str(Path(__file__).resolve().parents[1]))
 
-from lib import cases, companion, deb, pages, programs
+from lib import cases, deb, pages, programs
 
 
 LIMIT = 10
@@ -53,40 +49,18 @@ def wrong_names() -> list[str]:
     return [] if fine else ["release/MADE is of other sources: run make release, or give VERSION a new number"]
 
 
-def wrong_files(room: str) -> list[str]:
-    """The files of the unpacked release that differ from those of this tree, apart from the programs."""
-    there = {os.path.relpath(os.path.join(at, it), room) for at, _, names in os.walk(room) for it in names}
-    wanted = {target: pages.installed(it, programs.FILES) for it, target in programs.FILES.items()}
-    wanted["bin/hsp"] = companion.archive()
-    faults = [
-        f"the release has no {it}"
-        for it in sorted(set(wanted) | {f"bin/{it}" for it in programs.PROGRAMS})
-        if it not in there
-    ]
-    faults += [
-        f"the release has {it}, which nothing installs"
-        for it in sorted(there - set(wanted))
-        if not it.startswith("bin/")
-    ]
-    faults += [
-        f"the release has another {it}: run make release"
-        for it in sorted(there & set(wanted))
-        if programs.octets_of(room, it) != wanted[it]
-    ]
-    return faults + pages.dead_links(room, pages.below(room))[0]
-
-
-def wrong_programs(room: str) -> list[str]:
+def wrong_programs() -> list[str]:
     """The released programs that differ from the built ones, where the kit is the same. Where it is another one, the
     faults of the program's cases."""
     made, kit = programs.made().get("kit", ""), programs.kit()
     faults = []
     for name in programs.PROGRAMS:
-        path = os.path.join(room, "bin", name)
+        path = programs.released_program(name)
         if made != kit:
             print(f"{name}: NOT COMPARED: it was made with {made}, and this machine has {kit}")
             print("the cases of checks/hsplan are run with the released one")
-            faults += cases.all_faults(path, room) if name == "hsplan" else []
+            with tempfile.TemporaryDirectory() as room:
+                faults += cases.all_faults(path, room) if name == "hsplan" else []
         elif not programs.built(name):
             faults.append(f"{name} is not built here, or older than a source: run rt ci")
         elif programs.sum_of(path) != programs.sum_of(programs.built_path(name)):
@@ -94,33 +68,6 @@ def wrong_programs(room: str) -> list[str]:
         else:
             print(f"{name}: octet for octet the one that was proved and built here")
     return faults
-
-
-def held_by(path: str, part: str) -> bytes:
-    """A part of a package without its compression: its files, or what controls their installation."""
-    return subprocess.run(["dpkg-deb", f"--{part}-tarfile", path], stdout=subprocess.PIPE, check=True).stdout
-
-
-def wrong_package(room: str) -> list[str]:
-    """The fault where the released package is not the one of this tree and the released programs."""
-    path, name = programs.package(), os.path.basename(programs.package())
-    if not os.path.isfile(path):
-        return [f"the release has no {name}: run make release"]
-    if why := programs.wrong_sum(path):
-        return [why]
-    if not deb.packer():
-        print(f"{name}: NOT COMPARED: this machine has no dpkg-deb")
-        return []
-    with tempfile.TemporaryDirectory() as folder:
-        own = os.path.join(folder, name)
-        deb.write({it: os.path.join(room, "bin", it) for it in programs.PROGRAMS}, own)
-        packer = programs.made().get("packer", "")
-        if packer == deb.packer():
-            fine = filecmp.cmp(path, own, shallow=False)
-        else:
-            print(f"{name}: ITS COMPRESSION NOT COMPARED: by {packer}, and this machine has {deb.packer()}")
-            fine = all(held_by(path, it) == held_by(own, it) for it in ("ctrl", "fsys"))
-    return [] if fine else [f"the release has another {name}: run make release"]
 
 
 class Visitor:
@@ -188,7 +135,24 @@ def visit(visitor: Visitor) -> list[str]:
     faults += expected(visitor, "make try ARGS='locate --option handle --servers 3 20.500.1234/film-5'", 0, ["1\n"])
     faults += expected(visitor, "make uninstall PREFIX=$HOME/.local && ! test -e $HOME/.local", 0, [])
     print(f"demo, installation and a plan without the kit: {gone:.1f} seconds")
-    return faults + wrong_modes(visitor)
+    return faults + wrong_modes(visitor) + wrong_packages(visitor)
+
+
+def wrong_packages(visitor: Visitor) -> list[str]:
+    """The faults of the archive and the package of Debian that are made without the kit."""
+    begun = time.monotonic()
+    faults = expected(visitor, "make archive", 0, ["out/hsplan-", "the released program"])
+    if deb.has_packer():
+        faults += expected(visitor, "make deb", 0, ["out/hsplan_", "_amd64.deb"])
+    else:
+        print("NOT TRIED: the package of Debian: this machine has no dpkg-deb")
+    print(f"an archive and a package without the kit: {time.monotonic() - begun:.1f} seconds")
+    folder = os.path.join(visitor.home, programs.stem())
+    faults += expected(visitor, f"tar -xf out/{programs.stem()}.tar.xz -C $HOME", 0, [])
+    for name in programs.PROGRAMS:
+        if programs.sum_of(os.path.join(folder, "bin", name)) != programs.sum_of(programs.released_program(name)):
+            faults.append(f"the archive has another {name} than the release")
+    return faults + pages.dead_links(folder, pages.below(folder))[0]
 
 
 def wrong_modes(visitor: Visitor) -> list[str]:
@@ -220,15 +184,15 @@ def nothing_fits(visitor: Visitor, before: str, why: str) -> list[str]:
 
 def strangers(visitor: Visitor) -> list[str]:
     """The faults on another machine, without the kit, with a forged release, and without a release."""
-    archive = os.path.join(visitor.top, "release", os.path.basename(programs.archive()))
+    program = os.path.join(visitor.top, "release", "hsplan")
     faults = nothing_fits(visitor, "setarch i686", "needs Linux on x86_64")
     faults += expected(visitor, "tools/prove.py", 1, ["no rt in PATH", README])
     faults += expected(visitor, "make -n test", 0, ["tools/check.py --unproved"])
-    with open(archive, "r+b") as file:
+    with open(program, "r+b") as file:
         file.seek(1000)
         file.write(b"forged")
     faults += nothing_fits(visitor, "", "does not have the sum")
-    os.remove(archive)
+    os.remove(program)
     return faults + nothing_fits(visitor, "", "there is no release of version")
 
 
@@ -237,10 +201,11 @@ def tried(check: Callable[[Visitor], list[str]]) -> list[str]:
         return check(Visitor(room))
 
 
-def compared(folder: str, is_unbuilt: bool) -> list[str]:
-    """The faults of the release as files, unpacked into a folder."""
+def compared(is_unbuilt: bool) -> list[str]:
+    """The faults of the release as files."""
     try:
-        room = programs.unpacked(folder)
+        for name in programs.PROGRAMS:
+            programs.released_program(name)
     except programs.Missing as missing:
         return [str(missing)]
     if programs.released() != programs.version():
@@ -248,7 +213,7 @@ def compared(folder: str, is_unbuilt: bool) -> list[str]:
         return []
     if is_unbuilt:
         print("the released programs: NOT COMPARED with any that are built here")
-    return wrong_names() + wrong_files(room) + ([] if is_unbuilt else wrong_programs(room)) + wrong_package(room)
+    return wrong_names() + ([] if is_unbuilt else wrong_programs())
 
 
 def main() -> int:
@@ -258,14 +223,12 @@ def main() -> int:
     if not is_unbuilt and not programs.kit():
         print(programs.NEED_KIT)
         return 1
-    with tempfile.TemporaryDirectory() as folder:
-        faults = compared(folder, is_unbuilt)
+    faults = compared(is_unbuilt)
     if shutil.which("rt", path=PATH):
         faults.append(f"{PATH} has an rt: the release was not tried without the kit")
     elif not faults:
         faults += tried(visit) + tried(strangers)
-    count = len(programs.FILES) + len(programs.PROGRAMS) + 1
-    line = f"release: version {programs.released()}, {count} files and a package, {len(faults)} faults"
+    line = f"release: version {programs.released()}, {len(programs.PROGRAMS)} programs, {len(faults)} faults"
     print("\n".join([*faults, line]))
     return 1 if faults else 0
 

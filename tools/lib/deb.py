@@ -1,4 +1,4 @@
-"""The Debian package of a release: programs, hsp, manual pages, completions, guide and examples in Debian's folders.
+"""The Debian package: programs, hsp, manual pages, completions, guide and examples in Debian's folders.
 
 tools/debian has what Debian wants beside them. The modules of hsp are private to it, below /usr/share/hsplan. The
 pages of the guide are not compressed, since the manual pages name them, and they link to one another.
@@ -45,13 +45,9 @@ class File(NamedTuple):
     mode: int = 0o644
 
 
-def packer() -> str:
-    """The program that writes packages, with its version; empty where there is none."""
-    if not shutil.which("dpkg-deb"):
-        return ""
-    said = subprocess.run(["dpkg-deb", "--version"], stdout=subprocess.PIPE, text=True, check=True).stdout
-    found = re.search(r"version (\S+)", said)
-    return f"dpkg-deb {found[1]}" if found else ""
+def has_packer() -> bool:
+    """Whether this machine has the program that writes packages."""
+    return shutil.which("dpkg-deb") is not None
 
 
 def versions() -> list[tuple[str, str, str]]:
@@ -188,7 +184,7 @@ def put(room: str, files: dict[str, File], when: int) -> None:
 
 def write(made: dict[str, str], target: str) -> None:
     """Writes the package of this tree, with the programs that `made` names by their paths."""
-    if not packer():
+    if not has_packer():
         raise programs.Missing("a package is written by dpkg-deb, and none is in PATH (Debian: dpkg)")
     files, when = held(made), epoch()
     with tempfile.TemporaryDirectory() as room:

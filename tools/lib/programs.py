@@ -1,8 +1,7 @@
 """The programs of this repository: what they are made of, where a built one stands, and what a release holds.
 
 A script that runs a program asks `chosen` for it. `chosen` gives the built one where it is newer than its sources,
-and otherwise the released one, unpacked into a folder of the caller's. Where neither can run here, `Missing` says why
-in one line.
+and otherwise the released one. Where neither can run here, `Missing` says why in one line.
 """
 from __future__ import annotations
 
@@ -12,13 +11,14 @@ import platform
 import shutil
 import subprocess
 import sys
-import tarfile
 from typing import Callable, Dict, Iterator, List, NamedTuple, NoReturn, Optional, Tuple
 
 TOP = os.path.dirname(os.path.dirname(os.path.dirname(os.path.abspath(__file__))))
 PROGRAMS = ("hsplan", "hsplan-stream")
 RELEASE = os.path.join(TOP, "release")
-# What a release holds beside the programs, each file with its path below PREFIX (pages: see tools/lib/pages.py).
+# Where the archive and the package of Debian are made.
+OUT = os.path.join(TOP, "out")
+# What is installed beside the programs, each file with its path below PREFIX (pages: see tools/lib/pages.py).
 FILES = {
     "docs/use/hsplan.1": "share/man/man1/hsplan.1",
     "docs/use/hsplan-stream.1": "share/man/man1/hsplan-stream.1",
@@ -166,23 +166,22 @@ def released() -> str:
     return made().get("version") or version()
 
 
-def stem(of: str = "") -> str:
-    """The name of the only folder in a release of the version `of` (if empty, the one that is there). It is also the
-    name of the archive without the ending."""
-    return f"hsplan-{of or released()}-x86_64-linux"
+def stem() -> str:
+    """The name of the only folder in the archive, which is also the name of the archive without the ending."""
+    return f"hsplan-{version()}-x86_64-linux"
 
 
-def archive(of: str = "") -> str:
-    return os.path.join(RELEASE, stem(of) + ".tar.xz")
+def archive() -> str:
+    return os.path.join(OUT, stem() + ".tar.xz")
 
 
-def package(of: str = "") -> str:
-    """The Debian package of the version `of` (if empty, of the release that is there)."""
-    return os.path.join(RELEASE, f"hsplan_{of or released()}_amd64.deb")
+def package() -> str:
+    """The Debian package."""
+    return os.path.join(OUT, f"hsplan_{version()}_amd64.deb")
 
 
 def made() -> Dict[str, str]:
-    """What release/MADE says: version, kit, sources and packer, or nothing where there is no release."""
+    """What release/MADE says: version, kit and sources, or nothing where there is no release."""
     try:
         lines = text_of("release", "MADE").splitlines()
     except FileNotFoundError:
@@ -214,48 +213,29 @@ def unfit() -> Optional[str]:
     return None
 
 
-def wrong_sum(path: str) -> Optional[str]:
-    """Why an archive or a package is not the one that SHA256SUMS names, or None where it is."""
-    name = os.path.basename(path)
-    if f"{sum_of(path)}  {name}" not in text_of("release", "SHA256SUMS").splitlines():
-        return f"release/{name} does not have the sum that release/SHA256SUMS names"
-    return None
-
-
-def unpacked(folder: str, of: str = "") -> str:
-    """Unpacks the release of the version `of` (if empty, the one that is there) into a folder, once its sum was compared.
-    Returns where its files stand."""
-    path = archive(of)
+def released_program(name: str) -> str:
+    """The path of a released program, once its sum was compared."""
+    path = os.path.join(RELEASE, name)
     try:
-        why = wrong_sum(path)
+        line = f"{sum_of(path)}  {name}"
+        fine = line in text_of("release", "SHA256SUMS").splitlines()
     except OSError as error:
-        raise Missing(
-            f"there is no release of version {of or released()}: {os.path.relpath(error.filename, TOP)} is missing"
-        ) from error
-    if why:
-        raise Missing(why)
-    with tarfile.open(path) as packed:
-        for member in packed.getmembers():
-            if (
-                not member.isfile()
-                or os.path.normpath(member.name) != member.name
-                or member.name.split("/")[0] != stem(of)
-            ):
-                raise Missing(f"release/{os.path.basename(path)} holds what no release does: {member.name}")
-        setattr(packed, "extraction_filter", getattr(tarfile, "data_filter", None))
-        packed.extractall(folder)
-    return os.path.join(folder, stem(of))
+        where = os.path.relpath(error.filename, TOP)
+        raise Missing(f"there is no release of version {released()}: {where} is missing") from error
+    if not fine:
+        raise Missing(f"release/{name} does not have the sum that release/SHA256SUMS names")
+    return path
 
 
-def chosen(name: str, folder: str) -> Program:
-    """The program to run: the built one, or the released one, unpacked into the empty folder."""
+def chosen(name: str) -> Program:
+    """The program to run: the built one, or the released one."""
     path = built(name)
     if path:
         return Program(path, "the program built here", False)
     why = unfit()
     if why is None:
         try:
-            path = os.path.join(unpacked(folder), "bin", name)
+            path = released_program(name)
             is_other = made().get("sources") != digest()
             more = ", made of other sources than these" if is_other else ""
             return Program(path, f"the released program, version {released()}{more}", is_other)

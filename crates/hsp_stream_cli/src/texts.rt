@@ -54,4 +54,4 @@ A file may be a pipe or /dev/stdin. The manual page has more: man hsplan-stream.
 ";
 
 /// What `--version` prints.
-pub const VERSION: &[u8] = b"hsplan-stream 1.12.2\n";
+pub const VERSION: &[u8] = b"hsplan-stream 1.13.0\n";
