@@ -64,7 +64,12 @@ def wrong_types() -> list[str]:
             subprocess.run([*MYPY, *words], cwd=folder, env=means, stdout=subprocess.PIPE, text=True)
             for words, folder in runs
         ]
-    return [line for one in done if one.returncode for line in one.stdout.splitlines()]
+    return [
+        line
+        for one in done
+        if one.returncode
+        for line in one.stdout.splitlines() or [f"mypy ended with status {one.returncode}, and printed nothing"]
+    ]
 
 
 def main() -> int:
