@@ -42,8 +42,11 @@ prove:
 release:
 	@tools/make_release.py
 
-deb archive:
-	@tools/make_package.py $@
+deb:
+	@tools/make_package.py deb
+
+archive:
+	@tools/make_package.py archive
 
 quick:
 	tools/gate/packages.py

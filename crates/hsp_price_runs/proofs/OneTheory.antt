@@ -1,5 +1,5 @@
 -- The network of a table's rows by prices, and the arcs of a row, by the page.
-use Rattle.std.proofs.Common.{◌≡◌, ◌∙◌, List, [], ◌∷◌, Result, Ok, refl, sym, subst}
+use Rattle.std.proofs.Common.{◌≡◌, ◌∙◌, List, [], ◌∷◌, Result, Ok, refl, sym}
 use Rattle.hsp_csv.specs.Records.{records_of}
 use Rattle.hsp_names.specs.Handle.{ReadingsAreHandles}
 use Rattle.hsp_tables.specs.Costs.{CostEntry, cost_table}
@@ -23,6 +23,7 @@ record ReadWith (inputs : Inputs) (it : Instance) (costs : List CostEntry) : Typ
   costs_are : read.costs ≡ costs
 
 module _ (handles : ReadingsAreHandles) where
+  -- the costs of the page are those that were read
   read_with : (inputs : Inputs) (it : Instance) (costs : List CostEntry) → Defines inputs it
       → AreCosts it.sites inputs.costs.items costs → ReadWith inputs it costs
   read_with inputs it costs page are =
@@ -32,11 +33,13 @@ module _ (handles : ReadingsAreHandles) where
       sym holds.costs ∙ costs_are_read_as it.sites inputs.costs.items costs sites are in
       record { read = read; built = built_of read it built; costs_are = cc (both) }
 
+  -- the arcs of the instance are built by the function that gives a row its arcs by prices
   pub table_has_its_network : TableHasItsNetwork
   table_has_its_network inputs it costs page are =
       let own = read_with inputs it costs page are in
       rw (own.built.arcs, own.costs_are) refl
 
+  -- a row has the arcs of an instance whose only row it is
   pub rows_have_their_arcs : RowsHaveTheirArcs
   rows_have_their_arcs inputs it costs row page are =
       let own = read_with inputs it costs page are in
@@ -66,6 +69,6 @@ module _ (handles : ReadingsAreHandles) where
         arcs = refl;
       } in
       let has = built_has_its_parts read made (is_built read made built) in
-      let apart = subst (λ (rows : List CostEntry). AreCosts it.sites inputs.costs.items rows) (sym own.costs_are) are in
-      let all : AreArcs own.read.costs made = arcs_are read made apart.0.apart has refl refl in
+      let of : AreCosts it.sites inputs.costs.items own.read.costs = rw own.costs_are are in
+      let all : AreArcs own.read.costs made = arcs_are read made of.0.apart has refl refl in
       rw own.costs_are at (all.each 0 row (arcs_from own.read.costs row 0 0 it.sites) refl refl)
