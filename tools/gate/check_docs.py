@@ -11,6 +11,7 @@ where a program of that name and curl are installed.
 It fails where
 
 - the README or docs/understand/ARCHITECTURE.md does not name a crate of crates.txt;
+- a crate stands on one of a storey above its own, or the two have it in different storeys;
 - a table of modules of docs/understand/ARCHITECTURE.md names one that is not there, or lacks one;
 - a document names a link, a `make` target or a script that is not there;
 - a word of a fault has no row in docs/use/FAULTS.md or no paragraph in a manual page;
@@ -86,6 +87,31 @@ def missing_crates() -> Found:
         if f"`{it}`" not in programs.text_of(path)
     ]
     return faults, len(crates)
+
+
+def wrong_storeys() -> Found:
+    """The crates that stand on one of a storey above their own in crates.txt, or that docs/understand/ARCHITECTURE.md has
+    in another storey; and how many storeys there are."""
+    storeys = programs.storeys()
+    height = {crate: at for at, (_, crates) in enumerate(storeys) for crate in crates}
+    faults = [
+        f"crates.txt has {crate} below {it}, on which it stands"
+        for crate, below in programs.dependencies().items()
+        for it in below
+        if height[it] > height[crate]
+    ]
+    table = programs.text_of("docs/understand/ARCHITECTURE.md").split("## The crates of the programs")[1].split("\n## ")[0]
+    storey, stated = "", dict[str, str]()
+    for row in rows(table):
+        storey = row[0] or storey
+        stated |= {it: storey for it in named(row[1])}
+    titles = {crate: storeys[at][0].split(":")[0] for crate, at in height.items()}
+    faults += [
+        f"docs/understand/ARCHITECTURE.md has {crate} in the storey {stated.get(crate, 'of tests')}, crates.txt in {title}"
+        for crate, title in titles.items()
+        if stated.get(crate, storeys[-1][0].split(":")[0]) != title
+    ]
+    return faults, len(storeys)
 
 
 # Modules that every crate may have, and that no table names.
@@ -284,6 +310,7 @@ def wrong_in(shell: str, found: dict[str, list[transcripts.Step]], program: str)
 
 KINDS = {
     "crates": missing_crates,
+    "storeys": wrong_storeys,
     "modules of crates": wrong_modules,
     "links": missing_links,
     "targets and scripts": missing_targets,

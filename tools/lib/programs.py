@@ -83,6 +83,17 @@ def dependencies() -> Dict[str, List[str]]:
     return {name: [it for it in below if it in listed] for name, below in listed.items()}
 
 
+def storeys() -> List[Tuple[str, List[str]]]:
+    """The storeys of crates.txt, the lowest first: what its comments say, and the crates below each."""
+    found: List[Tuple[str, List[str]]] = []
+    for line in text_of("crates.txt").splitlines()[1:]:
+        if line.startswith("# "):
+            found.append((line[2:], []))
+        elif ":" in line:
+            found[-1][1].append(line.split(":")[0])
+    return found
+
+
 def crate_of(program: str) -> str:
     """The crate of a program, by the program's name."""
     return program.replace("-", "_")

@@ -117,23 +117,14 @@ def record() -> str:
 # ---- graphs
 
 
-def storeys() -> Iterator[tuple[str, list[str]]]:
-    """The storeys of crates.txt: what its comments say, and the crates below each."""
-    title, names = "", list[str]()
-    for line in (TOP / "crates.txt").read_text("utf-8").splitlines():
-        if line.startswith("# ") and names:
-            yield title, names
-            names = []
-        title = line[2:] if line.startswith("# ") else title
-        names += [line.split(":")[0]] if ":" in line and not line.startswith("#") else []
-    yield title, names
-
-
 def floors() -> str:
     """Each storey with its crates. Arrows go from a storey to those right below it that it stands on."""
-    below, of = programs.dependencies(), {name: at for at, (_, names) in enumerate(storeys()) for name in names}
+    below, of = (
+        programs.dependencies(),
+        {name: at for at, (_, names) in enumerate(programs.storeys()) for name in names},
+    )
     lines = ['digraph floors { nodesep=0.25; tooltip="The storeys of the house"; ' + STYLE]
-    for at, (title, names) in enumerate(storeys()):
+    for at, (title, names) in enumerate(programs.storeys()):
         style = ', fillcolor="#fcefd0", color="#a5700a"' if title.startswith("Beside") else ""
         rows = [", ".join(names[first : first + 6]) for first in range(0, len(names), 6)]
         label = "\\n".join([title.split(":")[0], *rows])
