@@ -1,13 +1,19 @@
-"""Handles whose pairs with a region have one hash in `hsp_pair_map`, in all 64 bits.
+"""Handles whose hashes are the same: those of `hsp_pair_map` in all 64 bits, and those of a table's rows, if it hashed
+without a key, in all bits that show.
 
-The hash adds a word of eight octets and multiplies, word after word. So of two words, the second undoes what the first
-changes. Of such pairs of words that come to the same, one follows another: sixteen of them, four times, are 65,536 handles.
+The hash of `hsp_pair_map` adds a word of eight octets and multiplies, word after word. So of two words, the second
+undoes what the first changes. Of such pairs of words that come to the same, one follows another: sixteen of them, four
+times, are 65,536 handles.
 """
 from __future__ import annotations
 
 import itertools
+import os
 import random
+import subprocess
 from collections.abc import Iterator
+
+from lib import programs
 
 ALL = 2**64 - 1
 MULTIPLIER = 0x9E37_79B9_7F4A_7C15
@@ -55,7 +61,7 @@ def words(state: int, drawn: random.Random) -> Iterator[tuple[bytes, int]]:
             yield first + second, mixed(between, number(second))
 
 
-def colliding(region: bytes, count: int, drawn: random.Random) -> list[bytes]:
+def of_one_hash(region: bytes, count: int, drawn: random.Random) -> list[bytes]:
     """As many different handles of 80 octets, at most 65,536, whose pairs with the region have one hash."""
     state = mixed(name_mixed(len(region), region), number(BEGIN))
     blocks: list[list[bytes]] = []
@@ -71,3 +77,11 @@ def random_handles(count: int, drawn: random.Random) -> list[bytes]:
     """As many handles of the same length and octets, of which the hash is not chosen."""
     length = 16 * BLOCKS
     return [BEGIN + bytes(drawn.choices(OCTETS, k=length)) + END for _ in range(count)]
+
+
+def of_one_place(count: int, folder: str) -> list[bytes]:
+    """As many handles of one place in a table, which tools/lib/place_collisions.c finds, compiled into a folder."""
+    made = os.path.join(folder, "place_collisions")
+    source = os.path.join(programs.TOP, "tools", "lib", "place_collisions.c")
+    subprocess.run(["cc", "-O2", "-o", made, source], check=True)
+    return subprocess.run([made, str(count)], stdout=subprocess.PIPE, check=True).stdout.split()
