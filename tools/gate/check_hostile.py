@@ -1,17 +1,22 @@
 #!/usr/bin/env python3
 """Gives the built program files that are cut short or forged, one octet off a limit, or at the ends of their numbers.
 
-    tools/gate/check_hostile.py [--program FILE]
+    tools/gate/check_hostile.py [--program FILE] [--stream FILE]
 
 The cases stand in checks/hostile, but for those of texts that are cut at each octet, of logs of ten million rows, and of
 the largest files. After them, the five records and lists with forged counts are measured: on each the program may use at
 most 1 MB more memory than on a record of 48 octets.
+
+Last, handles are made whose hashes are the same. A pass over a log of them may take at most three times as long as over
+a log of handles that are drawn, of the same lengths: the best of three passes each.
 """
 from __future__ import annotations
 
 import argparse
 import os
+import random
 import shutil
+import subprocess
 import sys
 import tempfile
 from collections.abc import Mapping
@@ -20,7 +25,7 @@ from typing import NamedTuple
 
 sys.path.insert(0, str(Path(__file__).resolve().parents[1]))
 
-from lib import cases, memory, preload, programs
+from lib import cases, collisions, memory, preload, programs
 
 
 MEGABYTE = 1024
@@ -211,17 +216,89 @@ def check_memory(program: str, room: str) -> list[str]:
     ]
 
 
+# ---- handles whose hashes are the same
+
+MOST_TIMES, PASSES = 3, 3
+# The most rows of a table of demand, the rows that hsplan-stream keeps of a log, and rows for one place of a table.
+DEMAND_ROWS, SEEN_ROWS, PLACED_ROWS = 8_192, 65_536, 4_096
+QUERIES = 300_000
+TABLES = INPUTS.decode().split()
+BY_PRICES = "--settings settings.toml --costs costs.csv --capacity capacity.csv".split()
+ROOMY = b"site,server_id,capacity\n" + b"".join(
+    b"%s,%d,1000000000\n" % server for server in [(b"E", 7), (b"E", 3), (b"W", 1), (b"W", 2), (b"W", 9)]
+)
+
+
+def log_of(handles: list[bytes], header: bytes, end: bytes = b"") -> bytes:
+    return header + b"\n" + b"".join(b"r1," + handle + end + b"\n" for handle in handles)
+
+
+def passes(program: str, stream: str, room: str, handles: list[bytes]) -> dict[str, list[str]]:
+    """The words of each pass over these handles, and the files for them in the folder of a case."""
+    rows = handles[:DEMAND_ROWS]
+    files = {
+        "capacity.csv": ROOMY,
+        "demand.csv": log_of(rows, b"region,handle,count", b",100"),
+        "log.csv": log_of(random.Random(1).choices(rows, k=QUERIES), b"region,handle"),
+        "long.csv": log_of((handles * (QUERIES // len(handles) + 1))[:QUERIES], b"region,handle"),
+    }
+    folder = folder_with(room, files)
+    by_plan, by_prices = [*TABLES, "--plan", "plan.txt"], [*BY_PRICES, "--log", "long.csv"]
+    for name, words in [("plan.txt", [program, "plan", *TABLES]), ("prices.txt", [stream, "plan", *by_prices])]:
+        with open(os.path.join(folder, name), "wb") as file:
+            subprocess.run(words, cwd=folder, stdout=file, check=True)
+    return {
+        "check": [program, "check", *by_plan],
+        "dispatch": [program, "dispatch", *by_plan, "--log", "log.csv"],
+        "answer by a plan": [stream, "answer", *by_plan, "--log", "log.csv"],
+        "answer by prices": [stream, "answer", *by_prices, "--prices", "prices.txt"],
+    }
+
+
+def seconds_of(program: str, stream: str, room: str, handles: list[bytes]) -> dict[str, float]:
+    """The least processor seconds that each pass over these handles takes."""
+    found: dict[str, float] = {}
+    for name, words in passes(program, stream, room, handles).items():
+        taken = []
+        for _ in range(PASSES):
+            before = memory.spent_below()
+            subprocess.run(words, cwd=os.path.join(room, "data"), capture_output=True, check=True)
+            taken.append(memory.spent_below() - before)
+        found[name] = min(taken)
+    return found
+
+
+def check_collisions(program: str, stream: str, room: str) -> list[str]:
+    """The faults of passes over handles of one hash, and over handles of one place in a table."""
+    drawn = random.Random(1)
+    faults: list[str] = []
+    for what, handles in [
+        ("one hash", collisions.of_one_hash(b"r1", SEEN_ROWS, drawn)),
+        ("one place", collisions.of_one_place(PLACED_ROWS, room)),
+    ]:
+        usual = seconds_of(program, stream, room, collisions.random_handles(len(handles), drawn))
+        made = seconds_of(program, stream, room, handles)
+        said = [f"{name} {seconds:.2f} for {usual[name]:.2f}" for name, seconds in made.items()]
+        print(f"seconds over {len(handles):,} handles of {what}, for those over others: {', '.join(said)}")
+        slow = [it for it, (name, seconds) in zip(said, made.items()) if seconds > MOST_TIMES * usual[name]]
+        faults += [f"handles of {what}: {it} seconds" for it in slow]
+    return faults
+
+
 def main() -> int:
     words = argparse.ArgumentParser(description="Gives the built program files that are cut short or forged.")
     words.add_argument("--program", default=programs.tested("hsplan"))
-    program = os.path.abspath(words.parse_args().program)
-    if programs.is_absent(program):
+    words.add_argument("--stream", default=programs.tested("hsplan-stream"), metavar="FILE")
+    given = words.parse_args()
+    program, stream = os.path.abspath(given.program), os.path.abspath(given.stream)
+    if programs.is_absent(program, stream):
         return 1
     with tempfile.TemporaryDirectory() as room:
         written = cases.cases_in("hostile")
         drawn = [case for group in GROUPS for case in group()]
         faults = cases.all_faults(program, room, "hostile") + check_memory(program, room)
         faults += [fault for case in drawn for fault in fault_of(program, room, case)]
+        faults += check_collisions(program, stream, room)
     for fault in faults:
         print(fault)
     print(f"cut and forged: {len(written) + len(drawn)} cases, {len(faults)} faults")

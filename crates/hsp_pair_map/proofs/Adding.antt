@@ -1,19 +1,24 @@
 -- A pair that is added: its octets behind those of the others, and its entry as the last of its bucket.
-use Rattle.std.proofs.Common.{◌≡◌, ◌≤◌, ◌<◌, ◌+◌, ◌-◌, ◌^◌, ◌∙◌, ◌++◌, ◌∷◌, [], ℕ, suc, List, length, map, take, drop}
-use Rattle.std.proofs.Common.{append_assoc, refl, sym, ap, inl, inr, arith, get_or}
-use Rattle.std.specs.Prelude.{slice_index, slice_set}
-use Rattle.std.proofs.lemmas.Bool.{cases_eq, eq-eqb, ne_eqb}
-use Rattle.std.proofs.lemmas.List.{get_or_default, get_or_append_left, get_or_push, get_or-set_same, get_or-set_other}
+use Rattle.std.proofs.Common.{◌≡◌, ◌≢◌, ◌⊎◌, ◌≤◌, ◌<◌, ◌+◌, ◌-◌, ◌^◌, ◌∙◌, ◌++◌, ◌∷◌, [], ℕ, suc, List, length, map, take, drop}
+use Rattle.std.proofs.Common.{append_assoc, refl, sym, subst, ap, inl, inr, arith}
+use Rattle.std.specs.Prelude.{Err, IfErr, None, Ok, OnErr, OnOk, Result, Some, Vec, nat_lt, if◌then◌else◌, slice_index, slice_set}
+use Rattle.std.specs.declared.alloc.Global.{Global}
+use Rattle.std.specs.BTreeMap.{BTreeMap}
+use Rattle.std.proofs.lemmas.Bool.{cases_eq, eq-eqb, le-ltb, lt-ltb, ne_eqb}
+use Rattle.std.proofs.lemmas.List.{get_or_append_left, get_or_push, get_or-set_same, get_or-set_other}
 use Rattle.std.proofs.lemmas.List.{length-set, length-append, length-drop, length_push, map-append, take-append-le}
 use Rattle.std.proofs.lemmas.List.{take_all, drop-append-le}
 use Rattle.std.proofs.Math.Seq.{take-append_seam}
 use Rattle.std.proofs.lemmas.List.Prefix.{front_rest}
-use Rattle.hsp_pair_map.specs.Chains.{last_of}
+use Rattle.hsp_pair_map.specs.Chains.{count_of, last_of}
 use Rattle.hsp_pair_map.specs.Hashing.{bucket_of, hash_of, mark_of}
-use Rattle.hsp_pair_map.specs.Held.{AreHeld, IsHeld, IsSpan, bucket_at, entry_at, no_entry, pair_in}
+use Rattle.hsp_pair_map.specs.Held.{AreHeld, IsHeld, IsSpan, entry_at, no_entry, pair_in}
+use Rattle.hsp_pair_map.specs.Ordered.{Named, number_in}
 use Rattle.hsp_pair_map.specs.Pairs.{Pair}
 use Rattle.hsp_pair_map.specs.declared.pair_map.Entry.{Entry}
-use Rattle.hsp_pair_map.proofs.Chaining.{last_alike}
+use Rattle.hsp_pair_map.specs.declared.pair_map.TheConstants.{LONGEST_CHAIN}
+use Rattle.hsp_pair_map.proofs.Chaining.{count_alike, count_last, count_none, last_alike, last_own, last_within}
+use Rattle.hsp_pair_map.proofs.Ordering.{pair_cases}
 
 -- octets within a run, where more follow
 within_more : (a b : ℕ) (xs ys : List ℕ) → a ≤ b → b ≤ length xs
@@ -39,16 +44,12 @@ pairs_kept xs ys (e ∷ entries) spans =
     refl
 
 -- further octets change nothing
-module _ (xs ys : List ℕ) (entries : List Entry) (lasts : List ℕ) (held : AreHeld xs entries lasts) where
-  -- the bucket of an old pair stays
-  bucket_kept : (k : ℕ) → k < length entries
-      → bucket_at (length lasts) (xs ++ ys) entries k ≡ bucket_at (length lasts) xs entries k
-  bucket_kept k l =
-      ap (λ p. bucket_of (length lasts) (hash_of p)) (pair_kept xs ys (entry_at entries k) (held.each k l).span)
-
+module _ (xs ys : List ℕ) (entries : List Entry) (lasts : List ℕ) (rest : Named (BTreeMap (Vec ℕ Global) ℕ))
+    (held : AreHeld xs entries lasts rest) where
   -- the old entries are held by the longer text
-  pub held_still : AreHeld (xs ++ ys) entries lasts
+  pub held_still : AreHeld (xs ++ ys) entries lasts rest
   held_still = record {
+    bucket = held.bucket;
     some = held.some;
     buckets = held.buckets;
     few = held.few;
@@ -62,39 +63,111 @@ module _ (xs ys : List ℕ) (entries : List Entry) (lasts : List ℕ) (held : Ar
             within = omega (arith, one.span.within, length-append xs ys);
           };
           mark = rw same one.mark;
-          before = rw (bucket_kept k l)
-              (one.before
-              ∙ sym
-              (last_alike _ _ (bucket_at (length lasts) xs entries k) k
-              (λ j m. bucket_kept j (omega (arith, l, m)))));
+          own = subst (λ q. number_in rest q ≡ None → held.bucket k ≡ bucket_of (length lasts) (hash_of q)) (sym same)
+              one.own;
+          before = one.before;
+          depth = one.depth;
+          short = one.short;
         };
-    last = λ b l. held.last b l ∙ sym (last_alike _ _ b (length entries) bucket_kept);
+    last = held.last;
+    numbers = λ p n e.
+        let there = held.numbers p n e in
+        (there.0, pair_kept xs ys (entry_at entries n) (held.each n there.0).span ∙ there.1);
   }
 
   -- the old pairs are read from the longer text
   pub pairs_still : map (pair_in (xs ++ ys)) entries ≡ map (pair_in xs) entries
   pairs_still = pairs_kept xs ys entries (λ k l. (held.each k l).span)
 
--- an entry becomes the last one of its bucket
-module _ (octets : List ℕ) (entries : List Entry) (lasts : List ℕ) (held : AreHeld octets entries lasts)
+-- other pairs in order that have the same numbers change nothing
+pub held_alike : (octets : List ℕ) (entries : List Entry) (lasts : List ℕ)
+    (old new : Named (BTreeMap (Vec ℕ Global) ℕ)) → ((p : Pair) → number_in new p ≡ number_in old p)
+    → AreHeld octets entries lasts old → AreHeld octets entries lasts new
+held_alike octets entries lasts old new same held = record {
+  bucket = held.bucket;
+  some = held.some;
+  buckets = held.buckets;
+  few = held.few;
+  each = λ k l.
+      let one = held.each k l in
+      record {
+        span = one.span;
+        mark = one.mark;
+        own = λ e. one.own (sym (same (pair_in octets (entry_at entries k))) ∙ e);
+        before = one.before;
+        depth = one.depth;
+        short = one.short;
+      };
+  last = held.last;
+  numbers = λ p n e. held.numbers p n (sym (same p) ∙ e);
+}
+
+-- the last entry of a bucket, and how many the bucket has
+module _ (octets : List ℕ) (entries : List Entry) (lasts : List ℕ) (rest : Named (BTreeMap (Vec ℕ Global) ℕ))
+    (held : AreHeld octets entries lasts rest) (b : ℕ) (inside : b < length lasts) (last : ℕ)
+    (is : last ≡ slice_index lasts b) where
+  -- the number is that of the bucket's last entry
+  its_last : last ≡ last_of held.bucket b (length entries)
+  its_last = is ∙ held.last b inside
+
+  -- there is an entry before the number
+  pub last_inside : last ≤ length entries
+  last_inside = rw its_last (last_within held.bucket b (length entries))
+
+  -- which has few before it
+  pub last_short : 0 < last → (entry_at entries (last - 1)).depth < LONGEST_CHAIN
+  last_short l = (held.each (last - 1) (omega (arith, last_inside, l))).short
+
+  -- the length of its chain
+  pub chain_counted : (depth : ℕ) → (last ≡ 0 → depth ≡ 0)
+      → (0 < last → depth ≡ (entry_at entries (last - 1)).depth + 1) → depth ≡ count_of held.bucket b (length entries)
+  chain_counted depth none some = elim (cases_eq last 0) [
+    | inl e ↦ none e ∙ sym (count_none held.bucket b (length entries) (sym its_last ∙ e))
+    | inr ne ↦
+        let more : 0 < last = omega (arith, ne) in
+        let r = last - 1 in
+        let next : last ≡ suc r = omega (arith, more) in
+        let own : held.bucket r ≡ b = last_own held.bucket b (length entries) r (sym its_last ∙ next) in
+        let one = held.each r (omega (arith, last_inside, more)) in
+        some more
+        ∙ (omega (
+          arith,
+          rw own at (one.depth (omega (arith, own, inside))),
+          count_last held.bucket b (length entries) r (sym its_last ∙ next),
+        ))
+  ]
+
+-- a function with another value from a place on
+with_last : (ℕ → ℕ) → ℕ → ℕ → ℕ → ℕ
+with_last bucket n b k = if nat_lt k n then bucket k else b
+
+-- an entry more, which belongs to a bucket or to none
+module _ (octets : List ℕ) (entries : List Entry) (lasts : List ℕ) (old : Named (BTreeMap (Vec ℕ Global) ℕ))
+    (held : AreHeld octets entries lasts old)
     (e : Entry) (span : IsSpan octets e) (mark : e.mark ≡ mark_of (hash_of (pair_in octets e)))
-    (b : ℕ) (own : b ≡ bucket_of (length lasts) (hash_of (pair_in octets e))) (inside : b < length lasts)
-    (before : e.before ≡ slice_index lasts b) (few : length entries + 1 < 2 ^ 32) where
+    (b : ℕ) (new : Named (BTreeMap (Vec ℕ Global) ℕ))
+    (own : number_in new (pair_in octets e) ≡ None → b ≡ bucket_of (length lasts) (hash_of (pair_in octets e)))
+    (before : b < length lasts → e.before ≡ last_of held.bucket b (length entries))
+    (depth : b < length lasts → e.depth ≡ count_of held.bucket b (length entries))
+    (short : e.depth < LONGEST_CHAIN) (few : length entries + 1 < 2 ^ 32)
+    (sooner : (p : Pair) → number_in new p ≡ None → number_in old p ≡ None)
+    (numbers : (p : Pair) (n : ℕ) → number_in new p ≡ Some n
+    → (number_in old p ≡ Some n) ⊎ ((n ≡ length entries) × (pair_in octets e ≡ p))) where
   abbrev more : List Entry
   more = entries ++ e ∷ []
 
-  abbrev now : List ℕ
-  now = slice_set lasts b (length entries + 1)
+  abbrev now : ℕ → ℕ
+  now = with_last held.bucket (length entries) b
 
-  abbrev old_bucket : ℕ → ℕ
-  old_bucket = bucket_at (length lasts) octets entries
+  -- old entries keep their buckets
+  same_buckets : (k : ℕ) → k < length entries → now k ≡ held.bucket k
+  unfolding with_last
+  same_buckets k l = rw (lt-ltb k (length entries) l) refl
 
-  abbrev new_bucket : ℕ → ℕ
-  new_bucket = bucket_at (length lasts) octets more
-
-  -- there are as many buckets as before
-  many : length now ≡ length lasts
-  many = length-set lasts b (length entries + 1)
+  -- the new one has its own
+  its_bucket : now (length entries) ≡ b
+  unfolding with_last
+  its_bucket = rw (le-ltb (length entries) (length entries) (omega arith)) refl
 
   -- the entries before the new one stay
   old_entry : (k : ℕ) → k < length entries → entry_at more k ≡ entry_at entries k
@@ -104,62 +177,89 @@ module _ (octets : List ℕ) (entries : List Entry) (lasts : List ℕ) (held : A
   new_entry : entry_at more (length entries) ≡ e
   new_entry = get_or_push entries e no_entry (length entries) refl
 
-  -- old pairs keep their buckets
-  same_buckets : (k : ℕ) → k < length entries → new_bucket k ≡ old_bucket k
-  same_buckets k l = ap (λ x. bucket_of (length lasts) (hash_of (pair_in octets x))) (old_entry k l)
-
-  -- the new pair is in its own bucket
-  its_bucket : new_bucket (length entries) ≡ b
-  its_bucket = rw new_entry (sym own)
-
   -- each entry, the new one too, is held with the right entry before it
-  each : (k : ℕ) → k < length more → IsHeld octets more (length lasts) k
+  each : (k : ℕ) → k < length more → IsHeld octets more new now (length lasts) k
   each k l = elim (cases_eq k (length entries)) [
-    | inl new ↦ rw new (record {
+    | inl last ↦ rw last (record {
       span = rw new_entry span;
       mark = rw new_entry mark;
-      before = rw (new_entry, ← own)
-          (before ∙ held.last b inside ∙ sym (last_alike new_bucket old_bucket b (length entries) same_buckets));
+      own = rw (new_entry, its_bucket) own;
+      before = rw (new_entry, its_bucket) (λ i.
+          before i ∙ sym (last_alike now held.bucket b (length entries) same_buckets));
+      depth = rw (new_entry, its_bucket) (λ i.
+          depth i ∙ sym (count_alike now held.bucket b (length entries) same_buckets));
+      short = rw new_entry short;
     })
     | inr other ↦
-        let old : k < length entries = omega (arith, l, length_push entries e, other) in
-        let one = held.each k old in
+        let inside : k < length entries = omega (arith, l, length_push entries e, other) in
+        let one = held.each k inside in
+        let alike : (j : ℕ) → j < k → now j ≡ held.bucket j = λ j m. same_buckets j (omega (arith, m, inside)) in
         record {
-          span = rw (old_entry k old) one.span;
-          mark = rw (old_entry k old) one.mark;
-          before = rw (old_entry k old)
-              (one.before
-              ∙ sym
-              (last_alike new_bucket old_bucket (old_bucket k) k (λ j m. same_buckets j (omega (arith, m, old)))));
+          span = rw (old_entry k inside) one.span;
+          mark = rw (old_entry k inside) one.mark;
+          own = rw (old_entry k inside, same_buckets k inside) (λ none.
+              one.own (sooner (pair_in octets (entry_at entries k)) none));
+          before = rw (old_entry k inside, same_buckets k inside) (λ i.
+              one.before i ∙ sym (last_alike now held.bucket (held.bucket k) k alike));
+          depth = rw (old_entry k inside, same_buckets k inside) (λ i.
+              one.depth i ∙ sym (count_alike now held.bucket (held.bucket k) k alike));
+          short = rw (old_entry k inside) one.short;
         }
   ]
 
-  -- each bucket names its last entry
-  last : (a : ℕ) → a < length lasts → slice_index now a ≡ last_of new_bucket a (suc (length entries))
-  unfolding last_of
-  last a l = elim (cases_eq a b) [
-    | inl same ↦
-        rw (same, its_bucket, eq-eqb b b refl) (get_or-set_same lasts b (length entries + 1) 0 inside ∙ omega arith)
-    | inr other ↦
-        rw (its_bucket, ne_eqb b a (λ s. other (sym s)))
-        (get_or-set_other lasts b a (length entries + 1) 0 other ∙ held.last a l
-        ∙ sym (last_alike new_bucket old_bucket a (length entries) same_buckets))
+  -- the numbers of pairs in order are theirs
+  numbered : (p : Pair) (n : ℕ) → number_in new p ≡ Some n
+      → (n < length more) × (pair_in octets (entry_at more n) ≡ p)
+  numbered p n f = elim (numbers p n f) [
+    | inl there ↦
+        let one = held.numbers p n there in
+        (omega (arith, one.0, length_push entries e), rw (old_entry n one.0) one.1)
+    | inr here ↦ (omega (arith, here.0, length_push entries e), rw (here.0, new_entry) here.1)
   ]
 
-  -- the longer list of entries is held
-  pub held_more : AreHeld octets more now
-  held_more = record {
+  -- the longer list of entries is held, where each bucket names its last entry
+  held_more : (ends : List ℕ) → length ends ≡ length lasts
+      → ((a : ℕ) → a < length lasts → slice_index ends a ≡ last_of now a (suc (length entries)))
+      → AreHeld octets more ends new
+  held_more ends many last = record {
+    bucket = now;
     some = rw many held.some;
     buckets = rw many held.buckets;
     few = omega (arith, few, length_push entries e);
     each = λ k l. rw many (each k l);
     last = λ a l.
         let long : length more ≡ suc (length entries) = omega (arith, length_push entries e) in
-        rw (many, long) (last a (rw many at l));
+        rw long (last a (rw many at l));
+    numbers = numbered;
   }
 
+  -- the entry of a bucket is its last one
+  pub held_chained : b < length lasts → AreHeld octets more (slice_set lasts b (length entries + 1)) new
+  unfolding last_of
+  held_chained inside =
+      held_more (slice_set lasts b (length entries + 1)) (length-set lasts b (length entries + 1)) (λ a l.
+      elim (cases_eq a b) [
+        | inl same ↦
+            rw (same, its_bucket, eq-eqb b b refl)
+            (get_or-set_same lasts b (length entries + 1) 0 inside ∙ omega arith)
+        | inr other ↦
+            rw (its_bucket, ne_eqb b a (λ s. other (sym s)))
+            (get_or-set_other lasts b a (length entries + 1) 0 other ∙ held.last a l
+            ∙ sym (last_alike now held.bucket a (length entries) same_buckets))
+      ])
+
+  -- an entry of no bucket is the last one of none
+  pub held_apart : b ≡ length lasts → AreHeld octets more lasts new
+  unfolding last_of
+  held_apart none =
+      held_more lasts refl (λ a l.
+      let other : b ≢ a = λ s. absurd (omega (arith, s, none, l)) in
+      rw (its_bucket, ne_eqb b a other)
+      (held.last a l ∙ sym (last_alike now held.bucket a (length entries) same_buckets)))
+
 -- a pair whose octets lie behind those of the others
-module _ (xs first second : List ℕ) (entries : List Entry) (lasts : List ℕ) (held : AreHeld xs entries lasts)
+module _ (xs first second : List ℕ) (entries : List Entry) (lasts : List ℕ)
+    (rest : Named (BTreeMap (Vec ℕ Global) ℕ)) (held : AreHeld xs entries lasts rest)
     (e : Entry) (start : e.start ≡ length xs) (cut : e.cut ≡ length xs + length first)
     (end : e.end ≡ length xs + length first + length second) where
   abbrev octets : List ℕ
@@ -204,15 +304,67 @@ module _ (xs first second : List ℕ) (entries : List Entry) (lasts : List ℕ) 
   pairs_added =
       let whole : octets ≡ xs ++ (first ++ second) = append_assoc xs first second in
       map-append (pair_in octets) entries (e ∷ [])
-      ∙ rw (pair_added, whole, pairs_still xs (first ++ second) entries lasts held) refl
+      ∙ rw (pair_added, whole, pairs_still xs (first ++ second) entries lasts rest held) refl
+
+  -- the old entries, beside the octets of the new pair
+  still : AreHeld octets entries lasts rest
+  still = held_still (xs ++ first) second entries lasts rest (held_still xs first entries lasts rest held)
 
   -- a pair that is put behind the others, as the last of its bucket, leaves the map in order
   pub held_added : (hash : ℕ) → hash ≡ hash_of pair → e.mark ≡ mark_of hash → (b : ℕ)
-      → b ≡ bucket_of (length lasts) hash → b < length lasts
-      → e.before ≡ get_or lasts b e.before → length entries + 1 < 2 ^ 32
-      → AreHeld octets (entries ++ e ∷ []) (slice_set lasts b (length entries + 1))
-  held_added hash is mark b own inside before few =
-      let still = held_still (xs ++ first) second entries lasts (held_still xs first entries lasts held) in
-      held_more octets entries lasts still e span_added (rw pair_added (rw is at mark)) b (rw pair_added (rw is at own))
-      inside
-      (before ∙ get_or_default lasts b e.before 0 inside) few
+      → b ≡ bucket_of (length lasts) hash → b < length lasts → e.before ≡ slice_index lasts b
+      → (e.before ≡ 0 → e.depth ≡ 0) → (0 < e.before → e.depth ≡ (entry_at entries (e.before - 1)).depth + 1)
+      → e.depth < LONGEST_CHAIN → length entries + 1 < 2 ^ 32
+      → AreHeld octets (entries ++ e ∷ []) (slice_set lasts b (length entries + 1)) rest
+  held_added hash is mark b own inside before none some short few =
+      held_chained octets entries lasts rest still e span_added (rw pair_added (rw is at mark)) b rest
+      (λ _. rw pair_added (rw is at own)) (λ _. before ∙ still.last b inside)
+      (λ _. chain_counted octets entries lasts rest still b inside e.before before e.depth none some) short few
+      (λ p absent. absent) (λ p n f. inl f) inside
+
+  -- so does a pair that is found in order
+  pub held_beside : (hash : ℕ) → hash ≡ hash_of pair → e.mark ≡ mark_of hash → e.depth < LONGEST_CHAIN
+      → length entries + 1 < 2 ^ 32 → (new : Named (BTreeMap (Vec ℕ Global) ℕ))
+      → number_in new pair ≡ Some (length entries)
+      → ((p : Pair) → p ≢ pair → number_in new p ≡ number_in rest p)
+      → AreHeld octets (entries ++ e ∷ []) lasts new
+  held_beside hash is mark short few new found others =
+      held_apart octets entries lasts rest still e span_added (rw pair_added (rw is at mark)) (length lasts) new
+      (λ none. let f : number_in new pair ≡ None = subst (λ q. number_in new q ≡ None) pair_added none in cc)
+      (λ l. absurd (omega (arith, l))) (λ l. absurd (omega (arith, l))) short few
+      (λ p none. elim (pair_cases p pair) [
+        | inl same ↦ let f : number_in new pair ≡ None = ap (number_in new) (sym same) ∙ none in cc
+        | inr other ↦ sym (others p other) ∙ none
+      ])
+      (λ p n f. elim (pair_cases p pair) [
+        | inl same ↦
+            let twice : Some n ≡ Some (length entries) = sym f ∙ ap (number_in new) same ∙ found in
+            let one : n ≡ length entries = cc in
+            inr (one, pair_added ∙ sym same)
+        | inr other ↦ inl (sym (others p other) ∙ f)
+      ]) refl
+
+  -- whether the pair was added, or memory ran out before
+  module _ {X Y : Type 0} (more : List Entry) (new : Named (BTreeMap (Vec ℕ Global) ℕ)) where
+    pub held_either : (hash : ℕ) → hash ≡ hash_of pair → e.mark ≡ mark_of hash → e.depth < LONGEST_CHAIN
+        → length entries + 1 < 2 ^ 32 → (r : Result X Y)
+        → OnOk r (more ≡ entries ++ e ∷ []) → OnOk r (number_in new pair ≡ Some (length entries))
+        → OnOk r ((p : Pair) → p ≢ pair → number_in new p ≡ number_in rest p)
+        → OnErr r (more ≡ entries) → OnErr r ((p : Pair) → number_in new p ≡ number_in rest p)
+        → AreHeld octets more lasts new
+    held_either hash is mark short few (Ok x) added own others same kept =
+        rw added (held_beside hash is mark short few new own others)
+    held_either hash is mark short few (Err x) added own others same kept =
+        rw same (held_alike octets entries lasts rest new kept still)
+
+    pub pairs_either : (r : Result X Y) → OnOk r (more ≡ entries ++ e ∷ [])
+        → OnOk r (map (pair_in octets) more ≡ map (pair_in xs) entries ++ pair ∷ [])
+    pairs_either (Ok x) added = rw added pairs_added
+    pairs_either (Err x) added = record {}
+
+    pub kept_either : (r : Result X Y) → OnErr r (more ≡ entries)
+        → IfErr r (λ _. map (pair_in octets) more ≡ map (pair_in xs) entries)
+    kept_either (Ok x) same = record {}
+    kept_either (Err x) same =
+        let whole : octets ≡ xs ++ (first ++ second) = append_assoc xs first second in
+        rw (same, whole) (pairs_still xs (first ++ second) entries lasts rest held)

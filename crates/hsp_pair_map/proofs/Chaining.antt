@@ -1,7 +1,7 @@
 -- The last places of buckets.
 use Rattle.std.proofs.Common.{◌≡◌, ◌≢◌, ◌≤◌, ◌<◌, ℕ, zero, suc, inl, inr, refl, arith}
 use Rattle.std.proofs.lemmas.Bool.{cases_eq, eq-eqb, ne_eqb}
-use Rattle.hsp_pair_map.specs.Chains.{last_of}
+use Rattle.hsp_pair_map.specs.Chains.{count_of, last_of}
 
 -- the number is at most the number of places
 pub last_within : (h : ℕ → ℕ) (b n : ℕ) → last_of h b n ≤ n
@@ -46,3 +46,30 @@ unfolding last_of
 last_alike g h b zero same = refl
 last_alike g h b (suc n) same =
     rw (same n (omega arith), last_alike g h b n (λ k l. same k (omega (arith, l)))) refl
+
+pub count_alike : (g h : ℕ → ℕ) (b n : ℕ) → ((k : ℕ) → k < n → g k ≡ h k) → count_of g b n ≡ count_of h b n
+unfolding count_of
+count_alike g h b zero same = refl
+count_alike g h b (suc n) same =
+    rw (same n (omega arith), count_alike g h b n (λ k l. same k (omega (arith, l)))) refl
+
+-- a bucket without a last place has none
+pub count_none : (h : ℕ → ℕ) (b n : ℕ) → last_of h b n ≡ 0 → count_of h b n ≡ 0
+unfolding last_of count_of
+count_none h b zero e = refl
+count_none h b (suc n) e = elim (cases_eq (h n) b) [
+  | inl own ↦ absurd (omega (arith, (rw (eq-eqb (h n) b own) at e)))
+  | inr other ↦ rw (ne_eqb (h n) b other) (count_none h b n (rw (ne_eqb (h n) b other) at e))
+]
+
+-- a bucket has one place more than stand before its last one
+pub count_last : (h : ℕ → ℕ) (b n r : ℕ) → last_of h b n ≡ suc r → count_of h b n ≡ suc (count_of h b r)
+unfolding last_of count_of
+count_last h b zero r e = absurd (omega (arith, e))
+count_last h b (suc n) r e = elim (cases_eq (h n) b) [
+  | inl own ↦
+      let there : suc n ≡ suc r = rw (eq-eqb (h n) b own) at e in
+      let same : n ≡ r = omega (arith, there) in
+      rw (eq-eqb (h n) b own, same) refl
+  | inr other ↦ rw (ne_eqb (h n) b other) (count_last h b n r (rw (ne_eqb (h n) b other) at e))
+]

@@ -38,4 +38,4 @@ unfoldable pub bucket_of : ℕ → ℕ → ℕ
 bucket_of buckets hash = ((hash / 2 ^ 32) * buckets) / 2 ^ 32
 
 unfoldable pub mark_of : ℕ → ℕ
-mark_of hash = hash % 2 ^ 32
+mark_of hash = hash % 2 ^ 16

@@ -97,8 +97,8 @@ pub(crate) fn bucket_of(buckets: usize, hash: u64) -> usize
 /// What most other pairs of a bucket don't have.
 #[inline(always)]
 #[tactic(auto, unfolding(crate::specs::Hashing::mark_of))]
-pub(crate) fn mark_of(hash: u64) -> u32
+pub(crate) fn mark_of(hash: u64) -> u16
     ensures { result ≡ mark_of hash }
 {
-    (hash % 4_294_967_296) as u32
+    (hash % 65_536) as u16
 }

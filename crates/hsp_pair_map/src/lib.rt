@@ -2,6 +2,7 @@
 #![tactic(auto)]
 
 mod hashing;
+mod ordered;
 mod pair_map;
 
 pub use pair_map::PairMap;

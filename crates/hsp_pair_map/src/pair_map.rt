@@ -1,19 +1,27 @@
-// The map: the octets of all names in one run, an entry for each pair, and of each bucket the last entry.
+// The map: the octets of all names in one run, an entry for each pair, of each bucket the last entry, and pairs in order
+// whose bucket is full.
 
-ghost use Rattle.std.specs.Prelude.{◌≡◌, ◌≢◌, ◌<◌, ◌↔◌, ◌+◌, ◌^◌, ◌++◌, ◌∷◌, [], ℕ, Some, true};
-ghost use Rattle.std.specs.Prelude.{IfErr, IfNone, IfOk, IfSome, OnOk, length, slice_get};
+ghost use Rattle.std.specs.Prelude.{◌≡◌, ◌≢◌, ◌≤◌, ◌<◌, ◌↔◌, ◌+◌, ◌-◌, ◌^◌, ◌++◌, ◌∷◌, [], ℕ};
+ghost use Rattle.std.specs.Prelude.{IfErr, IfNone, IfOk, IfSome, OnErr, OnOk, Some, true, length, slice_get};
 ghost use Rattle.hsp_pair_map.specs.Hashing.{hash_of, mark_of};
-ghost use Rattle.hsp_pair_map.specs.Held.{IsSpan, pair_in};
+ghost use Rattle.hsp_pair_map.specs.Held.{IsSpan, entry_at, pair_in};
+ghost use Rattle.hsp_pair_map.specs.Ordered.{number_in};
+ghost use Rattle.hsp_pair_map.specs.Pairs.{Pair};
 
 use crate::hashing::{bucket_of, hash_of, mark_of};
+use crate::ordered::{OrderedPairs, find_ordered, insert_ordered};
 use std::alloc::{AllocError, Global};
 use std::marker::Model;
 
-// A pair that was added: where its octets lie, the mark of its hash, and the number behind the entry that was added
-// to its bucket before, or 0.
+/// The greatest number of entries of a bucket. Whoever knows the hash can make any number of names for one bucket.
+pub(crate) const LONGEST_CHAIN: u16 = 8;
+
+// A pair that was added: where its octets lie, the mark of its hash, how many entries were added to its bucket before,
+// and the number behind the last of them, or 0. An entry whose bucket was full has 0 for both.
 #[derive(Clone, Copy, Drop)]
 pub(crate) struct Entry {
-    mark: u32,
+    mark: u16,
+    depth: u16,
     before: u32,
     start: u32,
     cut: u32,
@@ -21,11 +29,15 @@ pub(crate) struct Entry {
 }
 
 /// A map from pairs of names to their numbers. The first pair that is added has the number 0.
+///
+/// A bucket has at most [`LONGEST_CHAIN`] pairs. Further pairs of its hash stand in the order of their octets. So no
+/// choice of names makes a search long.
 #[derive(Drop)]
 pub struct PairMap {
     octets: Vec<u8>,
     entries: Vec<Entry>,
     lasts: Vec<u32>,
+    rest: OrderedPairs,
 }
 
 impl Model for PairMap {
@@ -37,12 +49,13 @@ impl Model for PairMap {
 
     ghost view = { λ m. map (pair_in m.octets.items) m.entries.items };
 
-    ghost invariant = { λ m. AreHeld m.octets.items m.entries.items m.lasts.items };
+    ghost invariant = { λ m. AreHeld m.octets.items m.entries.items m.lasts.items
+        m.rest.entries };
 }
 
 // Whether the pair of an entry is these two names, whose hash has this mark.
 #[inline(always)]
-fn is_pair(octets: &[u8], entry: Entry, mark: u32, first: &[u8], second: &[u8]) -> bool
+fn is_pair(octets: &[u8], entry: Entry, mark: u16, first: &[u8], second: &[u8]) -> bool
     requires span { IsSpan octets.now entry }
     requires held { entry.mark ≡ mark_of (hash_of (pair_in octets.now entry)) }
     requires mark { mark ≡ mark_of (hash_of (record { first = first.now; second = second.now })) }
@@ -52,6 +65,45 @@ fn is_pair(octets: &[u8], entry: Entry, mark: u32, first: &[u8], second: &[u8]) 
     entry.mark == mark
         && &octets[entry.start as usize..entry.cut as usize] == first
         && &octets[entry.cut as usize..entry.end as usize] == second
+}
+
+// How many entries the chain has whose last entry stands before this number.
+fn chain_length(entries: &[Entry], last: u32) -> u16
+    requires last { last ≤ length entries.now }
+    requires short { 0 < last → (entry_at entries.now (last - 1)).depth < LONGEST_CHAIN }
+    ensures none { last ≡ 0 → result ≡ 0 }
+    ensures some { 0 < last → result ≡ (entry_at entries.now (last - 1)).depth + 1 }
+{
+    if last == 0 {
+        return 0;
+    }
+    entries[last as usize - 1].depth + 1
+}
+
+// Adds an entry that is in no chain, and the number by which its pair is found in order.
+fn push_apart(
+    alloc: Global,
+    entries: &mut Vec<Entry>,
+    rest: &mut OrderedPairs,
+    entry: Entry,
+    first: &[u8],
+    second: &[u8],
+) -> Result<(), AllocError>
+    requires { length entries.old.items + 1 < 2 ^ 32 }
+    ensures added { OnOk result (entries.new.items ≡ entries.old.items ++ entry ∷ []) }
+    ensures own { OnOk result (number_in rest.new.entries
+        (record { first = first.now; second = second.now }) ≡ Some (length entries.old.items)) }
+    ensures others { OnOk result ((p : Pair)
+        → p ≢ record { first = first.now; second = second.now }
+        → number_in rest.new.entries p ≡ number_in rest.old.entries p) }
+    ensures same { OnErr result (entries.new.items ≡ entries.old.items) }
+    ensures kept { OnErr result
+        ((p : Pair) → number_in rest.new.entries p ≡ number_in rest.old.entries p) }
+{
+    entries.reserve(1)?;
+    insert_ordered(alloc, rest, first, second, entries.len() as u32)?;
+    entries.push(entry)?;
+    Ok(())
 }
 
 impl PairMap {
@@ -65,6 +117,7 @@ impl PairMap {
             octets: Vec::new(alloc),
             entries: Vec::new(alloc),
             lasts,
+            rest: OrderedPairs::new(alloc),
         })
     }
 
@@ -85,7 +138,8 @@ impl PairMap {
     {
         let hash = hash_of(first, second);
         let mark = mark_of(hash);
-        let mut number = self.lasts[bucket_of(self.lasts.len(), hash)];
+        let bucket = bucket_of(self.lasts.len(), hash);
+        let mut number = self.lasts[bucket];
         'chain: while number > 0 {
             let entry = self.entries[number as usize - 1];
             if is_pair(&self.octets, entry, mark, first, second) {
@@ -93,7 +147,7 @@ impl PairMap {
             }
             number = entry.before;
         }
-        None
+        find_ordered(&self.rest, first, second)
     }
 
     /// Adds a pair, whose number is that of the pairs before it.
@@ -117,13 +171,29 @@ impl PairMap {
         };
         let hash = hash_of(first, second);
         let bucket = bucket_of(self.lasts.len(), hash);
-        let entry = Entry {
+        let last = self.lasts[bucket];
+        let length = chain_length(&self.entries, last);
+        let mut entry = Entry {
             mark: mark_of(hash),
-            before: self.lasts[bucket],
+            depth: 0,
+            before: 0,
             start: start as u32,
             cut: cut as u32,
             end,
         };
+        if length >= LONGEST_CHAIN {
+            let alloc = *self.octets.allocator();
+            return push_apart(
+                alloc,
+                &mut self.entries,
+                &mut self.rest,
+                entry,
+                first,
+                second,
+            );
+        }
+        entry.depth = length;
+        entry.before = last;
         self.entries.push(entry)?;
         self.lasts[bucket] = self.entries.len() as u32;
         Ok(())

@@ -122,8 +122,9 @@ impl<'a> Peer for RepeatingPeer<'a> {
 pub enum First {
     /// It goes well too.
     Well,
-    /// A read that a signal interrupts, and one that fails.
+    /// A read that a signal interrupts, seven such reads one after the other, and a read that fails.
     ReadInterrupted,
+    ReadsInterrupted,
     ReadFails,
     /// A write that a signal interrupts, one that fails, and one that takes no octets.
     WriteInterrupted,
@@ -148,6 +149,12 @@ impl<'a> Read for FakeReader<'a> {
         self.first = First::Well;
         match first {
             First::ReadInterrupted => return Err(io::Error::from(ErrorKind::Interrupted)),
+            First::ReadsInterrupted => {
+                if self.reads < 7 {
+                    self.first = first;
+                }
+                return Err(io::Error::from(ErrorKind::Interrupted));
+            }
             First::ReadFails => return Err(io::Error::from(ErrorKind::Other)),
             _ => {}
         }

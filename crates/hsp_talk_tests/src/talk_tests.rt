@@ -67,9 +67,10 @@ fn reads_and_writes_fail(rt: HostRuntime) {
 #[test]
 fn a_reader_and_a_writer_are_a_peer(rt: HostRuntime) {
     const WHOLE: &[u8] = b">1 a>\n|>2 b>\n|.ended<2";
-    const CASES: [(First, &[u8]); 7] = [
+    const CASES: [(First, &[u8]); 8] = [
         (First::Well, WHOLE),
         (First::ReadInterrupted, b">1 a>\n|>2 b>\n|.ended<3"),
+        (First::ReadsInterrupted, b">1 a>\n|>2 b>\n|.ended<9"),
         (First::WriteInterrupted, WHOLE),
         (First::ReadFails, b".read<1"),
         (First::WriteFails, b".write<1"),
