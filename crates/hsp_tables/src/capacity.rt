@@ -14,8 +14,8 @@ use crate::fault::TableFault;
 use crate::fields::{name_in, number_in};
 use crate::keyed::{LentServer, ServerKey};
 use crate::table::{Kind, Three, read_table};
+use crate::text_hash::KeyedRows;
 use hsp_text::limits::{GREATEST_CAPACITY, MOST_CAPACITY_ROWS};
-use indexmap::IndexMap;
 use std::alloc::Global;
 use std::marker::Model;
 
@@ -25,7 +25,7 @@ use std::marker::Model;
 /// There are at most 1,024 rows.
 #[derive(Drop)]
 pub struct Capacities {
-    rows: IndexMap<ServerKey, u64>,
+    rows: KeyedRows<ServerKey>,
 }
 
 impl Model for Capacities {

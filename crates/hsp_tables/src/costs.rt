@@ -14,8 +14,8 @@ use crate::fault::TableFault;
 use crate::fields::{name_in, number_in};
 use crate::keyed::{LentPair, PairKey};
 use crate::table::{Kind, Three, read_table};
+use crate::text_hash::KeyedRows;
 use hsp_text::limits::{GREATEST_COST, MOST_COST_ROWS};
-use indexmap::IndexMap;
 use std::alloc::Global;
 use std::marker::Model;
 
@@ -24,7 +24,7 @@ use std::marker::Model;
 /// There are at most 2,048 rows and 64 regions.
 #[derive(Drop)]
 pub struct Costs {
-    rows: IndexMap<PairKey, u64>,
+    rows: KeyedRows<PairKey>,
 }
 
 impl Model for Costs {

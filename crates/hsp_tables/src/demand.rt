@@ -14,10 +14,10 @@ use crate::fault::TableFault;
 use crate::fields::{handle_in, name_in, number_in};
 use crate::keyed::PairKey;
 use crate::table::{Kind, Three, read_table};
+use crate::text_hash::KeyedRows;
 use hsp_names::HandleRef;
 use hsp_pair_map::PairMap;
 use hsp_text::limits::{GREATEST_COUNT, MOST_DEMAND_ROWS};
-use indexmap::IndexMap;
 use std::alloc::{AllocError, Global};
 use std::marker::Model;
 use std::rc::Rc;
@@ -27,7 +27,7 @@ use std::rc::Rc;
 /// There are at most 8,192 rows and 64 regions. A clone shares them, and copies none.
 #[derive(Drop)]
 pub struct Demand {
-    rows: Rc<IndexMap<PairKey, u64>>,
+    rows: Rc<KeyedRows<PairKey>>,
     numbers: Rc<PairMap>,
 }
 
@@ -152,7 +152,7 @@ impl Kind for Demand {
 }
 
 // The numbers of rows by their names. There are four buckets for each row.
-fn numbers_of(alloc: Global, rows: &IndexMap<PairKey, u64>) -> Result<PairMap, AllocError>
+fn numbers_of(alloc: Global, rows: &KeyedRows<PairKey>) -> Result<PairMap, AllocError>
     requires { length rows.now.entries ≤ MOST_DEMAND_ROWS }
     ensures { IfOk result (λ numbers. numbers ≡ map pair_of rows.now.entries) }
 {

@@ -11,15 +11,15 @@ ghost use Rattle.hsp_tables.specs.Table.{row_at};
 use crate::fault::TableFault;
 use crate::keyed::Regions;
 use crate::table::{Kind, Three, add_record};
+use crate::text_hash::{KeyedRows, TextHash};
 use csv::ByteRecord;
 use hsp_csv::{Checked, Found, PlacedRecord, three_fields};
-use indexmap::IndexMap;
 use std::alloc::{AllocError, Global};
 
 // The rows without fault of a table whose records are looked at, and the number of the next record's row.
 #[derive(Drop)]
 pub(crate) struct Kept<K: Kind> {
-    rows: IndexMap<K::Key, u64>,
+    rows: KeyedRows<K::Key>,
     regions: Regions,
     row: u32,
 }
@@ -102,7 +102,7 @@ impl<K: Kind> Kept<K> {
         ensures whole { IsKept K.table [] result.regions }
     {
         Kept {
-            rows: IndexMap::new(alloc),
+            rows: KeyedRows::with_hasher(alloc, TextHash::of(b"")),
             regions: Regions::new(alloc),
             row: 0,
         }

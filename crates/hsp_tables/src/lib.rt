@@ -17,6 +17,7 @@ mod settings;
 mod sites;
 mod table;
 mod table_check;
+mod text_hash;
 
 pub use capacity::{Capacities, CapacityRow, read_capacity};
 pub use costs::{CostRow, Costs, read_costs};

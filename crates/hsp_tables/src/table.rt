@@ -15,10 +15,10 @@ ghost use Rattle.hsp_tables.specs.Table.{Table, regions_of, row_after, row_at, s
 
 use crate::fault::TableFault;
 use crate::keyed::Regions;
+use crate::text_hash::{KeyedRows, TextHash};
 use csv::{ByteRecord, Reader};
 use hsp_csv::{read_records, take_header, take_record, three_fields};
 use hsp_text::limits::MOST_REGIONS;
-use indexmap::IndexMap;
 use std::alloc::Global;
 use std::hash::Hash;
 
@@ -94,7 +94,7 @@ fn is_one_too_many<K: Kind>(regions: &Regions, key: &K::Key) -> bool
 // has a fault, they stay as they are.
 pub(crate) fn add_record<K: Kind>(
     alloc: Global,
-    rows: &mut IndexMap<K::Key, u64>,
+    rows: &mut KeyedRows<K::Key>,
     regions: &mut Regions,
     row: u32,
     fields: &ByteRecord,
@@ -133,7 +133,7 @@ pub(crate) fn add_record<K: Kind>(
 // Adds the row of a further record of a table without faults, by the number of rows before it.
 fn add_next<K: Kind>(
     alloc: Global,
-    rows: &mut IndexMap<K::Key, u64>,
+    rows: &mut KeyedRows<K::Key>,
     regions: &mut Regions,
     fields: &ByteRecord,
 ) -> Result<(), TableFault>
@@ -158,13 +158,14 @@ fn rows_left<K: Kind>(
     alloc: Global,
     records: &mut Reader<&[u8]>,
     fields: &mut ByteRecord,
-) -> Result<IndexMap<K::Key, u64>, TableFault>
+    hash: TextHash,
+) -> Result<KeyedRows<K::Key>, TableFault>
     requires reading { IsReading records.old }
     requires known { IsKnown lent records.old }
     ensures { GivesUnless OutOfMemory (λ rows. map K.entry rows.entries) result (
         rows_after (row_after K.table) [] (records_left lent records.old)) }
 {
-    let mut rows = IndexMap::new(alloc);
+    let mut rows = KeyedRows::with_hasher(alloc, hash);
     let mut regions = Regions::new(alloc);
     'rows: while take_record(records, fields)? {
         add_next::<K>(alloc, &mut rows, &mut regions, fields)?;
@@ -177,7 +178,7 @@ pub(crate) fn read_table<K: Kind>(
     alloc: Global,
     text: &[u8],
     header: &[&[u8]],
-) -> Result<IndexMap<K::Key, u64>, TableFault>
+) -> Result<KeyedRows<K::Key>, TableFault>
     requires { names_in header.now ≡ K.table.header }
     ensures { GivesUnless OutOfMemory (λ rows. map K.entry rows.entries) result (
         table_of K.table (records_of text.now)) }
@@ -187,5 +188,5 @@ pub(crate) fn read_table<K: Kind>(
     if !take_header(&mut records, &mut fields, header)? {
         return Err(TableFault::Header);
     }
-    rows_left::<K>(alloc, &mut records, &mut fields)
+    rows_left::<K>(alloc, &mut records, &mut fields, TextHash::of(text))
 }

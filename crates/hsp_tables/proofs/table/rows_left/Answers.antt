@@ -6,8 +6,8 @@ pub rows-init : goal.rows-init
 rows-init g c = record {
   reading = c.requires.reading;
   known = c.requires.known;
-  regions = rw (c.new-rows.ensures.empty, c.new-regions.ensures) (sym (regions_of-none g.K.Kind.table));
+  regions = rw (c.with_hasher-rows.ensures.empty, c.new-regions.ensures) (sym (regions_of-none g.K.Kind.table));
   few = rw c.new-regions.ensures (omega arith);
-  numbered = rw c.new-rows.ensures.empty (omega arith);
-  so_far = rw c.new-rows.ensures.empty refl;
+  numbered = rw c.with_hasher-rows.ensures.empty (omega arith);
+  so_far = rw c.with_hasher-rows.ensures.empty refl;
 }
