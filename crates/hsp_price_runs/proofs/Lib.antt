@@ -3,4 +3,5 @@ mod PassedOver
 mod LogReading
 pub mod Judged
 mod RowsSpelled
+pub mod Known
 pub mod Shown

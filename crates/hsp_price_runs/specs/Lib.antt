@@ -5,4 +5,5 @@ pub mod PriceRun
 pub mod Asking
 pub mod PriceReport
 pub mod PricesShown
+pub mod PriceAlways
 pub mod PriceVerdictText
