@@ -5,9 +5,10 @@ use Rattle.std.proofs.Common.{append_assoc, map, refl, sym, ap, arith, Result, O
 use Rattle.std.specs.Prelude.{⊤}
 use Rattle.std.proofs.lemmas.List.{append-nil}
 use Rattle.std.specs.Io.KnownBytes.{Appends}
-use Rattle.hsp_text.specs.Writing.{IsCut}
-use Rattle.std.proofs.Common.{IfOk, OnOk, ◌≤◌, ◌<◌}
+use Rattle.std.proofs.Common.{IfErr, IfOk, IsErrAnd, OnOk, subst}
 use Rattle.hsp_csv.specs.Places.{Placed, TakesPlaced}
+use Rattle.hsp_csv.specs.declared.fault.RecordsFault.{RecordsFault}
+use Rattle.hsp_csv.specs.declared.fault.RecordsFault.TheVariants.{OutOfMemory, ReadFailed}
 use Rattle.hsp_csv.specs.declared.found.Checked.TheVariants.{Faulty, Good, Last}
 use Rattle.hsp_csv.specs.declared.found.Found.{Found}
 use Rattle.hsp_tables.specs.Faulty.{faulty_rows}
@@ -18,7 +19,8 @@ use Rattle.hsp_stream.specs.declared.fault.StreamFault.{StreamFault}
 use Rattle.hsp_faulty.specs.Checkers.{Lists, LooksAt}
 use Rattle.hsp_faulty.specs.Faulty.{named}
 use Rattle.hsp_faulty.specs.Lines.{line_of, lines_of}
-use Rattle.hsp_faulty.specs.Runs.{AreAll, AreFirst, Faults, IsBegun, RowsAreBegun, RowsAreListed, has_some}
+use Rattle.hsp_faulty.specs.Runs.{AreAll, AreFirst, Faults, IsBegun, MayStop, RowsAreBegun, RowsAreListed, has_some}
+use Rattle.hsp_faulty.specs.Runs.{stop_of}
 use Rattle.hsp_faulty.specs.declared.checker.Checker.{Checker}
 use Rattle.hsp_faulty.specs.declared.checker.Checker.TheVariants as checker
 
@@ -93,7 +95,7 @@ none_listed (checker.Table kind rows) = none_of rows.held
     none_of (held.Costs kept) = refl
     none_of (held.Capacity kept) = refl
 none_listed (checker.Dispatched form row) = refl
-none_listed (checker.Counted row) = refl
+none_listed (checker.Counted row regions) = refl
 none_listed (checker.Handles row) = refl
 
 -- some first records were taken, and others are left
@@ -274,12 +276,27 @@ pub both_whole : {A E : Type 0} (P Q : A → Type 0) (W : Type 0) (answer : Resu
 both_whole P Q W (Ok x) so one other = so x one other
 both_whole P Q W (Err e) so one other = tt
 
--- a cut of a text is a beginning of it and of what follows
-pub begun_by_cut : (old new : Option (List ℕ)) (a b : List ℕ) → IsCut old new a → IsBegun old new (a ++ b)
-begun_by_cut old new a b (count, within, wrote) = (count, rw (take_first a b count (omega arith)) wrote)
+-- a beginning of a text is one of it and of what follows
+pub begun_of_more : (old new : Option (List ℕ)) (a b : List ℕ) → IsBegun old new a → IsBegun old new (a ++ b)
+begun_of_more old new a b (count, wrote) = let first = take_first a b count in (first.0, rw first.1 wrote)
   where
-    take_first : (a b : List ℕ) (count : ℕ) → count ≤ length a → take count (a ++ b) ≡ take count a
-    take_first [] b zero within = refl
-    take_first [] b (suc count) within = absurd (omega arith)
-    take_first (x ∷ a) b zero within = refl
-    take_first (x ∷ a) b (suc count) within = ap (λ (t : List ℕ). x ∷ t) (take_first a b count (omega arith))
+    take_first : (a b : List ℕ) (count : ℕ) → (least : ℕ) × (take least (a ++ b) ≡ take count a)
+    take_first [] b count = (0, take_none count)
+      where
+        take_none : (count : ℕ) → take 0 b ≡ take count []
+        take_none zero = refl
+        take_none (suc count) = refl
+    take_first (x ∷ a) b zero = (0, refl)
+    take_first (x ∷ a) b (suc count) =
+        let rest = take_first a b count in (suc rest.0, ap (λ (t : List ℕ). x ∷ t) rest.1)
+
+-- a stop of which this holds
+pub stops_by : {A E : Type 0} (P : E → Type 0) (answer : Result A E) (stop : E) → IsErrAnd answer (λ e. e ≡ stop)
+    → P stop → IfErr answer P
+stops_by P (Ok x) stop is holds = tt
+stops_by P (Err e) stop is holds = subst P (sym is) holds
+
+-- what is said of a read that stops
+pub reading_stops : (MayWriteFail : Type 0) (fault : RecordsFault) → MayStop ⊤ MayWriteFail (stop_of fault)
+reading_stops MayWriteFail ReadFailed = tt
+reading_stops MayWriteFail OutOfMemory = tt

@@ -1,7 +1,9 @@
 -- A record is looked at.
-use Rattle.std.proofs.Common.{◌≡◌, ◌⊎◌, inl, inr, ℕ, List, [], ◌∷◌, map, refl, ap}
+use Rattle.std.proofs.Common.{◌≡◌, ℕ, List, [], ◌∷◌, Option, None, Some, map, refl}
+use Rattle.csv.specs.Records.{field_at}
 use Rattle.hsp_csv.specs.Found.{listed}
 use Rattle.hsp_csv.specs.Places.{Placed}
+use Rattle.hsp_csv.specs.Records.{Fields}
 use Rattle.hsp_csv.specs.declared.found.Checked.{Checked}
 use Rattle.hsp_csv.specs.declared.found.Checked.TheVariants.{Faulty, Good, Last}
 use Rattle.hsp_csv.specs.declared.found.Found.{Found}
@@ -10,9 +12,11 @@ use Rattle.hsp_tables.specs.TableChecks.{faulty_from}
 use Rattle.hsp_tables.specs.declared.fault.TableFault.{TableFault}
 use Rattle.hsp_tables.specs.declared.table_check.TableCheck.{TableCheck}
 use Rattle.hsp_tables.specs.declared.table_check.TableKind.{TableKind}
+use Rattle.hsp_stream.specs.RowChecks.{count_fault}
 use Rattle.hsp_stream.specs.declared.fault.StreamFault.{StreamFault}
 use Rattle.hsp_faulty.specs.Checkers.{LooksAt, checked_named}
 use Rattle.hsp_faulty.specs.Faulty.{Continues, IsDispatched, counted, handled, named, next_of_32, next_of_64}
+use Rattle.hsp_faulty.specs.Faulty.{region_in, regions_behind}
 use Rattle.hsp_faulty.specs.declared.checker.Checker.TheVariants as checker
 
 -- what goes on with known faults is a list of them
@@ -44,13 +48,27 @@ pub dispatched_looks : (form : LogForm) (row next : ℕ) (one : Placed) (checked
 dispatched_looks form row next one checked is after more all goes = (checked, is, rw after at goes)
 
 -- so does a look at a row that counts
-pub counted_looks : (row next : ℕ) (one : Placed) (checked : Checked StreamFault) → checked ≡ counted row one
-    → next ≡ next_of_64 row → LooksAt (checker.Counted row) one (checker.Counted next) checked
-counted_looks row next one checked is after more all goes =
-    rw (← is, ← after) (continues_listed checked _ all goes)
+pub counted_looks : (regions behind : List (List ℕ)) (row next : ℕ) (one : Placed) (checked : Checked StreamFault)
+    → checked ≡ counted regions row one
+    → behind ≡ regions_behind regions one.fields (count_fault row one.fields)
+    → next ≡ next_of_64 row → LooksAt (checker.Counted row regions) one (checker.Counted next behind) checked
+counted_looks regions behind row next one checked is named after more all goes =
+    rw (← is, ← named, ← after) (continues_listed checked _ all goes)
 
 -- so does a look at a row of handles
 pub handled_looks : (row next : ℕ) (one : Placed) (checked : Checked StreamFault) → checked ≡ handled row one
     → next ≡ next_of_64 row → LooksAt (checker.Handles row) one (checker.Handles next) checked
 handled_looks row next one checked is after more all goes =
     rw (← is, ← after) (continues_listed checked _ all goes)
+
+-- the first field of a row is its region
+pub first_field : (fields : Fields) (region : List ℕ) → Some region ≡ field_at fields 0 → region ≡ region_in fields
+unfolding field_at
+first_field [] region e = cc (e)
+first_field (field ∷ fields) region e = cc (e)
+
+-- a row without fields names none
+pub no_field : (fields : Fields) → ◌≡◌ {A = Option (List ℕ)} None (field_at fields 0) → [] ≡ region_in fields
+unfolding field_at
+no_field [] e = refl
+no_field (field ∷ fields) e = cc (e)

@@ -1,19 +1,18 @@
 -- The faults of a text: those below its header, or that it has none.
-use Rattle.std.proofs.Common.{◌≡◌, ◌∙◌, inl, inr, ℕ, Bool, true, false, List, [], ◌∷◌, ◌++◌, Option, Some, None, refl}
-use Rattle.std.proofs.Common.{ap, sym}
+use Rattle.std.proofs.Common.{◌≡◌, ◌∙◌, inl, inr, ℕ, Bool, true, false, List, [], ◌∷◌, Option, Some, None, refl}
+use Rattle.std.proofs.Common.{ap}
 use Rattle.std.proofs.lemmas.List.{append-nil}
 use Rattle.std.specs.Io.KnownBytes.{Appends}
 use Rattle.std.proofs.Common.{IfSome, option_map}
 use Rattle.hsp_csv.specs.Places.{Placed, TakesPlaced, placed_of}
-use Rattle.hsp_text.specs.Writing.{IsCut}
-use Rattle.hsp_faulty.specs.Faulty.{AreFaultsOf, IsHeadedBy, IsUnheaded, ListsBelow, found_header}
-use Rattle.hsp_faulty.specs.Lines.{header_line, line_of, lines_of, text_of}
+use Rattle.hsp_faulty.specs.Faulty.{IsHeadedBy, IsUnheaded, found_header}
+use Rattle.hsp_faulty.specs.Lines.{header_line, line_of, lines_of}
 use Rattle.hsp_faulty.specs.Runs.{AreAll, AreBegun, AreFirst, AreListed, BelowIsBegun, BelowIsListed, Faults, IsBegun}
 use Rattle.hsp_faulty.specs.Runs.{IsListBegun}
 use Rattle.hsp_faulty.specs.Runs.{IsListed, LinesAreBegun, LinesAreListed}
 use Rattle.hsp_faulty.specs.declared.checker.Asked.{Asked}
 use Rattle.hsp_faulty.specs.declared.checker.Headed.{Headed}
-use Rattle.hsp_faulty.proofs.Listing.{appends_both, appends_none, begun_behind, begun_by_cut}
+use Rattle.hsp_faulty.proofs.Listing.{appends_both, appends_none, begun_behind, begun_of_more}
 
 -- lists that hold of less hold of more
 pub listed_as : (Are Are2 : List Placed → Faults → Type 0)
@@ -151,8 +150,8 @@ whole_begun asked text left old middle new begins head (records, first, all, are
   begun_behind old middle new header_line (lines_of all) head wrote,
 )
 
--- the first line was cut
-pub head_cut : (asked : Asked) (left : Option (List Placed)) (old new : Option (List ℕ)) → IsCut old new header_line
+-- a beginning of the first line was written
+pub head_begun : (asked : Asked) (left : Option (List Placed)) (old new : Option (List ℕ)) → IsBegun old new header_line
     → IsListBegun asked left old new
-head_cut asked left old new cut =
-    ([], none_first left, found_header asked ∷ [], refl, begun_by_cut old new header_line _ cut)
+head_begun asked left old new begun =
+    ([], none_first left, found_header asked ∷ [], refl, begun_of_more old new header_line _ begun)

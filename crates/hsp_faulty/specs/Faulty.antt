@@ -1,6 +1,6 @@
 -- Every faulty row of a table or a log.
 use Rattle.std.specs.Prelude.{◌≡◌, ◌≢◌, ◌+◌, ◌-◌, ◌^◌, ◌⊎◌, ◌<◌, ◌≤◌, true, false, ℕ, List, [], ◌∷◌, map, min, Option}
-use Rattle.std.specs.Prelude.{Some, None}
+use Rattle.std.specs.Prelude.{Some, None, if◌then◌else◌}
 use Rattle.hsp_csv.specs.Found.{listed, place_at}
 use Rattle.hsp_csv.specs.Header.{same_fields}
 use Rattle.hsp_csv.specs.Places.{Placed, first_line}
@@ -21,9 +21,10 @@ use Rattle.hsp_tables.specs.declared.table_check.TableKind.{TableKind}
 use Rattle.hsp_tables.specs.declared.table_check.TableKind.TheVariants as kind
 use Rattle.hsp_stream.specs.RowChecks.{count_fault, handle_fault, is_count_header, is_handle_header}
 use Rattle.hsp_stream.specs.declared.fault.RowFault.{RowFault}
-use Rattle.hsp_stream.specs.declared.fault.RowFault.TheVariants.{BadHandle, BadName, BadNumber}
+use Rattle.hsp_stream.specs.declared.fault.RowFault.TheVariants.{BadHandle, BadName, BadNumber, TooManyRegions}
 use Rattle.hsp_stream.specs.declared.fault.StreamFault.{StreamFault}
 use Rattle.hsp_stream.specs.declared.fault.StreamFault.TheVariants.{Input, Log}
+use Rattle.hsp_faulty.specs.Regions.{has_room, with_region}
 use Rattle.hsp_faulty.specs.declared.checker.Asked.{Asked}
 use Rattle.hsp_faulty.specs.declared.checker.Asked.TheVariants as asked
 use Rattle.hsp_faulty.specs.declared.checker.Headed.{Headed}
@@ -84,6 +85,7 @@ IsDispatched form row one checked =
 -- the number of the field at fault of a row with a region, a handle and a count, and of one with a handle
 abbrev pub counted_field : RowFault → Option ℕ
 counted_field (BadName row) = Some 0
+counted_field (TooManyRegions row) = Some 0
 counted_field (BadHandle row why) = Some 1
 counted_field (BadNumber row) = Some 2
 counted_field other = None
@@ -117,8 +119,33 @@ abbrev pub faults_by : (ℕ → Placed → Checked StreamFault) → ℕ → List
 faults_by check row [] = []
 faults_by check row (one ∷ more) = listed (check row one) (faults_by check (next_of_64 row) more)
 
-abbrev pub counted : ℕ → Placed → Checked StreamFault
-counted row one = checked_by counted_field one row (count_fault row one.fields)
+-- the region that a row names
+abbrev pub region_in : Fields → List ℕ
+region_in [] = []
+region_in (region ∷ more) = region
+
+-- the fault of a row by itself, or that its region is one too many behind those of other rows
+abbrev pub fault_behind : List (List ℕ) → ℕ → Fields → Option RowFault → Option RowFault
+fault_behind regions row fields None =
+    if has_room regions (region_in fields) then None else Some (TooManyRegions row)
+fault_behind regions row fields (Some why) = Some why
+
+-- the regions behind a row: one with a fault is left out
+abbrev pub regions_behind : List (List ℕ) → Fields → Option RowFault → List (List ℕ)
+regions_behind regions fields None = with_region regions (region_in fields)
+regions_behind regions fields (Some why) = regions
+
+-- what a row of a region, a handle and a count is
+abbrev pub counted : List (List ℕ) → ℕ → Placed → Checked StreamFault
+counted regions row one =
+    checked_by counted_field one row (fault_behind regions row one.fields (count_fault row one.fields))
+
+-- the faults of such rows behind rows that name these regions
+abbrev pub counted_from : List (List ℕ) → ℕ → List Placed → List (Found StreamFault)
+counted_from regions row [] = []
+counted_from regions row (one ∷ more) =
+    listed (counted regions row one)
+    (counted_from (regions_behind regions one.fields (count_fault row one.fields)) (next_of_64 row) more)
 
 abbrev pub handled : ℕ → Placed → Checked StreamFault
 handled row one = checked_by handle_field one row (handle_fault row one.fields)
@@ -142,7 +169,7 @@ IsUnheaded asked.Log first =
 abbrev pub ListsBelow : Headed → List Placed → List (Found StreamFault) → Type 0
 ListsBelow (headed.Table table) body all = all ≡ map (named table) (faulty_at_start table body)
 ListsBelow (headed.Dispatched form) body all = ListsDispatched form 0 body all
-ListsBelow headed.Counted body all = all ≡ faults_by counted 0 body
+ListsBelow headed.Counted body all = all ≡ counted_from [] 0 body
 ListsBelow headed.Handles body all = all ≡ faults_by handled 0 body
 
 -- the faults of a text: those below its header, or only that it has none

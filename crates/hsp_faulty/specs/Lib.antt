@@ -1,3 +1,4 @@
+pub mod Regions
 pub mod Faulty
 pub mod Checkers
 pub mod Lines

@@ -19,6 +19,12 @@ abbrev pub stop_of : RecordsFault → FaultsStop
 stop_of records.ReadFailed = stop.ReadFailed
 stop_of records.OutOfMemory = stop.OutOfMemory
 
+-- a failed read and a failed write are reported only where one may fail
+abbrev pub MayStop : Type 0 → Type 0 → FaultsStop → Type 0
+MayStop MayReadFail MayWriteFail stop.ReadFailed = MayReadFail
+MayStop MayReadFail MayWriteFail stop.WriteFailed = MayWriteFail
+MayStop MayReadFail MayWriteFail stop.OutOfMemory = ⊤
+
 abbrev pub Faults : Type 0
 Faults = List (Found StreamFault)
 

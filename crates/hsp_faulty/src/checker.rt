@@ -12,9 +12,11 @@ ghost use Rattle.hsp_stream.specs.declared.fault.StreamFault.{StreamFault};
 ghost use Rattle.hsp_stream.specs.declared.fault.StreamFault.TheVariants.{Input};
 ghost use Rattle.hsp_faulty.specs.Checkers.{IsReady, Lists, LooksAt, checked_named};
 ghost use Rattle.hsp_faulty.specs.Faulty.{IsDispatched, IsHeadedBy, IsUnheaded, ListsBelow, counted, counted_field};
-ghost use Rattle.hsp_faulty.specs.Faulty.{fault_of_table, found_at, found_beyond, handle_field, handled};
-ghost use Rattle.hsp_faulty.specs.Faulty.{header_fault, named};
+ghost use Rattle.hsp_faulty.specs.Faulty.{fault_behind, fault_of_table, found_at, found_beyond, handle_field, handled};
+ghost use Rattle.hsp_faulty.specs.Faulty.{header_fault, named, region_in, regions_behind};
+ghost use Rattle.hsp_stream.specs.RowChecks.{count_fault};
 
+use crate::regions::Regions;
 use csv::ByteRecord;
 use hsp_csv::{Checked, Found, PlacedRecord};
 use hsp_dispatch::{LogFault, LogForm, check_row, field_at_fault, log_form_of};
@@ -99,12 +101,13 @@ pub(crate) fn headed_by(asked: Asked, first: &ByteRecord) -> Option<Headed>
     }
 }
 
-// A table with its rows without fault, or a form of a log with the number of its next row.
+// A table with its rows without fault, or a form of a log with the number of its next row and, where it counts, the
+// regions that its rows without fault name.
 #[derive(Drop)]
 pub(crate) enum Checker {
     Table(TableKind, TableCheck),
     Dispatched(LogForm, u32),
-    Counted(u64),
+    Counted(u64, Regions),
     Handles(u64),
 }
 
@@ -196,6 +199,7 @@ fn counted_field(fault: &RowFault) -> Option<u32>
 {
     match fault {
         RowFault::BadName { .. } => Some(0),
+        RowFault::TooManyRegions { .. } => Some(0),
         RowFault::BadHandle { .. } => Some(1),
         RowFault::BadNumber { .. } => Some(2),
         _ => None,
@@ -212,15 +216,55 @@ fn handle_field(fault: &RowFault) -> Option<u32>
     }
 }
 
-// Looks at a row of a region, a handle and a count.
-fn check_counted(row: u64, placed: &PlacedRecord) -> Checked<StreamFault>
-    ensures { result ≡ counted row (shown placed.now) }
+// The region that a row names.
+#[tactic(auto, using(crate::proofs::Looking::first_field, crate::proofs::Looking::no_field))]
+fn region_in(fields: &ByteRecord) -> &[u8]
+    ensures { result.now ≡ region_in (fields_of fields.now) }
 {
-    match count_fault(row, placed.fields()) {
-        None => Checked::Good,
+    match fields.get(0) {
+        Some(region) => region,
+        None => b"",
+    }
+}
+
+// The fault of a row of a region, a handle and a count, behind rows that name these regions.
+fn fault_behind(
+    alloc: Global,
+    row: u64,
+    regions: &mut Regions,
+    fields: &ByteRecord,
+) -> Result<Option<RowFault>, AllocError>
+    ensures fault { IfOk result (λ fault. fault ≡ fault_behind regions.old row
+        (fields_of fields.now) (count_fault row (fields_of fields.now))) }
+    ensures regions { OnOk result (regions.new ≡ regions_behind regions.old
+        (fields_of fields.now) (count_fault row (fields_of fields.now))) }
+{
+    if let Some(fault) = count_fault(row, fields) {
+        return Ok(Some(fault));
+    }
+    if regions.see(alloc, region_in(fields))? {
+        return Ok(None);
+    }
+    Ok(Some(RowFault::TooManyRegions { row }))
+}
+
+// Looks at a row of a region, a handle and a count.
+fn check_counted(
+    alloc: Global,
+    row: u64,
+    regions: &mut Regions,
+    placed: &PlacedRecord,
+) -> Result<Checked<StreamFault>, AllocError>
+    ensures checked { IfOk result
+        (λ checked. checked ≡ counted regions.old row (shown placed.now)) }
+    ensures regions { OnOk result (regions.new ≡ regions_behind regions.old
+        (shown placed.now).fields (count_fault row (shown placed.now).fields)) }
+{
+    match fault_behind(alloc, row, regions, placed.fields())? {
+        None => Ok(Checked::Good),
         Some(fault) => {
             let field = counted_field(&fault);
-            faulty(placed, row, field, StreamFault::Log(fault))
+            Ok(faulty(placed, row, field, StreamFault::Log(fault)))
         }
     }
 }
@@ -248,7 +292,7 @@ impl Checker {
         match headed {
             Headed::Table(kind) => Checker::Table(kind, TableCheck::new(alloc, kind)),
             Headed::Dispatched(form) => Checker::Dispatched(form, 0),
-            Headed::Counted => Checker::Counted(0),
+            Headed::Counted => Checker::Counted(0, Regions::new(alloc)),
             Headed::Handles => Checker::Handles(0),
         }
     }
@@ -275,10 +319,11 @@ impl Checker {
                 let checked = check_dispatched(alloc, *form, number, placed)?;
                 Ok(checked)
             }
-            Checker::Counted(row) => {
+            Checker::Counted(row, regions) => {
                 let number = *row;
                 *row = number.saturating_add(1);
-                Ok(check_counted(number, placed))
+                let checked = check_counted(alloc, number, regions, placed)?;
+                Ok(checked)
             }
             Checker::Handles(row) => {
                 let number = *row;

@@ -4,6 +4,7 @@
 
 mod checker;
 mod lines;
+mod regions;
 mod run;
 
 pub use checker::Asked;

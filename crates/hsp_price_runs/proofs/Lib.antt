@@ -3,5 +3,6 @@ mod PassedOver
 mod LogReading
 pub mod Judged
 mod RowsSpelled
+pub mod Known
 pub mod Shown
 mod OneTheory

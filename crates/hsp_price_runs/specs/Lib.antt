@@ -5,5 +5,6 @@ pub mod PriceRun
 pub mod Asking
 pub mod PriceReport
 pub mod PricesShown
+pub mod PriceAlways
 pub mod PriceVerdictText
 pub mod OneTheory

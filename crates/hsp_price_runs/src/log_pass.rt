@@ -4,7 +4,8 @@ ghost use Rattle.std.specs.Prelude.{◌≡◌, ◌⊎◌, Err, IfErr, List, OnOk
 ghost use Rattle.csv.specs.Records.{fields_of};
 ghost use Rattle.hsp_csv.specs.Records.{IsReading};
 ghost use Rattle.hsp_instance.specs.Instance.{Row};
-ghost use Rattle.hsp_stream.specs.KindsLog.{IsReadFault, OfLeft, OfLog};
+ghost use Rattle.hsp_stream.specs.KindsLog.{OfLeft, OfLog};
+ghost use Rattle.hsp_stream.specs.Watching.{MayStopReading, watched_left};
 ghost use Rattle.hsp_stream.specs.KindsShown.{row_shown};
 ghost use Rattle.hsp_stream.specs.declared.fault.StreamFault.TheVariants.{OutOfMemory};
 ghost use Rattle.hsp_price_runs.specs.LogRows.{log_rows, rows_with, with_record, with_row};
@@ -12,11 +13,14 @@ ghost use Rattle.hsp_price_runs.specs.Passing.{IsOverSome, Takes, TakesRecord, T
 
 use crate::taking::RowTaker;
 use csv::{ByteRecord, Reader};
-use hsp_csv::{read_records, take_record};
 use hsp_price_check::PassFault;
-use hsp_stream::{CountForm, LogRow, RowFault, StreamFault, form_of, parts_in, row_of};
+use hsp_stream::{
+    CountForm, LogRow, RowFault, StreamFault, Watch, Watched, form_of, parts_in, row_of,
+    take_watched, watch_records,
+};
+use hsp_talk::Source;
 use std::alloc::Global;
-use std::io::Read;
+use std::marker::Brand;
 
 // The fault of a row that can't be taken.
 fn fault_of_pass(row: u64, fault: PassFault) -> StreamFault
@@ -72,40 +76,65 @@ fn pass_record<T: RowTaker>(
 }
 
 // Takes each row behind the header.
-fn pass_rows<T: RowTaker, R: Read>(
+fn pass_rows<T: RowTaker, R: Source, K: Watch>(
     alloc: Global,
     taker: &mut T,
-    reader: &mut Reader<R>,
+    reader: &mut Reader<Watched<R, K>>,
     record: &mut ByteRecord,
     form: CountForm,
 ) -> Result<(), StreamFault>
     requires reading { IsReading reader.old }
     requires fresh { T.HasTaken taker.old [] taker.old }
-    ensures passed { OnOk result (OfLeft R.remaining reader.old (λ records.
+    ensures passed { OnOk result (OfLeft (watched_left R.remaining) reader.old (λ records.
         TakesRows T.HasTaken (rows_with form 0 [] records) taker.old taker.new)) }
-    ensures fault { IfErr result (λ fault. IsReadFault fault ⊎ OfLeft R.remaining reader.old
+    ensures fault { IfErr result (λ fault. MayStopReading K.may_fail fault
+        ⊎ OfLeft (watched_left R.remaining) reader.old
         (λ records. rows_with form 0 [] records ≡ Err fault)) }
 {
     let mut row: u64 = 0;
     'rows: loop {
-        if !take_record(reader, record)? {
+        if !take_watched(reader, record)? {
             return Ok(());
         }
         if row == u64::MAX {
-            return Err(StreamFault::Log(RowFault::ReadFailed));
+            return Err(StreamFault::OutOfMemory);
         }
         pass_record(alloc, taker, row, record, form)?;
         row += 1;
     }
 }
 
+// Takes each row of a log that is watched.
+fn pass_watched<T: RowTaker, R: Source + Drop, K: Watch>(
+    alloc: Global,
+    taker: &mut T,
+    log: R,
+) -> Result<(), StreamFault>
+    requires fresh { T.HasTaken taker.old [] taker.old }
+    requires watched { R.may_read_fail log → K.may_fail }
+    ensures passed { OnOk result (OfLog (R.remaining log)
+        (λ records. TakesRows T.HasTaken (log_rows records) taker.old taker.new)) }
+    ensures fault { IfErr result (λ fault. MayStopReading K.may_fail fault
+        ⊎ OfLog (R.remaining log) (λ records. log_rows records ≡ Err fault)) }
+{
+    let mut reader: Reader<Watched<R, K>> = watch_records(alloc, log);
+    let mut record = ByteRecord::new(alloc);
+    if !take_watched(&mut reader, &mut record)? {
+        return Err(StreamFault::Log(RowFault::Header));
+    }
+    let form = form_of(&record)?;
+    pass_rows(alloc, taker, &mut reader, &mut record, form)
+}
+
 /// Takes each row of the log that the reader gives.
 ///
-/// The log is read as `kinds` reads it. A log of 2^64 - 1 rows or more ends as `ReadFailed`.
+/// The log is read as `kinds` reads it. A log of 2^64 - 1 rows or more ends as `OutOfMemory`.
 ///
-/// Faults in this order: `ReadFailed`, `Header`; then row by row `ReadFailed`, `Fields`, `BadName`, `BadHandle`,
-/// `BadNumber`, `TooManyRegions`.
-pub fn pass_log<T: RowTaker, R: Read + Drop>(
+/// # Errors
+///
+/// In this order: `ReadFailed`, `Header`; then row by row `ReadFailed`, `Fields`, `BadName`, `BadHandle`, `BadNumber`,
+/// `TooManyRegions`. `ReadFailed` comes only of a reader whose reads may fail.
+pub fn pass_log<T: RowTaker, R: Source + Drop>(
     alloc: Global,
     taker: &mut T,
     log: R,
@@ -113,14 +142,8 @@ pub fn pass_log<T: RowTaker, R: Read + Drop>(
     requires { T.HasTaken taker.old [] taker.old }
     ensures passed { OnOk result (OfLog (R.remaining log)
         (λ records. TakesRows T.HasTaken (log_rows records) taker.old taker.new)) }
-    ensures fault { IfErr result (λ fault. IsReadFault fault ⊎ OfLog (R.remaining log)
-        (λ records. log_rows records ≡ Err fault)) }
+    ensures fault { IfErr result (λ fault. MayStopReading (R.may_read_fail log) fault
+        ⊎ OfLog (R.remaining log) (λ records. log_rows records ≡ Err fault)) }
 {
-    let mut reader = read_records(alloc, log);
-    let mut record = ByteRecord::new(alloc);
-    if !take_record(&mut reader, &mut record)? {
-        return Err(StreamFault::Log(RowFault::Header));
-    }
-    let form = form_of(&record)?;
-    pass_rows(alloc, taker, &mut reader, &mut record, form)
+    pass_watched::<T, R, Brand>(alloc, taker, log)
 }

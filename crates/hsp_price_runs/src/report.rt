@@ -1,7 +1,8 @@
 // Reports of certificates by prices.
 
 ghost use Rattle.std.specs.Prelude.{◌≡◌, ◌⊎◌, Err, IfErr, IfOk, List, Ok};
-ghost use Rattle.hsp_stream.specs.KindsLog.{IsReadFault, OfLog};
+ghost use Rattle.hsp_stream.specs.KindsLog.{OfLog};
+ghost use Rattle.hsp_stream.specs.Watching.{MayStopReading};
 ghost use Rattle.hsp_tables.specs.Costs.{CostEntry};
 ghost use Rattle.hsp_instance.specs.Instance.{Row};
 ghost use Rattle.hsp_price_check.specs.Classes.{service_of};
@@ -18,8 +19,8 @@ use hsp_price_check::PriceCheck;
 use hsp_price_report::{price_load_report, price_region_report};
 use hsp_price_text::{PriceCertificate, PricedPlan};
 use hsp_stream::StreamFault;
+use hsp_talk::Source;
 use std::alloc::{AllocError, Global};
-use std::io::Read;
 
 /// What a report shows.
 #[derive(Clone, Copy)]
@@ -92,7 +93,7 @@ impl Asked for PriceReportKind {
 ///
 /// The inputs, the log and the faults are those of `price_check_run`. `Input(WrongKind)` comes after all of these, for
 /// the certificate of a short set that is valid.
-pub fn price_report_run<R: Read + Drop>(
+pub fn price_report_run<R: Source + Drop>(
     alloc: Global,
     inputs: &Inputs,
     prices: &[u8],
@@ -101,7 +102,8 @@ pub fn price_report_run<R: Read + Drop>(
 ) -> Result<PriceReport, StreamFault>
     ensures report { IfOk result (λ report. OfLog (R.remaining log) (λ records.
         IsPriceReport kind inputs.now prices.now records (Ok report))) }
-    ensures fault { IfErr result (λ fault. IsReadFault fault ⊎ OfLog (R.remaining log) (λ records.
+    ensures fault { IfErr result (λ fault. MayStopReading (R.may_read_fail log) fault
+        ⊎ OfLog (R.remaining log) (λ records.
         IsPriceReport kind inputs.now prices.now records (Err fault))) }
 {
     ask_inputs(alloc, &kind, inputs, prices, log)

@@ -4,9 +4,11 @@ ghost use Rattle.std.specs.Prelude.{◌≡◌, ◌⊎◌, Err, IfErr, IfOk, Ok};
 ghost use Rattle.hsp_headline.specs.Memory.{OrNoMemory};
 ghost use Rattle.hsp_classes.specs.declared.verdict.PriceVerdict.TheVariants.{Yes};
 ghost use Rattle.hsp_price_check.specs.Classes.{service_of};
-ghost use Rattle.hsp_stream.specs.KindsLog.{IsReadFault, OfLog};
+ghost use Rattle.hsp_stream.specs.KindsLog.{OfLog};
+ghost use Rattle.hsp_stream.specs.Watching.{MayStopReading};
 ghost use Rattle.hsp_price_runs.specs.PriceRun.{AnswersInputs, AnswersRead, AnswersRecords, AnswersText};
 ghost use Rattle.hsp_price_runs.specs.PriceRun.{IsCertificateIn, IsPriceVerdict};
+ghost use Rattle.hsp_price_runs.specs.PriceAlways.{SaysYesAlways};
 ghost use Rattle.hsp_price_runs.specs.PricesShown.{ShowsLog};
 
 use crate::asked::{Asked, AskedVerdict};
@@ -16,14 +18,16 @@ use hsp_classes::PriceVerdict;
 use hsp_classes::laws::{plan_is_shown, shortage_is_shown};
 use hsp_faults::Fault;
 use hsp_headline::Inputs;
+use hsp_headline::laws::instances_are_defined;
 use hsp_instance::Instance;
 use hsp_price_check::PriceCheck;
+use hsp_price_text::laws::one_answer;
 use hsp_price_text::{PriceCertificate, read_prices};
 use hsp_runs::{costs_in, instance_in};
 use hsp_stream::StreamFault;
 use hsp_tables::Costs;
+use hsp_talk::Source;
 use std::alloc::Global;
-use std::io::Read;
 
 // An instance and the costs of its service.
 #[derive(Clone, Copy)]
@@ -44,7 +48,7 @@ pub fn certificate_in(alloc: Global, octets: &[u8]) -> Result<PriceCertificate, 
 }
 
 // The answer of a check of a certificate, by the rows of a log.
-fn ask_log<A: Asked, R: Read + Drop>(
+fn ask_log<A: Asked, R: Source + Drop>(
     alloc: Global,
     asked: &A,
     service: ServiceRef<'_>,
@@ -55,7 +59,7 @@ fn ask_log<A: Asked, R: Read + Drop>(
         (A.Is asked.now service.entry.instance.now
         (service_of service.entry.costs.now service.entry.instance.now) certificate.now)
         (Ok answer))) }
-    ensures fault { IfErr result (λ fault. IsReadFault fault
+    ensures fault { IfErr result (λ fault. MayStopReading (R.may_read_fail log) fault
         ⊎ OfLog (R.remaining log) (AnswersRecords
         (A.Is asked.now service.entry.instance.now
         (service_of service.entry.costs.now service.entry.instance.now) certificate.now)
@@ -67,7 +71,7 @@ fn ask_log<A: Asked, R: Read + Drop>(
 }
 
 // The answer of a check of the certificate that octets spell.
-fn ask_text<A: Asked, R: Read + Drop>(
+fn ask_text<A: Asked, R: Source + Drop>(
     alloc: Global,
     asked: &A,
     service: ServiceRef<'_>,
@@ -77,7 +81,7 @@ fn ask_text<A: Asked, R: Read + Drop>(
     ensures answer { IfOk result (λ answer. OfLog (R.remaining log) (AnswersText
         (A.Is asked.now service.entry.instance.now
         (service_of service.entry.costs.now service.entry.instance.now)) prices.now (Ok answer))) }
-    ensures fault { IfErr result (λ fault. IsReadFault fault
+    ensures fault { IfErr result (λ fault. MayStopReading (R.may_read_fail log) fault
         ⊎ OfLog (R.remaining log) (AnswersText
         (A.Is asked.now service.entry.instance.now
         (service_of service.entry.costs.now service.entry.instance.now)) prices.now (Err fault))) }
@@ -87,7 +91,7 @@ fn ask_text<A: Asked, R: Read + Drop>(
 }
 
 /// The answer of a check of the certificate that the octets of `prices` spell, by the rows of a log.
-pub(crate) fn ask_inputs<A: Asked, R: Read + Drop>(
+pub(crate) fn ask_inputs<A: Asked, R: Source + Drop>(
     alloc: Global,
     asked: &A,
     inputs: &Inputs,
@@ -96,8 +100,8 @@ pub(crate) fn ask_inputs<A: Asked, R: Read + Drop>(
 ) -> Result<A::Answer, StreamFault>
     ensures answer { IfOk result (λ answer. OfLog (R.remaining log)
         (AnswersRead (A.Is asked.now) inputs.now prices.now (Ok answer))) }
-    ensures fault { IfErr result (λ fault. IsReadFault fault ⊎ OfLog (R.remaining log)
-        (AnswersInputs (A.Is asked.now) inputs.now prices.now (Err fault))) }
+    ensures fault { IfErr result (λ fault. MayStopReading (R.may_read_fail log) fault
+        ⊎ OfLog (R.remaining log) (AnswersInputs (A.Is asked.now) inputs.now prices.now (Err fault))) }
 {
     let instance = instance_in(alloc, inputs)?;
     // The instance is within its limits.
@@ -122,12 +126,12 @@ pub(crate) fn ask_inputs<A: Asked, R: Read + Drop>(
 /// have any number of rows, in any order, and a pair of region and handle any number of them. None of them is held.
 ///
 /// Faults in this order: `Input` with `Settings`, `Values`, `Demand`, `Costs`, `Capacity`, `Build` or `Cert`; of the
-/// log `ReadFailed`, `Header`, and row by row `Fields`, `BadName`, `BadHandle`, `BadNumber`, `TooManyRegions`. A log of
-/// 2^64 - 1 rows or more ends as `ReadFailed`. A run stops anywhere if memory runs out.
+/// log `ReadFailed`, `Header`, and row by row `Fields`, `BadName`, `BadHandle`, `BadNumber`, `TooManyRegions`. A run
+/// stops anywhere if memory runs out, as it does at a log of 2^64 - 1 rows or more.
 ///
-/// The result is the one that these definitions give, unless a read fails or memory runs out. Of a log whose octets no
-/// one can know, as of a file, it is the one of some records.
-pub fn price_check_run<R: Read + Drop>(
+/// The result is the one that these definitions give, unless a read fails, which is reported only of a reader that may
+/// fail, or memory runs out. Of a log whose octets no one can know, as of a file, it is the one of some records.
+pub fn price_check_run<R: Source + Drop>(
     alloc: Global,
     inputs: &Inputs,
     prices: &[u8],
@@ -135,13 +139,18 @@ pub fn price_check_run<R: Read + Drop>(
 ) -> Result<PriceVerdict, StreamFault>
     ensures verdict { IfOk result (λ verdict. OfLog (R.remaining log) (λ records.
         IsPriceVerdict inputs.now prices.now records (Ok verdict))) }
-    ensures fault { IfErr result (λ fault. IsReadFault fault ⊎ OfLog (R.remaining log) (λ records.
-        IsPriceVerdict inputs.now prices.now records (Err fault))) }
+    ensures fault { IfErr result (λ fault. MayStopReading (R.may_read_fail log) fault
+        ⊎ OfLog (R.remaining log) (λ records. IsPriceVerdict inputs.now prices.now records (Err fault))) }
     // Yes means that the certificate shows a best plan of the rows, or that there is none.
     ensures shows { IfOk result (λ verdict. verdict ≡ Yes → OfLog (R.remaining log)
         (ShowsLog inputs.now prices.now)) }
+    // And every certificate that is valid for the rows of a log gets a Yes, unless memory runs out or a read fails.
+    ensures exactly { SaysYesAlways (R.may_read_fail log) inputs.now prices.now
+        (R.remaining log) result }
 {
     plan_is_shown();
     shortage_is_shown();
+    instances_are_defined();
+    one_answer();
     ask_inputs(alloc, &AskedVerdict, inputs, prices, log)
 }

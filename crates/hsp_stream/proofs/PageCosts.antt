@@ -49,12 +49,17 @@ one_table sites (c ∷ a) (d ∷ b) all_a all_b e =
     let rest = one_table sites a b all_a.1 all_b.1 there in
     cc (first, rest)
 
--- the costs that are read are those of the page
+-- costs that are read are those that the text states by the page
+pub costs_are_one : (sites : List Site) (text : List ℕ) (read costs : List CostEntry) → ReadsCosts text (Ok read)
+    → AreCosts sites text costs → read ≡ costs
+costs_are_one sites text read costs is are =
+    let own = (table_rows.costs_are (records_of text) read).0 (stated_well Costs _ read is) in
+    let both = sym own.0 ∙ are.0.records in
+    let fields : map cost_fields read ≡ map cost_fields costs = cc (both) in
+    one_table sites read costs own.1.keyed.each are.0.each fields
+
+-- so the costs of inputs are those of their page
 pub costs_of_page : (inputs : Inputs) (it : Instance) (costs : List CostEntry) → Defines inputs it
     → ReadsCosts inputs.costs.items (Ok costs) → AreCosts it.sites inputs.costs.items costs
 costs_of_page inputs it costs page is =
-    let read = (table_rows.costs_are (records_of inputs.costs.items) costs).0 (stated_well Costs _ costs is) in
-    let both = sym read.0 ∙ page.are_costs.0.records in
-    let fields : map cost_fields costs ≡ map cost_fields page.costs = cc (both) in
-    let same = one_table it.sites costs page.costs read.1.keyed.each page.are_costs.0.each fields in
-    rw same page.are_costs
+    rw (costs_are_one it.sites inputs.costs.items costs page.costs is page.are_costs) page.are_costs

@@ -18,6 +18,7 @@ pub mod PlacesRun
 pub mod PlacesLaws
 pub mod AnswerTalk
 pub mod TalkFaults
+pub mod Watching
 pub mod Words
 pub mod AnswerRun
 pub mod AnswersShown

@@ -28,6 +28,7 @@ mod row_check;
 mod row_refusal;
 mod speaking;
 mod sums;
+mod watched;
 
 pub use answerer::Answerer;
 pub use answering::answer_run;
@@ -44,3 +45,4 @@ pub use query_dispatcher::QueryDispatcher;
 pub use row_check::{count_fault, handle_fault, is_count_header, is_handle_header};
 pub use speaking::answer_rows;
 pub use sums::stream_sums_line;
+pub use watched::{Watch, Watched, take_watched, watch_records};

@@ -1,4 +1,3 @@
-use Rattle.std.proofs.Common.{◌≡◌}
 use Rattle.hsp_csv.specs.Walks.{placed_left, shown}
 use Rattle.hsp_faulty.proofs.Listing.{adds_line, at_stop, begins, cuts_last, cuts_line, ends_here, ends_last, goes_on}
 use Rattle.hsp_faulty.proofs.Listing.{stops_here}

@@ -2,7 +2,8 @@ use Rattle.std.proofs.Common.{◌⊎◌, inl, inr, Ok, Err, ap}
 use Rattle.std.proofs.lemmas.Result.{IfErr-weaker, IfOk-weaker, err_from_is_err_and}
 use Rattle.hsp_price_check.specs.Classes.{service_of}
 use Rattle.hsp_stream.specs.Faults.{fault_of_input}
-use Rattle.hsp_stream.specs.KindsLog.{IsReadFault, OfLog}
+use Rattle.hsp_stream.specs.KindsLog.{OfLog}
+use Rattle.hsp_stream.specs.Watching.{MayStopReading}
 use Rattle.hsp_stream.specs.declared.fault.StreamFault.{StreamFault}
 use Rattle.hsp_stream.proofs.KindsReading.{log_all, log_more}
 use Rattle.hsp_price_runs.specs.PriceRun.{AnswersByPrices, AnswersInputs, AnswersRead, AnswersText, IsReadFrom}
@@ -53,9 +54,9 @@ returns-in-Ok-clause-fault g c =
     let it = c.in_ok-instance.instance in
     let costs = c.in-Ok.costs in
     IfErr-weaker c.ask_text.result
-    (λ (fault : StreamFault). IsReadFault fault
+    (λ (fault : StreamFault). MayStopReading (g.R.Source.may_read_fail c.args.log) fault
     ⊎ OfLog log (AnswersText (Is it (service_of costs it)) octets (Err fault)))
-    (λ (fault : StreamFault). IsReadFault fault ⊎ OfLog log (AnswersInputs Is inputs octets (Err fault)))
+    (λ (fault : StreamFault). MayStopReading (g.R.Source.may_read_fail c.args.log) fault ⊎ OfLog log (AnswersInputs Is inputs octets (Err fault)))
     (λ fault told. elim told [
       | inl read ↦ inl read
       | inr known ↦

@@ -4,7 +4,8 @@ use Rattle.hsp_tables.specs.Costs.{CostEntry}
 use Rattle.hsp_instance.specs.Instance.{Row}
 use Rattle.hsp_price_check.specs.Checking.{IsPassed}
 use Rattle.hsp_price_check.specs.Classes.{service_of}
-use Rattle.hsp_stream.specs.KindsLog.{IsReadFault, OfLog}
+use Rattle.hsp_stream.specs.KindsLog.{OfLog}
+use Rattle.hsp_stream.specs.Watching.{MayStopReading}
 use Rattle.hsp_stream.specs.declared.fault.StreamFault.{StreamFault}
 use Rattle.hsp_stream.specs.declared.fault.StreamFault.TheVariants.{OutOfMemory}
 use Rattle.std.proofs.Common.{◌≡◌}
@@ -50,7 +51,7 @@ returns-clause-fault g c =
     ⊎ ((own : List CostEntry) (rows : List Row)
     → IsPassed (service_of own it) certificate rows c.pass_log.new.taker
     → By (service_of own it) certificate rows (Err fault)))
-    (λ (fault : StreamFault). IsReadFault fault ⊎ OfLog log (AnswersRecords Is (Err fault)))
+    (λ (fault : StreamFault). MayStopReading (g.R.Source.may_read_fail c.args.log) fault ⊎ OfLog log (AnswersRecords Is (Err fault)))
     (λ fault told. elim told [
       | inl memory ↦ inl (inl memory)
       | inr answers ↦

@@ -7,6 +7,7 @@ use Rattle.hsp_stream.proofs.KindsReading.{log_more}
 use Rattle.hsp_price_runs.specs.PriceRun.{AnswersByPrices, AnswersRead, IsPriceVerdict, IsVerdictBy}
 use Rattle.hsp_price_runs.specs.PricesShown.{ShowsLog}
 use Rattle.hsp_price_runs.proofs.Judged.{read_is}
+use Rattle.hsp_price_runs.proofs.Known.{says_yes}
 use Rattle.hsp_price_runs.proofs.Shown.{yes_shows}
 use Rattle.hsp_price_runs.proofs.run.price_check_run.Goals as goal
 
@@ -38,3 +39,9 @@ returns-clause-shows g c =
     yes_shows c.plan_is_shown.ensures c.shortage_is_shown.ensures inputs octets records
     (subst (λ (w : PriceVerdict). AnswersRead (λ it. IsVerdictBy) inputs octets (Ok w) records) yes judged)) is)
     c.ask_inputs.ensures.answer
+
+pub returns-clause-exactly : goal.returns-clause-exactly
+returns-clause-exactly g c =
+    says_yes c.instances_are_defined.ensures.only c.one_answer.ensures c.args.inputs.now c.args.prices.now
+    (g.R.Source.may_read_fail c.args.log) (g.R.Read.remaining c.args.log) c.ask_inputs.result
+    (returns-clause-verdict g c) c.ask_inputs.ensures.fault
