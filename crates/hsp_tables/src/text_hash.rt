@@ -1,7 +1,10 @@
 // The hash by which the rows of a table are found.
 
 ghost use Rattle.std.specs.Prelude.{◌≡◌};
+ghost use Rattle.byteorder.specs.Endian.{little_number};
+ghost use Rattle.md5.specs.Md5.{md5};
 
+use byteorder::{ByteOrder, LittleEndian};
 use indexmap::IndexMap;
 use md5::{Digest, Md5};
 use std::hash::{BuildHasher, FoldHasher, Hasher};
@@ -18,13 +21,13 @@ pub struct TextHash {
 
 impl TextHash {
     /// The hash for the rows of a text.
-    pub(crate) fn of(text: &[u8]) -> TextHash {
+    pub(crate) fn of(text: &[u8]) -> TextHash
+        ensures { result.key ≡ little_number 8 (md5 text.now) }
+    {
         let digest: [u8; 16] = Md5::digest(text);
-        let mut key = 0;
-        for octet in &digest[..8] {
-            key = key << 8 | u64::from(*octet);
+        TextHash {
+            key: LittleEndian::read_u64(&digest),
         }
-        TextHash { key }
     }
 }
 
