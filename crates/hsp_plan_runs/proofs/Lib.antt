@@ -1,3 +1,4 @@
 mod RowsHeld
 mod Planned
 mod PlanShown
+mod PlannedAlways

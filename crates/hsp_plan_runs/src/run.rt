@@ -5,7 +5,9 @@ ghost use Rattle.hsp_grouping.specs.Grouping.{asked_in};
 ghost use Rattle.hsp_price_check.specs.Classes.{service_of};
 ghost use Rattle.hsp_price_check.specs.Passed.{capped};
 ghost use Rattle.hsp_price_runs.specs.PriceRun.{AnswersRecords};
-ghost use Rattle.hsp_stream.specs.KindsLog.{IsReadFault, OfLog};
+ghost use Rattle.hsp_stream.specs.KindsLog.{OfLog};
+ghost use Rattle.hsp_stream.specs.Watching.{MayStopReading};
+ghost use Rattle.hsp_plan_runs.specs.PlanAlways.{PlansAlways};
 ghost use Rattle.hsp_plan_runs.specs.PlanRun.{IsPlanBy, IsPlannedLog, IsShownPlan};
 ghost use Rattle.hsp_plan_runs.specs.Taken.{AreTakenOfSome, IsTakenFault, IsValidForAll, fault_of_plan};
 
@@ -14,6 +16,7 @@ use crate::text::{PricesText, text_of};
 use hsp_classes::laws::{plan_is_shown, shortage_is_shown};
 use hsp_guess::keep_guessed;
 use hsp_headline::Inputs;
+use hsp_headline::laws::instances_are_defined;
 use hsp_instance::Instance;
 use hsp_kept_rows::KeptRows;
 use hsp_price_check::{ServiceNumbers, numbers_of};
@@ -23,8 +26,8 @@ use hsp_price_text::PriceCertificate;
 use hsp_runs::{costs_in, instance_in};
 use hsp_stream::StreamFault;
 use hsp_tables::Costs;
+use hsp_talk::Source;
 use std::alloc::Global;
-use std::io::Read;
 
 // Rows that are planned together ask for fewer queries than these.
 const TOO_MANY: u128 = 9_223_372_036_854_775_808;
@@ -63,7 +66,7 @@ fn plan_taken<P: Progress>(
 }
 
 // The text of a plan of a log's rows, by an instance and its costs.
-fn plan_log<'a, R: Read + Drop, P: Progress + Drop>(
+fn plan_log<'a, R: Source + Drop, P: Progress + Drop>(
     alloc: Global,
     instance: &'a Instance,
     costs: &'a Costs,
@@ -72,7 +75,8 @@ fn plan_log<'a, R: Read + Drop, P: Progress + Drop>(
 ) -> Result<PricesText, StreamFault>
     ensures text { IfOk result (λ text. OfLog (R.remaining log) (AnswersRecords
         (IsPlanBy (service_of costs.now instance.now)) (Ok text))) }
-    ensures fault { IfErr result (λ fault. IsReadFault fault ⊎ OfLog (R.remaining log)
+    ensures fault { IfErr result (λ fault. MayStopReading (R.may_read_fail log) fault
+        ⊎ OfLog (R.remaining log)
         (AnswersRecords (IsPlanBy (service_of costs.now instance.now)) (Err fault))) }
 {
     let numbers = numbers_of(alloc, instance)?;
@@ -96,14 +100,13 @@ fn plan_log<'a, R: Read + Drop, P: Progress + Drop>(
 /// `progress` is shown how far the plan is.
 ///
 /// Faults in this order: `Input` with `Settings`, `Values`, `Demand`, `Costs`, `Capacity` or `Build`; of the log
-/// `ReadFailed`, `Header`, and row by row `Fields`, `BadName`, `BadHandle`, `BadNumber`, `TooManyRegions`. A log of
-/// 2^64 - 1 rows or more ends as `ReadFailed`. Last comes `TooLarge`: the rows ask for 2^63 queries or more, the
-/// certificate that was found is past a limit of its text, or the rows are of too many groups. A run stops anywhere if
-/// memory runs out, as it does at the row after 2^32 of them.
+/// `ReadFailed`, `Header`, and row by row `Fields`, `BadName`, `BadHandle`, `BadNumber`, `TooManyRegions`. Last comes
+/// `TooLarge`: the rows ask for 2^63 queries or more, the certificate that was found is past a limit of its text, or the
+/// rows are of too many groups. A run stops anywhere if memory runs out, as it does at the row after 2^32 of them.
 ///
-/// The result is the one that these definitions give, unless a read fails or memory runs out. Of a log whose octets no
-/// one can know, as of a file, it is the one of some records.
-pub fn price_plan_run<R: Read + Drop, P: Progress + Drop>(
+/// The result is the one that these definitions give, unless a read fails, which is reported only of a reader that may
+/// fail, or memory runs out. Of a log whose octets no one can know, as of a file, it is the one of some records.
+pub fn price_plan_run<R: Source + Drop, P: Progress + Drop>(
     alloc: Global,
     inputs: &Inputs,
     log: R,
@@ -111,11 +114,14 @@ pub fn price_plan_run<R: Read + Drop, P: Progress + Drop>(
 ) -> Result<PricesText, StreamFault>
     // The check says yes to the text, which shows a best plan of the rows, or that there is none.
     ensures shows { IfOk result (λ text. OfLog (R.remaining log) (IsShownPlan inputs.now text)) }
-    ensures fault { IfErr result (λ fault. IsReadFault fault
+    ensures fault { IfErr result (λ fault. MayStopReading (R.may_read_fail log) fault
         ⊎ OfLog (R.remaining log) (IsPlannedLog inputs.now (Err fault))) }
+    // Whatever rows a log has, they are planned, unless they are too large, memory runs out or a read fails.
+    ensures always { PlansAlways (R.may_read_fail log) inputs.now (R.remaining log) result }
 {
     plan_is_shown();
     shortage_is_shown();
+    instances_are_defined();
     let instance = instance_in(alloc, inputs)?;
     // The instance is within its limits.
     let _rows = instance.rows();

@@ -7,7 +7,8 @@ use Rattle.hsp_price_runs.specs.LogRows.{log_rows}
 use Rattle.hsp_price_runs.specs.Passing.{TakesRows}
 use Rattle.hsp_price_runs.specs.PriceRun.{AnswersRecords}
 use Rattle.hsp_price_text.specs.Text.{text_of}
-use Rattle.hsp_stream.specs.KindsLog.{IsReadFault, OfLog}
+use Rattle.hsp_stream.specs.KindsLog.{OfLog}
+use Rattle.hsp_stream.specs.Watching.{MayStopReading}
 use Rattle.hsp_stream.specs.declared.fault.StreamFault.{StreamFault}
 use Rattle.hsp_stream.specs.declared.fault.StreamFault.TheVariants.{OutOfMemory, TooLarge}
 use Rattle.hsp_stream.proofs.KindsReading.{log_more}
@@ -96,7 +97,7 @@ returns-clause-fault g c =
     IfErr-weaker c.text_of.result
     (λ (fault : StreamFault). (fault ≡ OutOfMemory)
     ⊎ ((fault ≡ TooLarge) × (LARGEST_FILE < length (text_of certificate))))
-    (λ (fault : StreamFault). IsReadFault fault ⊎ OfLog log (AnswersRecords (IsPlanBy at) (Err fault)))
+    (λ (fault : StreamFault). MayStopReading (g.R.Source.may_read_fail c.args.log) fault ⊎ OfLog log (AnswersRecords (IsPlanBy at) (Err fault)))
     (λ fault told. elim told [
       | inl memory ↦ inl (inl memory)
       | inr long ↦
