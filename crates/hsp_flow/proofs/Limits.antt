@@ -185,8 +185,7 @@ module _ (it : Instance) (is : IsInstance it) (lists : List (List Arc))
           cheap = λ k l.
               let cost = slice_index (map cost_of (arcs_from 0 lists)) k in
               let one : n * cost ≤ 10242000000 = le_trans (mul-le-mul_right cost nodes) (omega (arith, cost_low k l)) in
-              let two : n * (n * cost) ≤ 10242 * (n * cost) = mul-le-mul_right (n * cost) nodes in
-              omega (arith, one, two);
+              omega (arith, one);
           low = λ i l. omega (arith, low i l);
         }
 

@@ -20,7 +20,8 @@ use Rattle.hsp_groups.specs.Groups.{Group}
 use Rattle.hsp_price_check.specs.declared.numbers.ServiceNumbers.{ServiceNumbers}
 use Rattle.hsp_group_plans.specs.Columns.{AreColumns, arcs_of_groups}
 use Rattle.hsp_group_plans.specs.declared.columns.GroupColumns.{GroupColumns}
-use Rattle.hsp_group_plans.specs.Solving.{HasArcsWithin, arcs_in, demand_in, group_network}
+use Rattle.hsp_group_plans.specs.Pressing.{CanPress}
+use Rattle.hsp_group_plans.specs.Solving.{HasArcsWithin, HasFewArcs, arcs_in, demand_in, group_network}
 
 -- no later arc is of an earlier row
 abbrev AreUp : List NetworkArc → Type 0
@@ -73,6 +74,25 @@ fits_all servers i (group ∷ groups) each =
     all_append (λ (a : NetworkArc). (a.server < servers) × (a.cost ≤ 1000000)) (map (arc_of i) group.arcs)
     (arcs_from (i + 1) (map (λ (group : Group). group.arcs) groups)) (fits_row servers i group.arcs each.0)
     (fits_all servers (i + 1) groups each.1)
+
+-- there are as many arcs as the groups have together
+many_arcs : (i : ℕ) (groups : List Group)
+    → length (arcs_from i (map (λ (group : Group). group.arcs) groups)) ≡ arcs_in groups
+many_arcs i [] = refl
+many_arcs i (group ∷ groups) =
+    omega (
+      arith,
+      length-append (map (arc_of i) group.arcs) (arcs_from (i + 1) (map (λ (group : Group). group.arcs) groups)),
+      length-map group.arcs (arc_of i),
+      many_arcs (i + 1) groups,
+      sum_by-cons (λ (group : Group). length group.arcs) group groups,
+    )
+
+-- groups with few arcs each have no more together
+few_in : (groups : List Group) → AllByRecursion HasFewArcs groups → arcs_in groups ≤ 32 * length groups
+few_in [] few = omega arith
+few_in (group ∷ groups) few =
+    omega (arith, few.0, few_in groups few.1, sum_by-cons (λ (group : Group). length group.arcs) group groups)
 
 module _ (numbers : ServiceNumbers) (groups : List Group)
     (within : AllByRecursion (HasArcsWithin (length numbers.server_hosts.items)) groups) where
@@ -147,27 +167,45 @@ module _ (numbers : ServiceNumbers) (groups : List Group)
   pub costs_low : BoundsCosts (group_network numbers groups) 1000000
   costs_low k l = omega (arith, at (λ (a : NetworkArc). a.cost) k l, (fits_at k (inside k l)).1)
 
+  -- its prices can be pressed
+  pub can_press : length groups ≤ 67108864 → CanPress (group_network numbers groups)
+  can_press few = record {
+    cheap = costs_low;
+    sources = omega (arith, few, length-map groups (λ (group : Group). group.demand));
+    servers = omega (arith, numbers.servers_many, numbers.few_servers);
+    hosts = numbers.few_hosts;
+  }
+
   -- the solver's numbers have room for it
-  pub is_small : length groups ≤ 997951 → length (map (λ (a : NetworkArc). a.row) arcs) ≤ 4000000000
-      → demand_in groups < 2 ^ 64 - 1 → IsSmall (group_network numbers groups)
+  pub is_small : length groups ≤ 67108864 → AllByRecursion HasFewArcs groups → demand_in groups < 2 ^ 64 - 1
+      → IsSmall (group_network numbers groups)
   is_small few few_arcs low =
       let many : length (map (λ (group : Group). group.demand) groups) ≡ length groups =
       length-map groups (λ (group : Group). group.demand) in
       let n = 1 + length numbers.limits.items + length numbers.capacities.items
       + length (map (λ (group : Group). group.demand) groups) + 1 in
-      let nodes : n ≤ 1129023 =
+      let nodes : n ≤ 67239936 =
       omega (arith, many, numbers.servers_many, numbers.few_servers, numbers.few_hosts) in
       record {
         few = omega (arith, nodes);
-        few_arcs = omega (arith, numbers.servers_many, numbers.few_servers, numbers.few_hosts);
+        few_arcs =
+            omega (
+              arith,
+              few,
+              few_in groups few_arcs,
+              many_arcs 0 groups,
+              length-map arcs (λ (a : NetworkArc). a.row),
+              numbers.servers_many,
+              numbers.few_servers,
+              numbers.few_hosts,
+            );
         cheap = λ k l.
             let cost = slice_index (map (λ (a : NetworkArc). a.cost) arcs) k in
             let low : cost ≤ 1000000 =
             omega (arith, at (λ (a : NetworkArc). a.cost) k l, (fits_at k (inside k l)).1) in
-            let one : n * cost ≤ 1129023 * 1000000 =
+            let one : n * cost ≤ 67239936 * 1000000 =
             le_trans (mul-le-mul_right cost nodes) (omega (arith, low)) in
-            let two : n * (n * cost) ≤ 1129023 * (n * cost) = mul-le-mul_right (n * cost) nodes in
-            omega (arith, one, two);
+            omega (arith, one);
         low = λ i l.
             let there : i < length groups = omega (arith, l, many) in
             let own : slice_index (map (λ (group : Group). group.demand) groups) i
@@ -178,19 +216,6 @@ module _ (numbers : ServiceNumbers) (groups : List Group)
     where
       no_group : Group
       no_group = record { region = []; arcs = []; demand = 0 }
-
--- there are as many arcs as the groups have together
-many_arcs : (i : ℕ) (groups : List Group)
-    → length (arcs_from i (map (λ (group : Group). group.arcs) groups)) ≡ arcs_in groups
-many_arcs i [] = refl
-many_arcs i (group ∷ groups) =
-    omega (
-      arith,
-      length-append (map (arc_of i) group.arcs) (arcs_from (i + 1) (map (λ (group : Group). group.arcs) groups)),
-      length-map group.arcs (arc_of i),
-      many_arcs (i + 1) groups,
-      sum_by-cons (λ (group : Group). length group.arcs) group groups,
-    )
 
 -- a column has as many sources
 pub many_sources : (groups : List Group) (columns : GroupColumns) → AreColumns groups columns

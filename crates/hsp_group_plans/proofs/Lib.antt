@@ -6,6 +6,9 @@ mod ClassEntries
 mod ClassTurns
 mod ClassesShown
 mod FlowCosts
+mod Pressing
+mod PressedPrices
+mod LoweredPrices
 pub mod PlanParts
 mod FlowTotals
 mod ReachedServers

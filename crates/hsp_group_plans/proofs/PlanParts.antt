@@ -1,8 +1,9 @@
 -- The parts of a plan, and whether it is one of a text.
-use Rattle.std.proofs.Common.{◌≡◌, ℕ, ◌<◌, ◌^◌, ◌∙◌, inl, inr, false, List}
+use Rattle.std.proofs.Common.{◌≡◌, ℕ, ◌<◌, ◌≤◌, ◌^◌, ◌∙◌, inl, inr, false, List}
 use Rattle.std.proofs.Common.{refl, ap, sym, subst, arith}
 use Rattle.std.specs.Prelude.{IfNone, IfSome, Option, Some, None, if◌then◌else◌}
-use Rattle.std.proofs.lemmas.Bool.{cases_Bool}
+use Rattle.std.proofs.lemmas.Bool.{and_left, cases_Bool, lt-leb}
+use Rattle.hsp_text.specs.declared.limits.TheConstants.{GREATEST_SUM}
 use Rattle.hsp_instance.specs.declared.arc.Arc.{Arc}
 use Rattle.hsp_network.specs.Answer.{HasLengths}
 use Rattle.hsp_network.specs.declared.network.PricedFlow.{PricedFlow}
@@ -39,6 +40,14 @@ none_best N plan found is past = elim (cases_Bool (is_best plan)) [
 -- a kept sum of 64 bits is the sum
 pub kept_small : (n kept : ℕ) → kept ≡ capped n → kept < 2 ^ 64 → kept ≡ n
 kept_small n kept is small = omega arith
+
+-- one of more bits is no more than the sum
+pub kept_large : (n kept : ℕ) → kept ≡ capped n → 2 ^ 64 ≤ kept → 2 ^ 64 ≤ n
+kept_large n kept is large = omega arith
+
+-- a plan that costs so much is none of a text
+pub past_cost : (plan : Best) → 2 ^ 64 ≤ plan.cost → is_best plan ≡ false
+past_cost plan large = and_left _ _ (lt-leb plan.cost GREATEST_SUM (omega (arith, large)))
 
 -- the plan of a flow
 abbrev pub plan_by : PricedFlow → ℕ → List Class → Best

@@ -1,9 +1,10 @@
 -- The certificate of flagged servers has what it has to.
-use Rattle.std.proofs.Common.{◌≡◌, ℕ, ◌+◌, ◌<◌, ◌∙◌, Bool, List, All, length, sum_by, ap, sym, subst, arith}
-use Rattle.std.proofs.Common.{inl, inr, false, refl, zero-add}
+use Rattle.std.proofs.Common.{◌≡◌, ℕ, ◌+◌, ◌<◌, ◌≤◌, ◌⊎◌, ◌∙◌, Bool, List, [], ◌∷◌, All, length, sum_by, ap, sym, subst}
+use Rattle.std.proofs.Common.{arith, inl, inr, true, false, refl, zero-add}
 use Rattle.std.specs.Prelude.{IfNone, IfSome, Option, Some, None, if◌then◌else◌}
+use Rattle.std.specs.List.{list_all}
 use Rattle.std.proofs.Math.Path.{fun_ext}
-use Rattle.std.proofs.lemmas.Bool.{cases_Bool, false_from_ne_true, leb-true}
+use Rattle.std.proofs.lemmas.Bool.{and_from, both_ways, cases_Bool, cases_lt, le-leb}
 use Rattle.std.proofs.lemmas.List.{length-map}
 use Rattle.std.proofs.lemmas.List.Elements.{All-from_recursion}
 use Rattle.hsp_text.specs.declared.limits.TheConstants.{GREATEST_SUM}
@@ -13,10 +14,10 @@ use Rattle.hsp_instance.proofs.Lists.{all_so}
 use Rattle.hsp_check.specs.Lists.{AreFlagsOf}
 use Rattle.hsp_check.specs.Verdict.{is_one_of}
 use Rattle.hsp_flow.specs.Planning.{flagged_from}
+use Rattle.hsp_flow.proofs.Ranges.{flags_ascend}
 use Rattle.hsp_flow.proofs.ShortRows.{flagged_is, flags_within}
 use Rattle.hsp_kinds.specs.Rows.{Service, network_for}
-use Rattle.hsp_price_text.specs.Claim.{Short, if_short, is_short}
-use Rattle.hsp_price_text.proofs.DraftSteps.{short_parts}
+use Rattle.hsp_price_text.specs.Claim.{Short, are_servers, if_short, is_server, is_short}
 use Rattle.hsp_prices.specs.ServerSets.{capacity_of_servers}
 use Rattle.hsp_groups.specs.Groups.{Group}
 use Rattle.hsp_groups.specs.Rows.{KeptRow, with_leaving}
@@ -85,11 +86,32 @@ is_shortage numbers groups reached many at rows kept numbers_are are of leaving 
 
 -- ---- where it is one of a text
 
--- a certificate that takes more than a text can say is none of a text
-pub past_capacity : (short : Short) → GREATEST_SUM < short.capacity → is_short short ≡ false
-past_capacity short past =
-    false_from_ne_true (is_short short) (λ within.
-    let low = leb-true short.capacity GREATEST_SUM (short_parts short within).capacity in omega (arith, low, past))
+-- flagged servers are within their range
+flags_in_range : (j : ℕ) (flags : List Bool) → j + length flags ≤ 1024
+    → list_all is_server (flagged_from j flags) ≡ true
+flags_in_range j [] few = refl
+flags_in_range j (true ∷ flags) few =
+    and_from _ _ (le-leb j 1023 (omega (arith, few))) (flags_in_range (j + 1) flags (omega (arith, few)))
+flags_in_range j (false ∷ flags) few = flags_in_range (j + 1) flags (omega (arith, few))
+
+-- and ascend
+pub servers_ordered : (flags : List Bool) → length flags ≤ 1024 → are_servers (flagged_from 0 flags) ≡ true
+servers_ordered flags few = and_from _ _ (flags_in_range 0 flags (omega (arith, few))) (flags_ascend 0 flags)
+
+-- where they do, a certificate that is none of a text has a sum past the limits
+pub past_sums : (short : Short) → are_servers short.servers ≡ true → is_short short ≡ false
+    → (GREATEST_SUM < short.demand) ⊎ (GREATEST_SUM < short.capacity)
+past_sums short order none = elim (cases_lt GREATEST_SUM short.demand) [
+  | inl past ↦ inl past
+  | inr demand ↦ elim (cases_lt GREATEST_SUM short.capacity) [
+    | inl past ↦ inr past
+    | inr capacity ↦
+        absurd
+        (both_ways (is_short short) none
+        (and_from _ _ order
+        (and_from _ _ (le-leb short.demand GREATEST_SUM demand) (le-leb short.capacity GREATEST_SUM capacity))))
+  ]
+]
 
 -- what holds of a certificate holds of it where it is one of a text
 pub some_short : (P : Short → Type 0) (short : Short) (found : Option Short) → found ≡ if_short short → P short

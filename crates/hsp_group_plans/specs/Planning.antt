@@ -1,8 +1,7 @@
 -- The certificate of a plan, by a flow over groups with its prices.
-use Rattle.std.specs.Prelude.{◌≡◌, ◌<◌, ◌*◌, ◌⊎◌, ℕ, true, false, List, sum_by}
+use Rattle.std.specs.Prelude.{◌≡◌, ◌*◌, ℕ, true, false, List, sum_by}
 use Rattle.std.specs.List.{zip}
-use Rattle.hsp_text.specs.declared.limits.TheConstants.{GREATEST_SUM, MOST_HOSTS, MOST_SERVERS}
-use Rattle.hsp_cert.specs.Certificate.{are_prices_within, ascends}
+use Rattle.hsp_cert.specs.Certificate.{ascends}
 use Rattle.hsp_instance.specs.declared.arc.Arc.{Arc}
 use Rattle.hsp_network.specs.declared.network.PricedFlow.{PricedFlow}
 use Rattle.hsp_kinds.specs.Rows.{Service}
@@ -27,16 +26,9 @@ pub record IsPlanBy (at : Service) (groups : List Group) (flow : PricedFlow) (pl
 abbrev pub IsPlanFor : ServiceNumbers → List Group → PricedFlow → Best → Type 0
 IsPlanFor numbers groups flow plan = (at : Service) → AreNumbersOf at numbers → IsPlanBy at groups flow plan
 
--- such a plan is past the limits of a text
+-- such a plan, whose classes are in order, is past the limits of a text
 pub record IsPlanPast (numbers : ServiceNumbers) (groups : List Group) (flow : PricedFlow) : Type 0 where
   pub plan : Best
   pub is : IsPlanFor numbers groups flow plan
   pub order : ascends is_before plan.classes ≡ true
   pub past : is_best plan ≡ false
-
--- a price or the cost is past the limits of a text, or the plan whose classes are in order is
-abbrev pub IsPastLimits : ServiceNumbers → List Group → PricedFlow → Type 0
-IsPastLimits numbers groups flow =
-    (are_prices_within MOST_SERVERS flow.server_prices.items ≡ false)
-    ⊎ ((are_prices_within MOST_HOSTS flow.host_prices.items ≡ false)
-    ⊎ ((GREATEST_SUM < cost_of groups flow.flows.items) ⊎ IsPlanPast numbers groups flow))

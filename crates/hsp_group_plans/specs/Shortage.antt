@@ -1,13 +1,14 @@
 -- The certificate of the servers that short groups reach.
-use Rattle.std.specs.Prelude.{◌≡◌, ◌<◌, ℕ, Bool, false, List, All, length, sum_by, if◌then◌else◌}
+use Rattle.std.specs.Prelude.{◌≡◌, ◌<◌, ◌⊎◌, ℕ, Bool, true, List, All, length, sum_by, if◌then◌else◌}
 use Rattle.std.specs.List.{list_all}
+use Rattle.hsp_text.specs.declared.limits.TheConstants.{GREATEST_SUM}
 use Rattle.hsp_transport.specs.Cut.{reaches}
 use Rattle.hsp_transport.specs.Lists.{flag_at}
 use Rattle.hsp_network.specs.Network.{numbered}
 use Rattle.hsp_instance.specs.Instance.{Row}
 use Rattle.hsp_check.specs.Verdict.{is_one_of}
 use Rattle.hsp_kinds.specs.Rows.{Service, network_for}
-use Rattle.hsp_price_text.specs.Claim.{Short, is_short}
+use Rattle.hsp_price_text.specs.Claim.{Short, are_servers}
 use Rattle.hsp_prices.specs.ServerSets.{capacity_of_servers}
 use Rattle.hsp_classes.specs.Sums.{caught_in_all}
 use Rattle.hsp_groups.specs.Groups.{AreGroupsOf, Group, network_of_groups}
@@ -47,8 +48,9 @@ IsShortageFor numbers groups reached short =
     → AreGroupsOf kept groups → All (λ row. with_leaving (flag_at reached) row ≡ row) kept
     → IsShortageOf at rows kept reached short
 
--- such a certificate is past the limits of a text
+-- such a certificate, whose servers ascend, has a sum past the limits of a text
 pub record IsShortagePast (numbers : ServiceNumbers) (groups : List Group) (reached : List Bool) : Type 0 where
   pub short : Short
   pub is : IsShortageFor numbers groups reached short
-  pub past : is_short short ≡ false
+  pub servers : are_servers short.servers ≡ true
+  pub past : (GREATEST_SUM < short.demand) ⊎ (GREATEST_SUM < short.capacity)

@@ -1,6 +1,7 @@
 -- The network of groups over the servers of a service, and what the solver has to be given.
-use Rattle.std.specs.Prelude.{ℕ, List, length, map, sum_by}
+use Rattle.std.specs.Prelude.{◌≤◌, ℕ, List, length, map, sum_by}
 use Rattle.std.specs.List.{AllByRecursion}
+use Rattle.hsp_text.specs.declared.limits.TheConstants.{MOST_SITES}
 use Rattle.hsp_instance.specs.RowArcs.{IsWithin}
 use Rattle.hsp_network.specs.Network.{Transport}
 use Rattle.hsp_network.specs.Answer.{Answers}
@@ -26,6 +27,10 @@ group_network numbers groups = record {
 -- each arc of a group leads to one of so many servers, at a cost within its limit
 abbrev pub HasArcsWithin : ℕ → Group → Type 0
 HasArcsWithin servers group = AllByRecursion (IsWithin servers) group.arcs
+
+-- a group has no more arcs than there may be sites
+abbrev pub HasFewArcs : Group → Type 0
+HasFewArcs group = length group.arcs ≤ MOST_SITES
 
 -- how many arcs groups have together
 abbrev pub arcs_in : List Group → ℕ

@@ -7,8 +7,10 @@ mod columns;
 mod cost;
 mod network;
 mod plan;
+mod press;
 mod shortage;
 
-pub use network::{MOST_ARCS, MOST_GROUPS, solve};
+pub use network::{MOST_GROUPS, solve};
 pub use plan::plan_of;
+pub use press::press_prices;
 pub use shortage::{reached_by, short_of};

@@ -4,21 +4,20 @@ ghost use Rattle.std.specs.Prelude.{◌≡◌, ◌<◌, ◌-◌, ◌^◌, true, 
 ghost use Rattle.std.specs.List.{AllByRecursion};
 ghost use Rattle.hsp_network.specs.Answer.{IsMet};
 ghost use Rattle.hsp_price_text.specs.Claim.{is_best};
-ghost use Rattle.hsp_group_plans.specs.Planning.{IsPastLimits, IsPlanFor};
+ghost use Rattle.hsp_group_plans.specs.Planning.{IsPlanFor, IsPlanPast};
+ghost use Rattle.hsp_group_plans.specs.Pressing.{HasTextPrices};
 ghost use Rattle.hsp_group_plans.specs.Solving.{HasArcsWithin, demand_in, group_network};
 
 use crate::classes::classes_of;
 use crate::cost::flow_cost;
-use hsp_cert::ranges::are_prices;
 use hsp_grouping::RowGroup;
 use hsp_network::PricedFlow;
 use hsp_price_check::{ServiceNumbers, extras_of};
 use hsp_price_text::PricedPlan;
-use hsp_text::limits::{MOST_HOSTS, MOST_SERVERS};
 use std::alloc::{AllocError, Global};
 
 /// The plan of a flow over the arcs of groups, group by group: the flow's prices, the classes of the groups and the
-/// cost of the flow. It is None only where one of its numbers is past the limits of a certificate's text.
+/// cost of the flow. It is None only where it is past the limits of a certificate's text.
 ///
 /// # Errors
 ///
@@ -33,19 +32,12 @@ pub fn plan_of(
         groups.now }
     requires demands { demand_in groups.now < 2 ^ 64 - 1 }
     requires met { IsMet (group_network numbers.now groups.now) flow }
+    requires low { HasTextPrices flow }
     ensures plan { IfOk result (λ found. IfSome found (IsPlanFor numbers.now groups.now flow)) }
     ensures within { IfOk result (λ found. IfSome found (λ plan. is_best plan ≡ true)) }
-    ensures none { IfOk result (λ found. IfNone found (IsPastLimits numbers.now groups.now flow)) }
+    ensures none { IfOk result (λ found. IfNone found (IsPlanPast numbers.now groups.now flow)) }
 {
-    if !are_prices(&flow.server_prices, MOST_SERVERS) {
-        return Ok(None);
-    }
-    if !are_prices(&flow.host_prices, MOST_HOSTS) {
-        return Ok(None);
-    }
-    let Ok(cost) = u64::try_from(flow_cost(groups, &flow.flows)) else {
-        return Ok(None);
-    };
+    let cost = flow_cost(groups, &flow.flows);
     let extras = extras_of(
         alloc,
         &numbers.server_hosts,
@@ -53,5 +45,8 @@ pub fn plan_of(
         &flow.host_prices,
     )?;
     let classes = classes_of(alloc, groups, &extras, &flow.flows)?;
+    let Ok(cost) = u64::try_from(cost) else {
+        return Ok(None);
+    };
     Ok(PricedPlan::new(cost, flow.server_prices, flow.host_prices, classes))
 }

@@ -1,8 +1,9 @@
 // The certificate of the servers that short groups reach.
 
-ghost use Rattle.std.specs.Prelude.{◌≡◌, ◌<◌, ◌^◌, ◌||◌, ◌==◌, ℕ, true};
+ghost use Rattle.std.specs.Prelude.{◌≡◌, ◌≤◌, ◌<◌, ◌^◌, ◌||◌, ◌==◌, ℕ, true};
 ghost use Rattle.std.specs.Prelude.{IfNone, IfOk, IfSome, length, vec_len};
 ghost use Rattle.std.specs.List.{AllByRecursion, list_any};
+ghost use Rattle.hsp_text.specs.declared.limits.TheConstants.{MOST_SERVERS};
 ghost use Rattle.hsp_transport.specs.Lists.{flag_at};
 ghost use Rattle.hsp_instance.specs.RowArcs.{IsWithin};
 ghost use Rattle.hsp_price_text.specs.Claim.{is_short};
@@ -72,7 +73,7 @@ fn caught_demand(groups: &[RowGroup], reached: &[bool]) -> u64
 
 /// The certificate of the flagged servers: what groups ask for that can go nowhere else, in queries, and how many
 /// queries the servers take, those of a host no more than its limit. There is a flag for each server. It is None only
-/// where one of its numbers is past the limits of a certificate's text.
+/// where one of these two sums is above 10^16.
 ///
 /// # Errors
 ///
@@ -87,6 +88,7 @@ pub fn short_of(
         groups.now }
     requires demands { demand_in groups.now < 2 ^ 64 }
     requires reached { length reached.now ≡ length numbers.now.server_hosts.items }
+    requires few { length reached.now ≤ MOST_SERVERS }
     ensures short { IfOk result (λ found.
         IfSome found (IsShortageFor numbers.now groups.now reached.now)) }
     ensures within { IfOk result (λ found. IfSome found (λ short. is_short short ≡ true)) }

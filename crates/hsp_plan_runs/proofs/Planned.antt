@@ -15,8 +15,10 @@ use Rattle.hsp_price_check.specs.Classes.{service_of}
 use Rattle.hsp_price_check.specs.Passed.{capped}
 use Rattle.hsp_price_check.specs.PlanPass.{AreNumbersOf}
 use Rattle.hsp_price_check.specs.declared.numbers.ServiceNumbers.{ServiceNumbers}
+use Rattle.hsp_price_text.specs.Certificate.{IsCertificate}
 use Rattle.hsp_price_text.specs.Text.{text_of}
 use Rattle.hsp_price_text.specs.declared.certificate.PriceCertificate.{PriceCertificate}
+use Rattle.hsp_price_plan.specs.Limits.{AreTooLarge}
 use Rattle.hsp_price_plan.specs.Planning.{AreHeld, AreOfSome, IsFaultOf, IsValidFor, Outlasts}
 use Rattle.hsp_price_plan.specs.declared.fault.PlanFault.{PlanFault}
 use Rattle.hsp_price_plan.specs.declared.fault.PlanFault.TheVariants as plan_fault
@@ -27,7 +29,7 @@ use Rattle.hsp_stream.specs.KindsLog.{OfLog}
 use Rattle.hsp_stream.specs.declared.fault.StreamFault.{StreamFault}
 use Rattle.hsp_stream.specs.declared.fault.StreamFault.TheVariants.{OutOfMemory, TooLarge}
 use Rattle.hsp_plan_runs.specs.Holding.{HasHeld, IsFresh, IsHolder}
-use Rattle.hsp_plan_runs.specs.PlanRun.{AskTooMuch, HasPastGroups, IsPlanBy}
+use Rattle.hsp_plan_runs.specs.PlanRun.{AskTooMuch, IsPlanBy}
 use Rattle.hsp_plan_runs.specs.PricesText.{IsTextOf}
 use Rattle.hsp_plan_runs.specs.Taken.{AreTaken, AreTakenOfSome, IsTakenFault, IsValidForAll, fault_of_plan}
 use Rattle.hsp_plan_runs.specs.declared.holder.RowHolder.{RowHolder}
@@ -96,7 +98,7 @@ module _ (numbers : ServiceNumbers) (kept : List KeptRow) (asked : ℕ) (is : as
     plan_stops plan_fault.TooLarge past =
         inr (
           refl,
-          (λ at rows taken. inr (numbers, after, outlasts at rows (are_held less at rows taken), past)),
+          (λ at rows taken. inr (past at rows (outlasts at rows (are_held less at rows taken)))),
         )
 
 -- ---- the log
@@ -152,16 +154,17 @@ module _ {P : Type 0} (at : Service) (first now : RowHolder P) (fresh : IsFresh 
 
     -- that text is too long
     pub text_long : (certificate : PriceCertificate) → IsValidForAll numbers now.rows.rows certificate
-        → LARGEST_FILE < length (text_of certificate) → AnswersRecords (IsPlanBy at) (Err TooLarge) records
-    text_long certificate valid long =
-        answered (Err TooLarge) (λ rows taken. (refl, inr (inl (certificate, valid at rows taken, long))))
+        → IsCertificate certificate → LARGEST_FILE < length (text_of certificate)
+        → AnswersRecords (IsPlanBy at) (Err TooLarge) records
+    text_long certificate valid within long =
+        answered (Err TooLarge) (λ rows taken. (refl, inr (inl (certificate, valid at rows taken, within, long))))
 
     -- there is no certificate that a text may say
     pub rows_stop : ((own : Service) (rows : List Row) → AreTaken numbers own rows now.rows.rows
-        → AskTooMuch rows ⊎ HasPastGroups own rows)
+        → AskTooMuch rows ⊎ AreTooLarge own rows)
         → AnswersRecords (IsPlanBy at) (Err TooLarge) records
     rows_stop past =
         answered (Err TooLarge) (λ rows taken. (
           refl,
-          (elim (past at rows taken) [ inl much ↦ inl much | inr groups ↦ inr (inr groups) ]),
+          (elim (past at rows taken) [ inl much ↦ inl much | inr large ↦ inr (inr large) ]),
         ))

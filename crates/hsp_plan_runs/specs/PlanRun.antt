@@ -4,15 +4,13 @@ use Rattle.hsp_csv.specs.Records.{Fields}
 use Rattle.hsp_text.specs.declared.limits.TheConstants.{LARGEST_FILE}
 use Rattle.hsp_instance.specs.Instance.{Row}
 use Rattle.hsp_kinds.specs.Rows.{Service}
+use Rattle.hsp_price_text.specs.Certificate.{IsCertificate}
 use Rattle.hsp_price_text.specs.Text.{text_of}
 use Rattle.hsp_price_text.specs.declared.certificate.PriceCertificate.{PriceCertificate}
 use Rattle.hsp_classes.specs.Verdict.{IsVerdict}
 use Rattle.hsp_classes.specs.declared.verdict.PriceVerdict.TheVariants.{Yes}
-use Rattle.hsp_groups.specs.Rows.{KeptRow}
 use Rattle.hsp_headline.specs.declared.inputs.Inputs.{Inputs}
-use Rattle.hsp_price_check.specs.declared.numbers.ServiceNumbers.{ServiceNumbers}
-use Rattle.hsp_price_plan.specs.Planning.{AreHeld, IsFaultOf}
-use Rattle.hsp_price_plan.specs.declared.fault.PlanFault.TheVariants as plan_fault
+use Rattle.hsp_price_plan.specs.Limits.{AreTooLarge}
 use Rattle.hsp_price_runs.specs.PriceRun.{Answering, AnswersBy, AnswersRecords, IsPriceVerdict}
 use Rattle.hsp_price_runs.specs.PricesShown.{ShowsLog}
 use Rattle.hsp_stream.specs.declared.fault.StreamFault.{StreamFault}
@@ -32,22 +30,17 @@ pub record IsPlanText (at : Service) (rows : List Row) (text : PricesText) : Typ
 abbrev pub AskTooMuch : List Row → Type 0
 AskTooMuch rows = 2 ^ 63 ≤ sum_by (λ row. row.count) rows
 
--- a certificate is valid for them, and its text is longer than a file that is read whole
+-- a certificate is valid for them and within its limits, and its text is longer than a file that is read whole
 abbrev pub HasLongText : Service → List Row → Type 0
 HasLongText at rows =
-    (certificate : PriceCertificate) × IsVerdict at rows certificate Yes × (LARGEST_FILE < length (text_of certificate))
-
--- a certificate of their groups is past the limits of a text, or there are too many groups
-abbrev pub HasPastGroups : Service → List Row → Type 0
-HasPastGroups at rows =
-    (numbers : ServiceNumbers) × (kept : List KeptRow) × AreHeld numbers at rows kept
-    × IsFaultOf numbers kept plan_fault.TooLarge
+    (certificate : PriceCertificate) × IsVerdict at rows certificate Yes × IsCertificate certificate
+    × (LARGEST_FILE < length (text_of certificate))
 
 -- the text of a plan of the rows, or the fault that they are too large for one, with the reason
 abbrev pub IsPlanBy : Service → List Row → Result PricesText StreamFault → Type 0
 IsPlanBy at rows (Ok text) = IsPlanText at rows text
 IsPlanBy at rows (Err fault) =
-    (fault ≡ TooLarge) × (AskTooMuch rows ⊎ (HasLongText at rows ⊎ HasPastGroups at rows))
+    (fault ≡ TooLarge) × (AskTooMuch rows ⊎ (HasLongText at rows ⊎ AreTooLarge at rows))
 
 -- ---- the inputs
 

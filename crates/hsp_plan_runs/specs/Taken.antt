@@ -11,11 +11,12 @@ use Rattle.hsp_groups.specs.Solved.{AreRows}
 use Rattle.hsp_price_check.specs.PlanPass.{AreNumbersOf}
 use Rattle.hsp_price_check.specs.declared.numbers.ServiceNumbers.{ServiceNumbers}
 use Rattle.hsp_price_text.specs.declared.certificate.PriceCertificate.{PriceCertificate}
+use Rattle.hsp_price_plan.specs.Limits.{AreTooLarge}
 use Rattle.hsp_price_plan.specs.declared.fault.PlanFault.{PlanFault}
 use Rattle.hsp_price_plan.specs.declared.fault.PlanFault.TheVariants as plan_fault
 use Rattle.hsp_stream.specs.declared.fault.StreamFault.{StreamFault}
 use Rattle.hsp_stream.specs.declared.fault.StreamFault.TheVariants.{OutOfMemory, TooLarge}
-use Rattle.hsp_plan_runs.specs.PlanRun.{AskTooMuch, HasPastGroups}
+use Rattle.hsp_plan_runs.specs.PlanRun.{AskTooMuch}
 
 -- the rows in memory are those of the service
 pub record AreTaken (numbers : ServiceNumbers) (at : Service) (rows : List Row) (kept : List KeptRow) : Type 0 where
@@ -32,12 +33,12 @@ abbrev pub IsValidForAll : ServiceNumbers → List KeptRow → PriceCertificate 
 IsValidForAll numbers kept certificate =
     (at : Service) (rows : List Row) → AreTaken numbers at rows kept → IsVerdict at rows certificate Yes
 
--- memory ran out; or they ask for too much, or their groups are past the limits
+-- memory ran out; or they ask for too much, or are too large for a certificate
 abbrev pub IsTakenFault : ServiceNumbers → List KeptRow → StreamFault → Type 0
 IsTakenFault numbers kept fault =
     (fault ≡ OutOfMemory)
     ⊎ ((fault ≡ TooLarge)
-    × ((at : Service) (rows : List Row) → AreTaken numbers at rows kept → AskTooMuch rows ⊎ HasPastGroups at rows))
+    × ((at : Service) (rows : List Row) → AreTaken numbers at rows kept → AskTooMuch rows ⊎ AreTooLarge at rows))
 
 abbrev pub fault_of_plan : PlanFault → StreamFault
 fault_of_plan plan_fault.TooLarge = TooLarge

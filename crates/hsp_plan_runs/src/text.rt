@@ -2,6 +2,7 @@
 
 ghost use Rattle.std.specs.Prelude.{◌≡◌, ◌⊎◌, ◌<◌, IfErr, IfOk, length};
 ghost use Rattle.hsp_text.specs.declared.limits.TheConstants.{LARGEST_FILE};
+ghost use Rattle.hsp_price_text.specs.Certificate.{IsCertificate};
 ghost use Rattle.hsp_price_text.specs.Text.{text_of};
 ghost use Rattle.hsp_stream.specs.declared.fault.StreamFault.TheVariants.{OutOfMemory, TooLarge};
 ghost use Rattle.hsp_plan_runs.specs.PricesText.{IsTextOf};
@@ -20,6 +21,20 @@ pub enum PricesText {
     Shortage(Vec<u8>),
 }
 
+// A certificate is within its limits.
+fn show_limits(certificate: &PriceCertificate)
+    ensures { IsCertificate certificate.now }
+{
+    match certificate {
+        PriceCertificate::Plan(plan) => {
+            let _cost = plan.cost();
+        }
+        PriceCertificate::Shortage(short) => {
+            let _servers = short.servers();
+        }
+    }
+}
+
 /// The text of a certificate.
 ///
 /// # Errors
@@ -31,22 +46,16 @@ pub(crate) fn text_of(
 ) -> Result<PricesText, StreamFault>
     ensures text { IfOk result (IsTextOf certificate.now) }
     ensures fault { IfErr result (λ fault. (fault ≡ OutOfMemory)
-        ⊎ ((fault ≡ TooLarge) × (LARGEST_FILE < length (text_of certificate.now)))) }
+        ⊎ ((fault ≡ TooLarge) × IsCertificate certificate.now
+        × (LARGEST_FILE < length (text_of certificate.now)))) }
 {
+    show_limits(certificate);
     let text = write_prices(alloc, certificate)?;
     if text.len() > LARGEST_FILE {
         return Err(StreamFault::TooLarge);
     }
     match certificate {
-        PriceCertificate::Plan(plan) => {
-            // The plan is within its limits.
-            let _cost = plan.cost();
-            Ok(PricesText::Plan(text))
-        }
-        PriceCertificate::Shortage(short) => {
-            // So is the short set.
-            let _servers = short.servers();
-            Ok(PricesText::Shortage(text))
-        }
+        PriceCertificate::Plan(_) => Ok(PricesText::Plan(text)),
+        PriceCertificate::Shortage(_) => Ok(PricesText::Shortage(text)),
     }
 }

@@ -6,7 +6,8 @@ ghost use Rattle.std.specs.Prelude.{◌≡◌, ◌<◌, ◌^◌, All, IfOk, IfSo
 ghost use Rattle.std.specs.List.{AllByRecursion};
 ghost use Rattle.hsp_instance.specs.RowArcs.{IsWithin};
 ghost use Rattle.hsp_network.specs.Answer.{IsMet};
-ghost use Rattle.hsp_group_plans.specs.Solving.{HasArcsWithin, demand_in, group_network};
+ghost use Rattle.hsp_group_plans.specs.Pressing.{HasTextPrices};
+ghost use Rattle.hsp_group_plans.specs.Solving.{HasArcsWithin, HasFewArcs, demand_in, group_network};
 
 use crate::judging::says;
 use crate::same::is_same;
@@ -17,6 +18,7 @@ use hsp_instance::Arc;
 use hsp_network::{Outcome, PricedFlow};
 use hsp_price_check::{ServiceNumbers, numbers_of};
 use hsp_price_text::{PriceCertificate, PricedPlan, ShortServers};
+use hsp_text::limits::MOST_SITES;
 use std::alloc::{AllocError, Global};
 use std::process::Abort;
 
@@ -55,6 +57,18 @@ fn all_lead_within(groups: &[RowGroup], servers: usize) -> bool
     true
 }
 
+// Whether no group has more arcs than there may be sites.
+fn are_small(groups: &[RowGroup]) -> bool
+    ensures { IsTrue result → All HasFewArcs groups.now }
+{
+    for group in groups {
+        if group.arcs.len() > MOST_SITES {
+            return false;
+        }
+    }
+    true
+}
+
 // The groups, the first of which asks for so much.
 fn groups_by(alloc: Global, first: u32) -> Result<Vec<RowGroup>, AllocError>
     ensures { IfOk result (λ groups. demand_in groups.items < 2 ^ 63) }
@@ -73,11 +87,15 @@ fn groups_by(alloc: Global, first: u32) -> Result<Vec<RowGroup>, AllocError>
 fn network_once(alloc: Global, held: &Held, first: u32) -> Result<Groups, AllocError>
     ensures arcs { IfOk result (λ it.
         AllByRecursion (HasArcsWithin (length it.numbers.server_hosts.items)) it.groups.items) }
+    ensures few { IfOk result (λ it. AllByRecursion HasFewArcs it.groups.items) }
     ensures demand { IfOk result (λ it. demand_in it.groups.items < 2 ^ 63) }
 {
     let numbers = numbers_of(alloc, &held.instance)?;
     let groups = groups_by(alloc, first)?;
     if !all_lead_within(&groups, numbers.server_hosts.len()) {
+        return Err(AllocError);
+    }
+    if !are_small(&groups) {
         return Err(AllocError);
     }
     Ok(Groups { numbers, groups })
@@ -87,6 +105,7 @@ fn network_once(alloc: Global, held: &Held, first: u32) -> Result<Groups, AllocE
 fn network(rt: &impl Abort, alloc: Global, first: u32) -> Groups
     ensures arcs { AllByRecursion (HasArcsWithin (length result.numbers.server_hosts.items))
         result.groups.items }
+    ensures few { AllByRecursion HasFewArcs result.groups.items }
     ensures demand { demand_in result.groups.items < 2 ^ 63 }
 {
     let held = hold(rt, alloc, b"", NARROW);
@@ -100,9 +119,11 @@ fn network(rt: &impl Abort, alloc: Global, first: u32) -> Groups
 fn flow_once(alloc: Global, it: &Groups) -> Result<Option<PricedFlow>, AllocError>
     requires arcs { AllByRecursion (HasArcsWithin (length it.now.numbers.server_hosts.items))
         it.now.groups.items }
+    requires few { AllByRecursion HasFewArcs it.now.groups.items }
     requires demand { demand_in it.now.groups.items < 2 ^ 63 }
-    ensures { IfOk result (λ found.
+    ensures met { IfOk result (λ found.
         IfSome found (IsMet (group_network it.now.numbers it.now.groups.items))) }
+    ensures low { IfOk result (λ found. IfSome found HasTextPrices) }
 {
     match solve(alloc, &it.numbers, &it.groups)? {
         Some(Outcome::Met(flow)) => Ok(Some(flow)),
@@ -115,6 +136,7 @@ fn flow_once(alloc: Global, it: &Groups) -> Result<Option<PricedFlow>, AllocErro
 fn short_once(alloc: Global, it: &Groups) -> Result<Option<Vec<bool>>, AllocError>
     requires arcs { AllByRecursion (HasArcsWithin (length it.now.numbers.server_hosts.items))
         it.now.groups.items }
+    requires few { AllByRecursion HasFewArcs it.now.groups.items }
     requires demand { demand_in it.now.groups.items < 2 ^ 63 }
     ensures { IfOk result (λ found. IfSome found (λ set. length set.items ≡ length it.now.groups.items)) }
 {
@@ -144,6 +166,7 @@ fn groups_are_met_by_a_cheapest_flow(rt: HostRuntime) {
 fn plan_once(alloc: Global, it: &Groups) -> Result<Option<PricedPlan>, AllocError>
     requires arcs { AllByRecursion (HasArcsWithin (length it.now.numbers.server_hosts.items))
         it.now.groups.items }
+    requires few { AllByRecursion HasFewArcs it.now.groups.items }
     requires demand { demand_in it.now.groups.items < 2 ^ 63 }
 {
     match flow_once(alloc, it)? {

@@ -1,16 +1,17 @@
 -- Rows of a service, and their groups.
-use Rattle.std.proofs.Common.{◌≡◌, ◌∙◌, ◌∷◌, ℕ, List, Option, [], ap, arith, filter, inl, inr}
+use Rattle.std.proofs.Common.{◌≡◌, ◌≤◌, ◌∙◌, ◌∷◌, ℕ, List, Option, [], ap, arith, filter, inl, inr}
 use Rattle.std.proofs.Common.{length, map, refl, slice_index_or, subst, sym, true}
 use Rattle.std.specs.List.{AllByRecursion, AllZip}
 use Rattle.std.proofs.lemmas.Bool.{cases_Bool}
 use Rattle.std.proofs.lemmas.List.{length-map}
 use Rattle.std.proofs.lemmas.List.Elements.{All-from_recursion, recursion_from_All}
 use Rattle.std.proofs.lemmas.List.Folds.{Any-from_list_any}
-use Rattle.std.proofs.lemmas.List.Sums.{sum_by-cons}
+use Rattle.std.proofs.lemmas.List.Sums.{count_by-le-length, length-filter, sum_by-cons}
 use Rattle.hsp_tables.specs.Costs.{AreCosts}
 use Rattle.hsp_instance.specs.Instance.{Row, Server}
 use Rattle.hsp_instance.specs.RowArcs.{IsWithin}
 use Rattle.hsp_instance.specs.declared.arc.Arc.{Arc}
+use Rattle.hsp_instance.proofs.ArcLists.{arcs_few}
 use Rattle.hsp_instance.proofs.ArcsWithin.{arcs_within}
 use Rattle.hsp_kinds.specs.Rows.{Service}
 use Rattle.hsp_classes.specs.Least.{arcs_of}
@@ -22,7 +23,7 @@ use Rattle.hsp_price_check.specs.declared.numbers.ServiceNumbers.{ServiceNumbers
 use Rattle.hsp_kept_rows.specs.Held.{AreWithin}
 use Rattle.hsp_kept_rows.proofs.StillRows.{LeavesRows, still_rows}
 use Rattle.hsp_grouping.specs.Grouping.{asked_in}
-use Rattle.hsp_group_plans.specs.Solving.{HasArcsWithin}
+use Rattle.hsp_group_plans.specs.Solving.{HasArcsWithin, HasFewArcs}
 use Rattle.hsp_price_plan.specs.Planning.{AreOfSome, Outlasts}
 
 -- there are as many servers as numbers of them
@@ -82,6 +83,54 @@ groups_within n kept groups within are =
     (kept_within n row.arcs
     (All-from_recursion (λ (r : KeptRow). AllByRecursion (IsWithin n) (arcs_in r)) kept within found.0 found.1
     found.2)))
+
+-- ---- there are few of them
+
+-- there are as many rows in memory
+pub many_rows : (at : Service) (rows : List Row) (kept : List KeptRow) → AllZip (IsRow at) rows kept
+    → length rows ≡ length kept
+many_rows at [] [] all = refl
+many_rows at [] (own ∷ kept) all = absurd all
+many_rows at (row ∷ rows) [] all = absurd all
+many_rows at (row ∷ rows) (own ∷ kept) all = omega (arith, many_rows at rows kept all.1)
+
+-- a row has no more arcs than there are sites
+abbrev HasFew : KeptRow → Type 0
+HasFew row = length row.arcs ≤ 32
+
+few_of : (at : Service) → IsService at → (rows : List Row) (kept : List KeptRow) → AllZip (IsRow at) rows kept
+    → AllByRecursion HasFew kept
+few_of at service [] [] all = tt
+few_of at service [] (own ∷ kept) all = absurd all
+few_of at service (row ∷ rows) [] all = absurd all
+few_of at service (row ∷ rows) (own ∷ kept) all = (
+  omega (
+    arith,
+    ap (λ (arcs : List Arc). length arcs) all.0.arcs,
+    length-map own.arcs (λ (a : KeptArc). a.arc),
+    arcs_few at.costs row 0 0 at.sites,
+    service.sites.few,
+  ),
+  few_of at service rows kept all.1,
+)
+
+-- nor has a group
+pub groups_few : (at : Service) (rows : List Row) (kept : List KeptRow) (groups : List Group) → IsService at
+    → AllZip (IsRow at) rows kept → AreGroupsOf kept groups → AllByRecursion HasFewArcs groups
+groups_few at rows kept groups service all are =
+    recursion_from_All HasFewArcs groups (λ k d l.
+    let group = slice_index_or groups k d in
+    let found = Any-from_list_any (λ row. is_in group row) kept (are.used k d l) in
+    let row = slice_index_or kept found.0 found.1 in
+    let own : is_in group row ≡ true = ap (λ (r : KeptRow). is_in group r) found.3 ∙ found.4 in
+    omega (
+      arith,
+      ap (λ (arcs : List Arc). length arcs) (are.arcs found.0 found.1 found.2 k d l own),
+      length-map (filter (λ (a : KeptArc). a.is_kept) row.arcs) (λ (a : KeptArc). a.arc),
+      length-filter (λ (a : KeptArc). a.is_kept) row.arcs,
+      count_by-le-length (λ (a : KeptArc). a.is_kept) row.arcs,
+      All-from_recursion HasFew kept (few_of at service rows kept all) found.0 found.1 found.2,
+    ))
 
 -- ---- rows outlast a pass
 

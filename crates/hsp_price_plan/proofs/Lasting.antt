@@ -24,4 +24,4 @@ module _ (numbers : ServiceNumbers) (old new : List KeptRow) (lasts : Outlasts n
   -- a fault is theirs too
   pub fault_still : (fault : PlanFault) → IsFaultOf numbers new fault → IsFaultOf numbers old fault
   fault_still OutOfMemory is = tt
-  fault_still TooLarge is = (is.0, lasts_on is.0 is.1, is.2, is.3, is.4)
+  fault_still TooLarge is = λ at rows held. is at rows (lasts at rows held)

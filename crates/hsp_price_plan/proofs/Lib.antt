@@ -1,4 +1,6 @@
 pub mod HeldRows
-pub mod PlanShown
+pub mod RowRanges
+mod PastLimits
+mod PlanShown
 pub mod ShortShown
 pub mod Lasting

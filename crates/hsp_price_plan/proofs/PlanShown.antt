@@ -1,75 +1,32 @@
 -- A flow that meets the groups' network shows a valid certificate, where rows keep all arcs over which they pay least.
-use Rattle.std.proofs.Common.{◌≡◌, ◌∙◌, ◌<◌, ◌≤◌, ◌+◌, ◌*◌, ℕ, All, List, ap, arith, length, map, refl, slice_index}
-use Rattle.std.proofs.Common.{slice_index_or, subst, sym}
-use Rattle.std.specs.List.{AllByRecursion}
+use Rattle.std.proofs.Common.{◌≡◌, ◌∙◌, ℕ, true, false, inl, All, List, ap, length, map, refl, slice_index_or, subst}
+use Rattle.std.proofs.Common.{sym}
+use Rattle.std.proofs.Common.{zip}
 use Rattle.std.proofs.lemmas.List.{get_or-map, get_or_default, length-map}
+use Rattle.hsp_cert.specs.Certificate.{ascends}
 use Rattle.hsp_check.specs.Prices.{ArePrices}
-use Rattle.hsp_instance.specs.Instance.{Host, Server}
 use Rattle.hsp_instance.specs.declared.arc.Arc.{Arc}
 use Rattle.hsp_kinds.specs.Rows.{Service}
 use Rattle.hsp_network.specs.Answer.{IsMet}
 use Rattle.hsp_network.specs.Network.{Transport}
 use Rattle.hsp_network.specs.declared.network.PricedFlow.{PricedFlow}
-use Rattle.hsp_price_text.specs.Claim.{Best}
+use Rattle.hsp_price_text.specs.Claim.{Best, Class, is_before, is_best}
 use Rattle.hsp_price_text.specs.declared.certificate.PriceCertificate.TheVariants as certificate
 use Rattle.hsp_classes.specs.Least.{pay_over}
 use Rattle.hsp_groups.specs.Groups.{AreGroupsOf, Group, network_of_groups}
 use Rattle.hsp_groups.specs.Rows.{KeptRow, with_least}
+use Rattle.hsp_groups.specs.Solved.{flows_by, sent_to}
 use Rattle.hsp_groups.proofs.GroupsBest.{groups_show_best}
 use Rattle.hsp_price_check.specs.Extras.{AreExtras, pay_by}
 use Rattle.hsp_price_check.specs.PlanPass.{AreNumbersOf}
 use Rattle.hsp_price_check.specs.declared.numbers.ServiceNumbers.{ServiceNumbers}
 use Rattle.hsp_group_plans.specs.Planning.{IsPlanFor}
-use Rattle.hsp_group_plans.specs.Solving.{HasArcsWithin, group_network}
-use Rattle.hsp_group_plans.proofs.GroupNetwork.{costs_low}
+use Rattle.hsp_group_plans.specs.Pressing.{HasTextPrices}
+use Rattle.hsp_group_plans.specs.Solving.{group_network}
 use Rattle.hsp_price_check.proofs.PricePays.{same_pay}
-use Rattle.hsp_price_plan.specs.Planning.{AreOfSome, IsValidFor}
-
--- ---- prices
-
--- each number is low
-all_low : (limit : ℕ) (prices : List ℕ) → limit ≤ 1000000000000
-    → ((j : ℕ) → j < length prices → slice_index prices j ≤ limit) → ArePrices prices
-all_low limit prices few low k d l = omega (arith, low k l, get_or_default prices k d 0 l)
-
-module _ (numbers : ServiceNumbers) (groups : List Group) (flow : PricedFlow)
-    (within : AllByRecursion (HasArcsWithin (length numbers.server_hosts.items)) groups)
-    (few : length groups ≤ 997951) (met : IsMet (group_network numbers groups) flow) where
-  -- the greatest price that there may be
-  abbrev limit : ℕ
-  limit =
-      (length (map (λ (group : Group). group.demand) groups) + length numbers.capacities.items
-      + length numbers.limits.items + 1) * 1000000
-
-  -- it is at most the greatest price of a text
-  limit_low : (kept : List KeptRow) → AreOfSome numbers kept → limit ≤ 1000000000000
-  limit_low kept some =
-      let are = some.2.numbers_are in
-      omega (
-        arith,
-        few,
-        length-map groups (λ (group : Group). group.demand),
-        ap (λ (list : List ℕ). length list) are.capacities,
-        length-map some.0.servers (λ (server : Server). server.capacity),
-        some.2.service.servers.few,
-        ap (λ (list : List ℕ). length list) are.limits,
-        length-map some.0.hosts (λ (host : Host). host.limit),
-        some.2.service.hosts.few,
-      )
-
-  -- prices are within the limit of a text
-  pub server_prices_low : (kept : List KeptRow) → AreOfSome numbers kept → ArePrices flow.server_prices.items
-  server_prices_low kept some =
-      all_low limit flow.server_prices.items (limit_low kept some)
-      (met.low 1000000 (costs_low numbers groups within)).servers
-
-  -- and so are those of hosts
-  pub host_prices_low : (kept : List KeptRow) → AreOfSome numbers kept → ArePrices flow.host_prices.items
-  host_prices_low kept some =
-      all_low limit flow.host_prices.items (limit_low kept some)
-      (met.low 1000000 (costs_low numbers groups within)).hosts
-
--- ---- the certificate
+use Rattle.hsp_price_plan.specs.Planning.{IsFaultOf, IsValidFor}
+use Rattle.hsp_price_plan.specs.declared.fault.PlanFault.TheVariants.{TooLarge}
+use Rattle.hsp_price_plan.proofs.PastLimits.{plan_past}
 
 -- the network of the groups by the numbers of a service is that by its numbers
 pub same_network : (numbers : ServiceNumbers) (at : Service) (groups : List Group) → AreNumbersOf at numbers
@@ -108,3 +65,25 @@ module _ (numbers : ServiceNumbers) (kept : List KeptRow) (groups : List Group) 
         classes = own.classes;
         cost = own.cost;
       })
+
+  -- and where it is past the limits of a text, the rows are too large
+  pub plan_too_large : AreGroupsOf kept groups → IsMet (group_network numbers groups) flow
+      → AreExtras numbers.server_hosts.items flow.server_prices.items flow.host_prices.items extras
+      → map (with_least (pay_by extras)) kept ≡ kept → HasTextPrices flow → IsPlanFor numbers groups flow plan
+      → ascends is_before plan.classes ≡ true → is_best plan ≡ false → IsFaultOf numbers kept TooLarge
+  plan_too_large of_rows met extras_are settled low is order past at rows held =
+      let own = is at held.numbers_are in
+      let valid = plan_valid of_rows met extras_are settled is at rows held in
+      let many : All (λ (class : Class). length class.amounts ≡ length class.servers) plan.classes =
+      λ k d l.
+      let class = slice_index_or plan.classes k d in
+      ap (λ (amounts : List ℕ). length amounts) (own.classes.amounts k d l)
+      ∙ length-map class.servers
+      (sent_to (pay_over at plan) (zip groups (flows_by groups flow.flows.items)) class) in
+      inl (
+        certificate.Plan plan,
+        valid,
+        plan_past at rows plan held.service held.costs valid own.classes.several many order
+            (subst (λ (prices : List ℕ). ArePrices prices) (sym own.server_prices) low.servers)
+            (subst (λ (prices : List ℕ). ArePrices prices) (sym own.host_prices) low.hosts) past,
+      )

@@ -1,5 +1,5 @@
 -- Short groups show a valid certificate, where no row that only keeps arcs to the servers that they reach has another.
-use Rattle.std.proofs.Common.{◌≡◌, ◌∙◌, All, Bool, List, subst}
+use Rattle.std.proofs.Common.{◌≡◌, ◌∙◌, All, Bool, List, inl, subst}
 use Rattle.hsp_transport.specs.Lists.{flag_at}
 use Rattle.hsp_network.specs.Answer.{IsShortSet}
 use Rattle.hsp_network.specs.Network.{Transport}
@@ -9,9 +9,10 @@ use Rattle.hsp_groups.specs.Groups.{AreGroupsOf, Group}
 use Rattle.hsp_groups.specs.Rows.{KeptRow, with_leaving}
 use Rattle.hsp_groups.proofs.ShortShown.{groups_show_short}
 use Rattle.hsp_price_check.specs.declared.numbers.ServiceNumbers.{ServiceNumbers}
-use Rattle.hsp_group_plans.specs.Shortage.{AreReachedBy, IsShortageFor}
+use Rattle.hsp_group_plans.specs.Shortage.{AreReachedBy, IsShortageFor, IsShortagePast}
 use Rattle.hsp_group_plans.specs.Solving.{group_network}
-use Rattle.hsp_price_plan.specs.Planning.{IsValidFor}
+use Rattle.hsp_price_plan.specs.Planning.{IsFaultOf, IsValidFor}
+use Rattle.hsp_price_plan.specs.declared.fault.PlanFault.TheVariants.{TooLarge}
 use Rattle.hsp_price_plan.proofs.PlanShown.{same_network}
 
 -- the certificate of the servers that short groups reach is valid
@@ -32,3 +33,15 @@ short_valid numbers kept groups set reached short of_rows is_short are leaving i
       demand = own.demand;
       capacity = own.capacity;
     })
+
+-- and where it is past the limits of a text, the rows are too large
+pub short_too_large : (numbers : ServiceNumbers) (kept : List KeptRow) (groups : List Group) (set reached : List Bool)
+    → AreGroupsOf kept groups → IsShortSet (group_network numbers groups) set → AreReachedBy groups set reached
+    → All (λ row. with_leaving (flag_at reached) row ≡ row) kept → IsShortagePast numbers groups reached
+    → IsFaultOf numbers kept TooLarge
+short_too_large numbers kept groups set reached of_rows is_short are leaving past at rows held =
+    inl (
+      certificate.Shortage past.short,
+      short_valid numbers kept groups set reached past.short of_rows is_short are leaving past.is at rows held,
+      record { servers = past.servers; past = past.past },
+    )

@@ -8,7 +8,7 @@ use std::alloc::AllocError;
 /// Why there is no certificate of rows.
 #[derive(Clone, Copy, Debug, PartialEq, Eq, Drop)]
 pub enum PlanFault {
-    /// The certificate that was found is past a limit of its text, or rows are of too many groups.
+    /// The certificate is past a limit of its text, or there are too many rows of too many groups.
     TooLarge,
     /// Memory ran out.
     OutOfMemory,

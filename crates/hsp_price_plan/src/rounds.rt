@@ -1,12 +1,12 @@
 // Rounds over rows: their groups' network is solved, and what it shows is tested against all arcs.
 
-ghost use Rattle.std.specs.Prelude.{◌≡◌, ◌≤◌, ◌<◌, ◌⊎◌, ◌^◌, IfErr, IfOk, length};
+ghost use Rattle.std.specs.Prelude.{◌≡◌, ◌<◌, ◌^◌, IfErr, IfOk, length};
 ghost use Rattle.std.specs.List.{AllByRecursion};
 ghost use Rattle.hsp_network.specs.Answer.{IsMet, IsShortSet};
 ghost use Rattle.hsp_groups.specs.Groups.{AreGroupsOf};
+ghost use Rattle.hsp_group_plans.specs.Pressing.{HasTextPrices};
 ghost use Rattle.hsp_group_plans.specs.Solving.{HasArcsWithin, demand_in, group_network};
-ghost use Rattle.hsp_group_plans.specs.declared.network.TheConstants.{MOST_GROUPS};
-ghost use Rattle.hsp_price_plan.specs.Planning.{AreOfSome, IsFaultOf, IsRoundEnd, IsRoundFault, IsValidFor, Outlasts};
+ghost use Rattle.hsp_price_plan.specs.Planning.{AreOfSome, IsFaultOf, IsRoundEnd, IsValidFor, Outlasts};
 
 use crate::fault::PlanFault;
 use crate::progress::Progress;
@@ -38,12 +38,12 @@ fn plan_round(
     requires groups { AreGroupsOf rows.old.rows groups.now }
     requires arcs { AllByRecursion (HasArcsWithin (length numbers.now.server_hosts.items))
         groups.now }
-    requires few { length groups.now ≤ MOST_GROUPS }
     requires demand { demand_in groups.now < 2 ^ 63 }
     requires met { IsMet (group_network numbers.now groups.now) flow }
+    requires low { HasTextPrices flow }
     ensures end { IfOk result (IsRoundEnd numbers.now rows.old.rows rows.new.rows) }
     ensures lasts { Outlasts numbers.now rows.old.rows rows.new.rows }
-    ensures fault { IfErr result (IsRoundFault numbers.now rows.new.rows groups.now) }
+    ensures fault { IfErr result (IsFaultOf numbers.now rows.old.rows) }
 {
     let extras = extras_of(
         alloc,
@@ -78,7 +78,7 @@ fn short_round(
     requires short { IsShortSet (group_network numbers.now groups.now) set.now }
     ensures end { IfOk result (IsRoundEnd numbers.now rows.old.rows rows.new.rows) }
     ensures lasts { Outlasts numbers.now rows.old.rows rows.new.rows }
-    ensures fault { IfErr result (IsRoundFault numbers.now rows.new.rows groups.now) }
+    ensures fault { IfErr result (IsFaultOf numbers.now rows.old.rows) }
 {
     let reached = reached_by(alloc, numbers, groups, set)?;
     let leaving = rows.keep_leaving(&reached);
@@ -116,8 +116,9 @@ fn round(
 ///
 /// # Errors
 ///
-/// `TooLarge` where the certificate would pass a limit of its text, or rows are of more groups than are solved.
-/// `OutOfMemory` where memory runs out.
+/// `TooLarge` where each plan of the rows costs more than 10^16, a plan of them has more than 1,048,576 classes, a
+/// short set of servers has a sum above 10^16, or there are more than 67,108,864 rows. Only rows of more than
+/// 67,108,864 groups are too many. `OutOfMemory` where memory runs out.
 pub fn plan_rows<P: Progress>(
     alloc: Global,
     numbers: &ServiceNumbers,

@@ -88,7 +88,7 @@ module _ (net : Transport) (whole : IsNetwork net) (small : IsSmall net)
   pub scale_of : (greatest_cost price_bound longest_arc : ℕ)
       → ((k : ℕ) → k < length net.sources → slice_index net.costs k ≤ greatest_cost) →
       price_bound ≡ length supplies * greatest_cost → longest_arc ≡ price_bound + greatest_cost
-      → (length supplies + 1) * longest_arc < 18446744073709551615 →
+      → 2 * price_bound + longest_arc < 18446744073709551615 →
       Scale (first_of net) (length supplies) tails heads costs greatest_cost price_bound longest_arc
   scale_of greatest_cost price_bound longest_arc dear price_bound-is longest_arc-is fit = record {
     dear = λ k l. (ends k l).dear greatest_cost dear;
@@ -100,15 +100,14 @@ module _ (net : Transport) (whole : IsNetwork net) (small : IsSmall net)
     few = omega (arith, arcs.supplies.many, small.few);
   }
 
--- the greatest cost times the nodes fits
+-- three times what so many nodes cost at most fits
 pub costs_fit : (net : Transport) (nodes greatest_cost : ℕ) → IsSmall net → nodes ≡ first_of net + length net.demands
     → length net.costs ≡ length net.sources →
     (greatest_cost ≡ 0) ⊎ ((k : ℕ) × (k < length net.costs) × (slice_index net.costs k ≡ greatest_cost)) →
-    (nodes + 1) * ((nodes + 1) * greatest_cost) < 18446744073709551615
+    3 * ((nodes + 1) * greatest_cost) < 18446744073709551615
 costs_fit net nodes greatest_cost small is many (inl zero) =
     let a : (nodes + 1) * greatest_cost ≡ 0 = ap (λ n. (nodes + 1) * n) zero ∙ mul-zero (nodes + 1) in
-    let b : (nodes + 1) * ((nodes + 1) * greatest_cost) ≡ 0 = ap (λ n. (nodes + 1) * n) a ∙ mul-zero (nodes + 1) in
-    omega arith
+    omega (arith, a)
 costs_fit net nodes greatest_cost small is many (inr k) =
     let e : first_of net + length net.demands + 1 ≡ nodes + 1 = omega arith in
     let c = small.cheap k.0 (omega (arith, k.1)) in

@@ -324,10 +324,6 @@ module _ (n : Arcs) (f : Flow) (t : SearchTree) (held : ℕ → Option ℕ) (at 
                 | inl this ↦ rw this (omega (arith, depths.0, e.shallow))
                 | inr ne ↦ omega (arith, depths.1 v ne, e.counted.depth_low v l (omega (arith, distances.1 v ne)))
               ];
-              distance_low = λ v l q. elim (cases_eq v o.to) [
-                | inl this ↦ rw this (omega (arith, distances.0, near))
-                | inr ne ↦ omega (arith, distances.1 v ne, e.counted.distance_low v l (omega (arith, distances.1 v ne)))
-              ];
             };
           };
         }

@@ -1,25 +1,17 @@
 -- The turns of a search, from its start to its end.
 use Rattle.std.proofs.Common.{◌≡◌, ◌≢◌, ℕ, ◌+◌, ◌*◌, ◌<◌, ◌≤◌, inl, inr, Bool, true, false, length, slice_index, Option}
-use Rattle.std.proofs.Common.{Some, None, if◌then◌else◌, refl, ap, sym, ◌∙◌, arith, add-mul, mul-le-mul_right}
+use Rattle.std.proofs.Common.{Some, None, if◌then◌else◌, refl, ap, sym, ◌∙◌, arith, mul-le-mul_right}
 use Rattle.std.proofs.lemmas.Bool.{cases_eq, cases_lt}
 use Rattle.std.proofs.lemmas.List.{get_or_past}
 use Rattle.hsp_shortest_paths.specs.Frontier.{Changes, IsLeast}
 use Rattle.hsp_shortest_paths.specs.Residual.{Flow, Arcs, SearchTree, distance, from, nodes}
-use Rattle.hsp_shortest_paths.specs.Search.{Begun, Covers, Expanding, Running, Settled, Visit, settled_count}
-use Rattle.hsp_shortest_paths.specs.Search.{settled_test, top}
+use Rattle.hsp_shortest_paths.specs.Search.{Begun, Covers, Expanding, Ready, Running, Settled, Spread, Visit}
+use Rattle.hsp_shortest_paths.specs.Search.{settled_count, settled_test, top}
 use Rattle.hsp_network.specs.Sums.{sum_below}
 use Rattle.hsp_shortest_paths.proofs.Sums.{sum_below_low, sum_below_lt}
 use Rattle.hsp_shortest_paths.proofs.Directions.{from_in}
 use Rattle.hsp_shortest_paths.proofs.Searching.{fewer, taken, cases_option, root_only}
 use Rattle.hsp_shortest_paths.proofs.Expansion.{still_counted, test_from_settled}
-
--- every number on the way fits
-pub far_fits : (turn nodes longest_arc now near top : ℕ) → turn < nodes → now ≤ turn * longest_arc
-    → near ≤ now + longest_arc → (nodes + 1) * longest_arc < top → near + longest_arc < top
-far_fits turn nodes longest_arc now near top l early n small =
-    let a : (turn + 2) * longest_arc ≤ (nodes + 1) * longest_arc = let h : turn + 2 ≤ nodes + 1 = omega arith in
-    mul-le-mul_right longest_arc h in
-    omega (arith, add-mul turn 2 longest_arc)
 
 -- the search begins at a root that has flow to send
 pub begun : (n : Arcs) (f : Flow) (t : SearchTree) (held : ℕ → Option ℕ) (root : ℕ) → Covers n t → root < nodes n
@@ -49,9 +41,7 @@ begun n f t held root covers root-in away pos b = record {
   counted = record {
     settled = omega arith;
     depth_low = λ v l near. rw (root-only v l near) (omega (arith, b.depth_root));
-    distance_low = λ v l near. rw (root-only v l near) (omega (arith, b.distance_root));
   };
-  early = omega arith;
 }
   where
     is-root : (v d : ℕ) → held v ≡ Some d → v ≡ root
@@ -71,11 +61,25 @@ begun n f t held root covers root-in away pos b = record {
 
 module _ (n : Arcs) (f : Flow) (t : SearchTree) (held : ℕ → Option ℕ) (root turn : ℕ) (r : Running n f t held root turn)
   where
-    pub next_near : (node near : ℕ) → IsLeast held node near → near ≤ r.now + n.longest_arc
-    next_near node near least =
+    -- every number on the way fits
+    pub far_fits : Ready n f → Spread n f t root turn → turn ≤ nodes n → (node near : ℕ) → IsLeast held node near
+        → near + n.longest_arc < top
+    far_fits ready spread few node near least =
         let k : distance t node ≡ near = r.search.held_distance node near least.there in
         let low : near < top = r.search.held_low node near least.there in
-        omega (arith, r.counted.distance_low node (r.search.held_in node near least.there) (omega arith))
+        let in' : node < nodes n = r.search.held_in node near least.there in
+        let apart = spread.priced.apart node in' (omega (arith, k, low)) in
+        let turns : turn * n.greatest_cost ≤ nodes n * n.greatest_cost = mul-le-mul_right n.greatest_cost few in
+        omega (
+          arith,
+          k,
+          apart.0,
+          spread.within,
+          turns,
+          ready.low node in',
+          n.scale.limit_is,
+          n.scale.small,
+        )
 
     pub turned : (at : Visit) → at.root ≡ root → at.turn ≡ turn → (held' : ℕ → Option ℕ)
         → IsLeast held at.node at.distance → Changes held held' at.node None → at.node ≢ 0 →
@@ -107,7 +111,6 @@ module _ (n : Arcs) (f : Flow) (t : SearchTree) (held : ℕ → Option ℕ) (roo
                   (λ v l. still_counted held held' t t v (still v)) in
                   omega (arith, r.counted.settled);
               depth_low = λ v l q. omega (arith, r.counted.depth_low v l q);
-              distance_low = λ v l q. omega (arith, r.counted.distance_low v l q);
             };
           };
         }
@@ -128,12 +131,10 @@ module _ (n : Arcs) (f : Flow) (t : SearchTree) (held : ℕ → Option ℕ) (roo
         at-most-one false = omega arith
 
 -- after a node's arcs were looked at
-pub went : (n : Arcs) (f : Flow) (t : SearchTree) (held : ℕ → Option ℕ) (at : Visit) (now : ℕ)
-    → at.distance ≤ now + n.longest_arc → now ≤ at.turn * n.longest_arc →
-    Expanding n f t held at (λ _ _. Unit {0}) → Running n f t held at.root (at.turn + 1)
-went n f t held at now near early e = record {
+pub went : (n : Arcs) (f : Flow) (t : SearchTree) (held : ℕ → Option ℕ) (at : Visit)
+    → Expanding n f t held at (λ _ _. Unit {0}) → Running n f t held at.root (at.turn + 1)
+went n f t held at e = record {
   now = at.distance;
   search = fewer n f t held at.root at.distance _ _ (λ k d l wide look q. tt) e.search;
   counted = e.counted;
-  early = omega (arith, add-mul at.turn 1 n.longest_arc);
 }

@@ -19,5 +19,5 @@ pub record Scale (first nodes : ℕ) (tails heads costs : List ℕ) (greatest_co
   pub low : (k : ℕ) → k < length tails → slice_index heads k < first
   pub limit_is : price_bound ≡ nodes * greatest_cost
   pub step_is : longest_arc ≡ price_bound + greatest_cost
-  pub small : (nodes + 1) * longest_arc < 18446744073709551615
+  pub small : 2 * price_bound + longest_arc < 18446744073709551615
   pub few : nodes < 4294967296

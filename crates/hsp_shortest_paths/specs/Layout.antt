@@ -57,13 +57,13 @@ pub record SuppliesOf (net : Transport) (supplies : List ℕ) : Type 0 where
   pub node : (v : ℕ) → v < first_of net → slice_index supplies v ≡ 0
   pub source : (i : ℕ) → i < length net.demands → slice_index supplies (first_of net + i) ≡ slice_index net.demands i
 
--- every number on the way fits: the nodes have numbers, and a path's cost and a demand are below the greatest number
+-- every number on the way fits: the nodes have numbers, and a demand and three times a path's cost are below the
+-- greatest number
 pub record IsSmall (net : Transport) : Type 0 where
   pub few : first_of net + length net.demands + 1 < 4294967296
   pub few_arcs : base_of net + length net.sources < 4294967296
   pub cheap : (k : ℕ) → k < length net.sources →
-      (first_of net + length net.demands + 1) *
-      ((first_of net + length net.demands + 1) * slice_index net.costs k) < 18446744073709551615
+      3 * ((first_of net + length net.demands + 1) * slice_index net.costs k) < 18446744073709551615
   pub low : (i : ℕ) → i < length net.demands → slice_index net.demands i < 18446744073709551615
 
 -- the lists of a network's arcs

@@ -140,11 +140,10 @@ settled_test held t v = is_none (held v) && nat_lt (slice_index t.distance.now v
 abbrev pub settled_count : Arcs → (ℕ → Option ℕ) → SearchTree → ℕ
 settled_count n held t = sum_below (nodes n) (λ v. if settled_test held t v then 1 else 0)
 
--- at least `turn` nodes are settled, no reached node is deeper than that, or farther than `far`
-pub record Counted (n : Arcs) (t : SearchTree) (held : ℕ → Option ℕ) (turn far : ℕ) : Type 0 where
+-- at least `turn` nodes are settled, and no reached node is deeper than that
+pub record Counted (n : Arcs) (t : SearchTree) (held : ℕ → Option ℕ) (turn : ℕ) : Type 0 where
   pub settled : turn ≤ settled_count n held t
   pub depth_low : (v : ℕ) → v < nodes n → distance t v < top → slice_index t.depth.now v ≤ turn
-  pub distance_low : (v : ℕ) → v < nodes n → distance t v < top → distance t v ≤ far
 
 -- the node is settled in its turn
 pub record IsVisited (n : Arcs) (t : SearchTree) (held : ℕ → Option ℕ) (at : Visit) : Type 0 where
@@ -152,7 +151,7 @@ pub record IsVisited (n : Arcs) (t : SearchTree) (held : ℕ → Option ℕ) (at
   pub here : distance t at.node ≡ at.distance
   pub node_in : at.node < nodes n
   pub shallow : slice_index t.depth.now at.node < at.turn + 1
-  pub counted : Counted n t held (at.turn + 1) (at.distance + n.longest_arc)
+  pub counted : Counted n t held (at.turn + 1)
 
 -- and those of its residual arcs which were `seen` are relaxed
 pub record Expanding (n : Arcs) (f : Flow) (t : SearchTree) (held : ℕ → Option ℕ) (at : Visit)
@@ -181,8 +180,7 @@ pub record Begun (t : SearchTree) (held : ℕ → Option ℕ) (root amount : ℕ
 pub record Running (n : Arcs) (f : Flow) (t : SearchTree) (held : ℕ → Option ℕ) (root turn : ℕ) : Type 0 where
   pub now : ℕ
   pub search : Search n f t held root now (λ _ _. Unit {0})
-  pub counted : Counted n t held turn (now + n.longest_arc)
-  pub early : now ≤ turn * n.longest_arc
+  pub counted : Counted n t held turn
 
 -- the search came to the sink: no residual arc undercuts the distance of a node that is nearer
 pub record Found (n : Arcs) (f : Flow) (t : SearchTree) (root : ℕ) : Type 0 where

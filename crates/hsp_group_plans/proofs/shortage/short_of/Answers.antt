@@ -1,9 +1,10 @@
-use Rattle.std.proofs.Common.{◌≡◌, ◌∙◌, length, arith}
+use Rattle.std.proofs.Common.{◌≡◌, ◌∙◌, length, arith, inr}
 use Rattle.hsp_flow.specs.Planning.{flagged_from}
 use Rattle.hsp_price_text.specs.Claim.{if_short}
 use Rattle.hsp_price_check.specs.SetPass.{capacity_by}
 use Rattle.hsp_group_plans.specs.Shortage.{IsShortageFor, IsShortagePast}
-use Rattle.hsp_group_plans.proofs.ShortageParts.{flags_are, is_shortage, none_short, past_capacity, short_by}
+use Rattle.hsp_group_plans.proofs.ShortageParts.{flags_are, is_shortage, none_short, past_sums, servers_ordered}
+use Rattle.hsp_group_plans.proofs.ShortageParts.{short_by}
 use Rattle.hsp_group_plans.proofs.ShortageParts.{some_short}
 use Rattle.hsp_group_plans.proofs.shortage.short_of.Goals as goal
 
@@ -17,7 +18,8 @@ returns-in_default-clause-none c =
     record {
       short = short_by numbers groups reached;
       is = is_shortage numbers groups reached c.requires.reached;
-      past = past_capacity (short_by numbers groups reached) (omega (arith, capacity, c.in_default.ensures));
+      servers = servers_ordered reached c.requires.few;
+      past = inr (omega (arith, capacity, c.in_default.ensures));
     }
 
 pub returns-clause-short : goal.returns-clause-short
@@ -47,5 +49,6 @@ returns-clause-none c =
     record {
       short = short_by numbers groups reached;
       is = is_shortage numbers groups reached c.requires.reached;
-      past = past;
+      servers = servers_ordered reached c.requires.few;
+      past = past_sums (short_by numbers groups reached) (servers_ordered reached c.requires.few) past;
     })

@@ -6,6 +6,7 @@ use Rattle.hsp_price_check.specs.Classes.{service_of}
 use Rattle.hsp_price_runs.specs.LogRows.{log_rows}
 use Rattle.hsp_price_runs.specs.Passing.{TakesRows}
 use Rattle.hsp_price_runs.specs.PriceRun.{AnswersRecords}
+use Rattle.hsp_price_text.specs.Certificate.{IsCertificate}
 use Rattle.hsp_price_text.specs.Text.{text_of}
 use Rattle.hsp_stream.specs.KindsLog.{OfLog}
 use Rattle.hsp_stream.specs.Watching.{MayStopReading}
@@ -96,8 +97,9 @@ returns-clause-fault g c =
     let certificate = c.in_ok-certificate.certificate in
     IfErr-weaker c.text_of.result
     (λ (fault : StreamFault). (fault ≡ OutOfMemory)
-    ⊎ ((fault ≡ TooLarge) × (LARGEST_FILE < length (text_of certificate))))
-    (λ (fault : StreamFault). MayStopReading (g.R.Source.may_read_fail c.args.log) fault ⊎ OfLog log (AnswersRecords (IsPlanBy at) (Err fault)))
+    ⊎ ((fault ≡ TooLarge) × IsCertificate certificate × (LARGEST_FILE < length (text_of certificate))))
+    (λ (fault : StreamFault).
+    MayStopReading (g.R.Source.may_read_fail c.args.log) fault ⊎ OfLog log (AnswersRecords (IsPlanBy at) (Err fault)))
     (λ fault told. elim told [
       | inl memory ↦ inl (inl memory)
       | inr long ↦
@@ -106,6 +108,6 @@ returns-clause-fault g c =
           (log_more (λ records. TakesRows HasHeld (log_rows records) first now)
           (AnswersRecords (IsPlanBy at) (Err TooLarge)) log
           (λ records takes.
-          text_long at first now fresh numbers are records takes certificate c.in_ok-certificate.ensures.valid long.1)
-          passed))
+          text_long at first now fresh numbers are records takes certificate c.in_ok-certificate.ensures.valid long.1
+          long.2) passed))
     ]) c.text_of.ensures.fault

@@ -1,27 +1,21 @@
-use Rattle.std.proofs.Common.{◌≡◌, ◌∙◌, IfSome, arith, inl, List, ℕ, ap, length, map, subst, sym}
-use Rattle.hsp_group_plans.specs.Planning.{IsPlanFor}
+use Rattle.std.proofs.Common.{◌≡◌, ◌∙◌, IfSome, arith, List, ℕ, ap, length, map, subst, sym}
+use Rattle.hsp_group_plans.specs.Planning.{IsPlanFor, IsPlanPast}
 use Rattle.hsp_check.specs.Prices.{ArePrices}
 use Rattle.hsp_groups.specs.Rows.{with_least}
 use Rattle.hsp_kept_rows.specs.Held.{AreWithin, HeldRows}
 use Rattle.hsp_kept_rows.proofs.StillRows.{least_leaves}
 use Rattle.hsp_price_check.specs.Extras.{AreExtras, pay_by}
-use Rattle.hsp_groups.specs.Groups.{AreGroupsOf}
-use Rattle.hsp_price_plan.specs.Planning.{IsPast}
 use Rattle.hsp_price_plan.proofs.HeldRows.{held_still, rows_within}
-use Rattle.hsp_price_plan.proofs.PlanShown.{all_settled, host_prices_low, plan_valid, server_prices_low}
+use Rattle.hsp_price_plan.proofs.PlanShown.{plan_too_large, plan_valid}
 use Rattle.hsp_price_plan.proofs.rounds.plan_round.Goals as goal
 
 pub extras_of-requires-clause-low : goal.extras_of-requires-clause-low
 extras_of-requires-clause-low c =
-    subst (λ (prices : List ℕ). ArePrices prices) (sym c.deref-2.ensures.value)
-    (server_prices_low c.args.numbers.now c.args.groups.now c.args.flow c.requires.arcs c.requires.few c.requires.met
-    c.args.rows.now.rows c.requires.rows)
+    subst (λ (prices : List ℕ). ArePrices prices) (sym c.deref-2.ensures.value) c.requires.low.servers
 
 pub extras_of-requires-clause-low_hosts : goal.extras_of-requires-clause-low_hosts
 extras_of-requires-clause-low_hosts c =
-    subst (λ (prices : List ℕ). ArePrices prices) (sym c.deref-3.ensures.value)
-    (host_prices_low c.args.numbers.now c.args.groups.now c.args.flow c.requires.arcs c.requires.few c.requires.met
-    c.args.rows.now.rows c.requires.rows)
+    subst (λ (prices : List ℕ). ArePrices prices) (sym c.deref-3.ensures.value) c.requires.low.hosts
 
 pub keep_least-kept-requires-clause-within : goal.keep_least-kept-requires-clause-within
 keep_least-kept-requires-clause-within c =
@@ -58,7 +52,6 @@ returns-in-Some-clause-end c =
 pub returns-clause-fault : goal.returns-clause-fault
 returns-clause-fault c =
     let numbers = c.args.numbers.now in
-    let groups = c.args.groups.now in
     let kept = c.args.rows.now.rows in
     let flow = c.args.flow in
     let extras = c.deref-4.result.now in
@@ -69,15 +62,6 @@ returns-clause-fault c =
     c.keep_least-kept.ensures.settled (omega (arith, c.if-kept-gt0.false)) in
     let settled : map (with_least (pay_by extras)) kept ≡ kept =
     ap (λ (held : HeldRows). held.rows) (sym c.keep_least-kept.ensures.kept ∙ same) in
-    subst (λ (held : HeldRows). AreGroupsOf held.rows groups × IsPast numbers held.rows groups) (sym same) (
-      c.requires.groups,
-      inl
-          (record {
-            flow = flow;
-            met = c.requires.met;
-            extras = extras;
-            extras_are = are;
-            least = all_settled (with_least (pay_by extras)) kept settled;
-            past = rw c.in-None.is at c.in_ok-plan.ensures.none;
-          }),
-    )
+    let past : IsPlanPast numbers c.args.groups.now flow = rw c.in-None.is at c.in_ok-plan.ensures.none in
+    plan_too_large numbers kept c.args.groups.now flow extras past.plan c.requires.groups c.requires.met are settled
+    c.requires.low past.is past.order past.past

@@ -1,9 +1,9 @@
-use Rattle.std.proofs.Common.{◌∙◌, Bool, List, length, subst, sym}
+use Rattle.std.proofs.Common.{◌∙◌, Bool, List, ap, arith, inr, length, refl, subst, sym}
 use Rattle.std.specs.List.{AllByRecursion}
 use Rattle.hsp_network.specs.Answer.{Answers, IsShortSet}
 use Rattle.hsp_groups.specs.Groups.{Group}
-use Rattle.hsp_group_plans.specs.Solving.{HasArcsWithin, group_network}
-use Rattle.hsp_price_plan.proofs.HeldRows.{groups_within, rows_within}
+use Rattle.hsp_group_plans.specs.Solving.{HasArcsWithin, HasFewArcs, group_network}
+use Rattle.hsp_price_plan.proofs.HeldRows.{groups_few, groups_within, many_rows, rows_within}
 use Rattle.hsp_price_plan.proofs.rounds.round.Goals as goal
 
 pub solve-requires-clause-arcs : goal.solve-requires-clause-arcs
@@ -50,3 +50,22 @@ short_round-requires-clause-short c =
     (c.deref.ensures.value ∙ sym c.deref-in-Some-Short.ensures.value) short in
     subst (λ (set : List Bool). IsShortSet (group_network numbers c.deref-in-Some-Short.result.now) set)
     (sym c.deref-in-Some-Short-2.ensures.value) by_groups
+
+pub solve-requires-clause-few_arcs : goal.solve-requires-clause-few_arcs
+solve-requires-clause-few_arcs c =
+    let held = c.requires.2 in
+    subst (λ (groups : List Group). AllByRecursion HasFewArcs groups) (sym c.deref.ensures.value)
+    (groups_few c.requires.0 c.requires.1 c.args.rows.now.rows c.in_ok-groups.groups.items held.service held.rows_are
+    (c.in_ok-groups.ensures.grouped c.requires.0 c.requires.1 held.service held.rows_are))
+
+pub returns-clause-fault : goal.returns-clause-fault
+returns-clause-fault c at rows held =
+    let more = (rw c.in-None.is at c.in_ok-flow.ensures.none).0 refl in
+    inr
+    (omega (
+      arith,
+      more,
+      ap (λ (groups : List Group). length groups) c.deref.ensures.value,
+      c.in_ok-groups.ensures.few,
+      many_rows at rows c.args.rows.now.rows held.rows_are,
+    ))

@@ -1,14 +1,12 @@
-use Rattle.std.proofs.Common.{◌≡◌, ◌∙◌, All, Bool, IfSome, List, ap, arith, inl, inr, length, map, subst, sym}
+use Rattle.std.proofs.Common.{◌≡◌, ◌∙◌, All, Bool, IfSome, List, ap, arith, length, map, subst, sym}
 use Rattle.hsp_transport.specs.Lists.{flag_at}
-use Rattle.hsp_groups.specs.Groups.{AreGroupsOf}
 use Rattle.hsp_groups.specs.Rows.{with_leaving}
 use Rattle.hsp_kept_rows.specs.Held.{AreWithin, HeldRows}
 use Rattle.hsp_kept_rows.proofs.StillRows.{leaving_leaves}
 use Rattle.hsp_group_plans.specs.Shortage.{IsShortageFor, IsShortagePast}
-use Rattle.hsp_price_plan.specs.Planning.{IsPast}
-use Rattle.hsp_price_plan.proofs.HeldRows.{held_still, rows_within}
+use Rattle.hsp_price_plan.proofs.HeldRows.{held_still, rows_within, same_many}
 use Rattle.hsp_price_plan.proofs.PlanShown.{all_settled}
-use Rattle.hsp_price_plan.proofs.ShortShown.{short_valid}
+use Rattle.hsp_price_plan.proofs.ShortShown.{short_too_large, short_valid}
 use Rattle.hsp_price_plan.proofs.rounds.short_round.Goals as goal
 
 pub keep_leaving-leaving-requires : goal.keep_leaving-leaving-requires
@@ -17,6 +15,17 @@ keep_leaving-leaving-requires c =
     let many : length numbers.server_hosts.items ≡ length c.deref.result.now =
     omega (arith, c.in_ok-reached.ensures.many, c.deref.ensures.len) in
     subst (λ n. AreWithin n c.args.rows.now.rows) many (rows_within numbers c.args.rows.now.rows c.requires.rows)
+
+pub short_of-requires-clause-few : goal.short_of-requires-clause-few
+short_of-requires-clause-few c =
+    let held = c.requires.rows.2 in
+    omega (
+      arith,
+      c.in_ok-reached.ensures.many,
+      c.deref-2.ensures.len,
+      same_many c.args.numbers.now c.requires.rows.0 held.numbers_are,
+      held.service.servers.few,
+    )
 
 pub returns-then-leaving-gt0-clause-lasts : goal.returns-then-leaving-gt0-clause-lasts
 returns-then-leaving-gt0-clause-lasts c =
@@ -59,16 +68,5 @@ returns-clause-fault c =
     let past : IsShortagePast numbers groups reached =
     subst (λ (flags : List Bool). IsShortagePast numbers groups flags) c.deref-2.ensures.value
     (rw c.in-None.is at c.in_ok-short.ensures.none) in
-    subst (λ (held : HeldRows). AreGroupsOf held.rows groups × IsPast numbers held.rows groups) (sym same) (
-      c.requires.groups,
-      inr
-          (inl
-          (record {
-            set = c.args.set.now;
-            short = c.requires.short;
-            reached = reached;
-            are = c.in_ok-reached.ensures.reached;
-            leaving = leaving;
-            past = past;
-          })),
-    )
+    short_too_large numbers kept groups c.args.set.now reached c.requires.groups c.requires.short
+    c.in_ok-reached.ensures.reached leaving past

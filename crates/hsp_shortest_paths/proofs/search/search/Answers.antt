@@ -1,7 +1,7 @@
 use Rattle.std.proofs.Common.{length, refl, ◌∙◌, arith}
 use Rattle.hsp_shortest_paths.proofs.Arrival.{spread_begun, spread_later}
 use Rattle.hsp_shortest_paths.proofs.Searching.{arrived, closed}
-use Rattle.hsp_shortest_paths.proofs.Turns.{begun, turned, went, next_near, far_fits, all_done}
+use Rattle.hsp_shortest_paths.proofs.Turns.{begun, turned, went, far_fits, all_done}
 use Rattle.hsp_shortest_paths.proofs.search.search.Goals as goal
 
 pub loop-turn-init : goal.loop-turn-init
@@ -29,19 +29,15 @@ expand-requires-clause-expanding g c =
 
 pub expand-requires-clause-far : goal.expand-requires-clause-far
 expand-requires-clause-far g c =
-    let r = c.loop-turn.invariant.0 in
-    far_fits c.loop-turn.turn (length c.args.arcs.now.supplies.now) c.args.arcs.now.longest_arc r.now _ _
-    (omega arith) r.early
-    (next_near _ _ _ _ _ _ r _ _ c.in-Some.ensures.least) c.args.arcs.now.scale.small
+    far_fits _ _ _ _ _ _ c.loop-turn.invariant.0 c.requires.ready c.loop-turn.invariant.2 (omega arith) _ _
+    c.in-Some.ensures.least
 
 pub loop-turn-preserved : goal.loop-turn-preserved
-loop-turn-preserved g c =
-    let r = c.loop-turn.invariant.0 in
-    let near = next_near _ _ _ _ _ _ r _ _ c.in-Some.ensures.least in (
-      went _ _ _ _ _ _ near r.early c.in_ok-expand.ensures.ok,
-      c.expand.ensures.count ∙ c.take_least.ensures.nodes ∙ c.loop-turn.invariant.1,
-      c.in_ok-expand.ensures.spread c.loop-turn.invariant.2,
-    )
+loop-turn-preserved g c = (
+  went _ _ _ _ _ c.in_ok-expand.ensures.ok,
+  c.expand.ensures.count ∙ c.take_least.ensures.nodes ∙ c.loop-turn.invariant.1,
+  c.in_ok-expand.ensures.spread c.loop-turn.invariant.2,
+)
 
 pub returns-clause-none : goal.returns-clause-none
 returns-clause-none g c = λ _.

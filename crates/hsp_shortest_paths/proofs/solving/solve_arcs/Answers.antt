@@ -26,13 +26,11 @@ invariant_of-arcs-clause-scale g c =
     let fit =
     costs_fit (problem_of c.args.network.now) (length c.args.lists.supplies.now) c.greatest-greatest_cost.result
     c.requires.small c.requires.arcs_of.supplies.many whole.costs_many c.greatest-greatest_cost.ensures.attained in
-    let longest_arc : length c.args.lists.supplies.now * c.greatest-greatest_cost.result
-    + c.greatest-greatest_cost.result ≡ (length c.args.lists.supplies.now + 1) * c.greatest-greatest_cost.result =
-    omega (
-      arith,
-      add-mul (length c.args.lists.supplies.now) 1 c.greatest-greatest_cost.result,
-      one-mul c.greatest-greatest_cost.result,
-    ) in
     scale_of (problem_of c.args.network.now) whole c.requires.small _ _ _ _ _ c.requires.arcs_of _ _ _
     (λ k l. c.greatest-greatest_cost.ensures.bound k (omega (arith, whole.costs_many))) refl refl
-    (rw longest_arc fit)
+    (omega (
+      arith,
+      fit,
+      add-mul (length c.args.lists.supplies.now) 1 c.greatest-greatest_cost.result,
+      one-mul c.greatest-greatest_cost.result,
+    ))

@@ -1,4 +1,4 @@
-use Rattle.std.proofs.Common.{◌≡◌, ℕ, ◌+◌, ◌-◌, ◌<◌, length, slice_index, ap, refl, sym, ◌∙◌, arith, add-mul}
+use Rattle.std.proofs.Common.{◌≡◌, ℕ, ◌+◌, ◌-◌, ◌<◌, length, slice_index, ap, refl, sym, ◌∙◌, arith}
 use Rattle.hsp_shortest_paths.proofs.Arrival.{tree_by, raised_low}
 use Rattle.hsp_shortest_paths.proofs.Raising.{sound_same}
 use Rattle.hsp_shortest_paths.proofs.Sums.{only_there}
@@ -18,12 +18,7 @@ update_potentials-requires-clause-fits g c = λ v l.
     let low =
     raised_low _ _ _ _ ready.sound (c.in_ok-search.ensures.found c.if-not-branch.false)
     (c.in_ok-search.ensures.spread c.if-not-branch.false) ready.low v in' in
-    omega (
-      arith,
-      c.args.arcs.now.scale.small,
-      c.args.arcs.now.scale.step_is,
-      add-mul (length c.args.arcs.now.supplies.now) 1 c.args.arcs.now.longest_arc,
-    )
+    omega (arith, low, same, c.args.arcs.now.scale.small)
 
 pub returns-clause-others : goal.returns-clause-others
 returns-clause-others g c =
