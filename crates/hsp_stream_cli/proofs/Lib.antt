@@ -1,2 +1,3 @@
 pub mod Lent
 mod FaultLists
+mod FailedReads

@@ -6,7 +6,8 @@ use Rattle.hsp_cli.specs.declared.failure.Failure.TheVariants.{Memory, Refused}
 use Rattle.hsp_price_runs.specs.PriceRun.{IsPriceVerdict}
 use Rattle.hsp_price_runs.specs.PricesShown.{ShowsLog}
 use Rattle.hsp_price_runs.specs.PriceVerdictText.{verdict_status, verdict_text}
-use Rattle.hsp_stream.specs.KindsLog.{IsReadFault, OfLog}
+use Rattle.hsp_stream.specs.KindsLog.{OfLog}
+use Rattle.hsp_stream.specs.Watching.{MayStopReading}
 use Rattle.hsp_stream.specs.declared.fault.StreamFault.{StreamFault}
 use Rattle.hsp_stream_cli.specs.Printing.{Ended, PrintsWith}
 use Rattle.hsp_stream_cli.specs.declared.files.Priced.{Priced}
@@ -19,9 +20,9 @@ IsShownVerdict priced left verdict =
     × (verdict ≡ Yes → OfLog left (ShowsLog priced.inputs priced.prices.items))
 
 -- why there is none
-abbrev pub IsVerdictFault : Priced → Option (List ℕ) → StreamFault → Type 0
-IsVerdictFault priced left fault =
-    IsReadFault fault
+abbrev pub IsVerdictFault : Type 0 → Priced → Option (List ℕ) → StreamFault → Type 0
+IsVerdictFault MayReadFail priced left fault =
+    MayStopReading MayReadFail fault
     ⊎ OfLog left (λ records. IsPriceVerdict priced.inputs priced.prices.items records (Err fault))
 
 -- the line of a verdict is printed, and its status returned; or nothing was written, since memory ran out
@@ -31,7 +32,8 @@ PrintsLine MayFail verdict old new ended =
     ⊎ PrintsWith (verdict_status verdict) MayFail (verdict_text verdict) old new ended
 
 -- the verdict is printed; or nothing was written, and its fault is returned
-abbrev pub PrintsVerdict : Type 0 → Priced → Option (List ℕ) → Option (List ℕ) → Option (List ℕ) → Ended → Type 0
-PrintsVerdict MayFail priced left old new ended =
+abbrev pub PrintsVerdict : Type 0 → Type 0 → Priced → Option (List ℕ) → Option (List ℕ) → Option (List ℕ) → Ended
+    → Type 0
+PrintsVerdict MayReadFail MayFail priced left old new ended =
     ((verdict : PriceVerdict) × IsShownVerdict priced left verdict × PrintsLine MayFail verdict old new ended)
-    ⊎ ((fault : StreamFault) × IsVerdictFault priced left fault × (new ≡ old) × (ended ≡ Err (Refused fault)))
+    ⊎ ((fault : StreamFault) × IsVerdictFault MayReadFail priced left fault × (new ≡ old) × (ended ≡ Err (Refused fault)))

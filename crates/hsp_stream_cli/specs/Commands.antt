@@ -24,7 +24,7 @@ use Rattle.hsp_price_answers.specs.declared.front_words.FrontChoice.{FrontChoice
 use Rattle.hsp_stream.specs.declared.kinds_files.KindsInputs.{KindsInputs}
 use Rattle.hsp_stream.specs.declared.portions.PortionWords.{PortionWords}
 use Rattle.hsp_stream_cli.specs.Checking.{PrintsVerdict}
-use Rattle.hsp_stream_cli.specs.Faults.{EndsList, HoldsText, asked_for}
+use Rattle.hsp_stream_cli.specs.Faults.{EndsList, HoldsText, ReadsMayFail, asked_for}
 use Rattle.hsp_stream_cli.specs.Files.{AreKindsHeld, ArePricesHeld, AreServiceHeld, AreSourcesHeld, KindsFail}
 use Rattle.hsp_stream_cli.specs.Files.{PricesFail, ServiceFails, SourcesFail}
 use Rattle.hsp_stream_cli.specs.Listing.{PrintsInterfaces}
@@ -87,20 +87,22 @@ AnswersPriced disk MayFail files front old new ended =
 -- a certificate by prices is judged for a log
 abbrev pub ChecksPrices : Disk → Type 0 → PriceFiles → Option (List ℕ) → Option (List ℕ) → Ended → Type 0
 ChecksPrices disk MayFail files old new ended =
-    ByPrices disk files old new ended (λ priced left. PrintsVerdict MayFail priced left old new ended)
+    ByPrices disk files old new ended (λ priced left.
+    PrintsVerdict (disk.fails files.service.log) MayFail priced left old new ended)
 
 -- a log is reported on by such a certificate
 abbrev pub ReportsPrices : Disk → Type 0 → PriceFiles → AskedPriceReport → Option (List ℕ) → Option (List ℕ) → Ended
     → Type 0
 ReportsPrices disk MayFail files kind old new ended =
-    ByPrices disk files old new ended (λ priced left. PrintsReport MayFail priced (kind_of kind) left old new ended)
+    ByPrices disk files old new ended (λ priced left.
+    PrintsReport (disk.fails files.service.log) MayFail priced (kind_of kind) left old new ended)
 
 -- the rows of a log are planned
 abbrev pub PlansLog : Disk → Type 0 → ServiceFiles → Option (List ℕ) → Option (List ℕ) → Ended → Type 0
 PlansLog disk MayFail files old new ended =
     LacksFile (ServiceFails disk files ⊎ disk.fails files.log) old new ended
     ⊎ ((inputs : Inputs) × (left : Option (List ℕ)) × AreServiceHeld disk files inputs × HoldsRest disk files.log left
-    × PrintsPlan MayFail inputs left old new ended)
+    × PrintsPlan (disk.fails files.log) MayFail inputs left old new ended)
 
 -- the service interfaces of servers are listed
 abbrev pub ListsInterfaces : Disk → Type 0 → SiteFiles → Option (List ℕ) → Option (List ℕ) → Ended → Type 0
@@ -109,10 +111,11 @@ ListsInterfaces disk MayFail files old new ended =
     ⊎ ((sources : Sources) × AreSourcesHeld disk files sources × PrintsInterfaces MayFail sources old new ended)
 
 -- the faulty rows of a file are listed
-abbrev pub ListsFaults : Disk → FaultsOf → List ℕ → Option (List ℕ) → Option (List ℕ) → Ended → Type 0
-ListsFaults disk of file old new ended =
+abbrev pub ListsFaults : Disk → Type 0 → FaultsOf → List ℕ → Option (List ℕ) → Option (List ℕ) → Ended → Type 0
+ListsFaults disk MayFail of file old new ended =
     LacksFile (disk.fails file) old new ended
-    ⊎ ((text : Option (List ℕ)) × HoldsText disk of file text × EndsList (asked_for of) text old new ended)
+    ⊎ ((text : Option (List ℕ)) × HoldsText disk of file text
+    × EndsList (ReadsMayFail disk of file) MayFail (asked_for of) text old new ended)
 
 -- an order is carried out on an output, whose writes may fail or not
 abbrev pub CarriesOut : Disk → Type 0 → StreamOrder → Option (List ℕ) → Option (List ℕ) → Ended → Type 0
@@ -128,7 +131,7 @@ CarriesOut disk MayFail (order.Plan files) old new ended = PlansLog disk MayFail
 CarriesOut disk MayFail (order.Check files) old new ended = ChecksPrices disk MayFail files old new ended
 CarriesOut disk MayFail (order.Report files kind) old new ended = ReportsPrices disk MayFail files kind old new ended
 CarriesOut disk MayFail (order.Interfaces files) old new ended = ListsInterfaces disk MayFail files old new ended
-CarriesOut disk MayFail (order.Faults of file) old new ended = ListsFaults disk of file old new ended
+CarriesOut disk MayFail (order.Faults of file) old new ended = ListsFaults disk MayFail of file old new ended
 
 -- the order is carried out; where there is none, nothing was written, and the failure is reported
 abbrev pub ActsOn : Disk → Type 0 → Result StreamOrder CommandFault → Option (List ℕ) → Option (List ℕ) → Ended → Type 0

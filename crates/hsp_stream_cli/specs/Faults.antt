@@ -1,5 +1,5 @@
 -- Faulty rows on an output.
-use Rattle.std.specs.Prelude.{◌≡◌, Bool, true, false, ℕ, List, Option, None, Some, Ok, Err, option_map}
+use Rattle.std.specs.Prelude.{◌≡◌, ⊤, Bool, true, false, ℕ, List, Option, None, Some, Ok, Err, option_map}
 use Rattle.hsp_csv.specs.Places.{placed_of}
 use Rattle.hsp_tables.specs.declared.table_check.TableKind.TheVariants as kind
 use Rattle.hsp_cli.specs.Files.{Disk, HoldsRest}
@@ -39,15 +39,24 @@ list_status false = 0
 abbrev pub ended_with : Bool → Ended
 ended_with some = Ok (record { status = list_status some; sums = None })
 
--- the whole list was written, and the status tells whether there is a faulty row; or a beginning of it was written
-abbrev pub EndsList : Asked → Option (List ℕ) → Option (List ℕ) → Option (List ℕ) → Ended → Type 0
-EndsList which text old new (Ok completed) =
+-- The whole list was written, and the status tells whether there is a faulty row; or a beginning of it was written. A
+-- failed read and a failed write are reported only where one may fail.
+abbrev pub EndsList : Type 0 → Type 0 → Asked → Option (List ℕ) → Option (List ℕ) → Option (List ℕ) → Ended → Type 0
+EndsList MayReadFail MayFail which text old new (Ok completed) =
     (some : Bool) × (completed ≡ record { status = list_status some; sums = None })
     × IsListed which (option_map placed_of text) old new some
-EndsList which text old new (Err Write) = IsListBegun which (option_map placed_of text) old new
-EndsList which text old new (Err Memory) = IsListBegun which (option_map placed_of text) old new
-EndsList which text old new (Err (Refused (Log ReadFailed))) = IsListBegun which (option_map placed_of text) old new
-EndsList which text old new (Err failure) = ⊥
+EndsList MayReadFail MayFail which text old new (Err Write) =
+    MayFail × IsListBegun which (option_map placed_of text) old new
+EndsList MayReadFail MayFail which text old new (Err Memory) =
+    IsListBegun which (option_map placed_of text) old new
+EndsList MayReadFail MayFail which text old new (Err (Refused (Log ReadFailed))) =
+    MayReadFail × IsListBegun which (option_map placed_of text) old new
+EndsList MayReadFail MayFail which text old new (Err failure) = ⊥
+
+-- whether reads may fail: those of a log may where its file may; a table is read before
+abbrev pub ReadsMayFail : Disk → FaultsOf → List ℕ → Type 0
+ReadsMayFail disk of.Log file = disk.fails file
+ReadsMayFail disk table file = ⊤
 
 -- the octets of the file: of a log those that are left of it, of a table all, which were read first
 abbrev pub HoldsText : Disk → FaultsOf → List ℕ → Option (List ℕ) → Type 0

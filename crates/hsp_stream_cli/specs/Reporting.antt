@@ -9,7 +9,8 @@ use Rattle.hsp_price_runs.specs.declared.report.PriceReport.{PriceReport}
 use Rattle.hsp_price_runs.specs.declared.report.PriceReport.TheVariants as report
 use Rattle.hsp_price_runs.specs.declared.report.PriceReportKind.{PriceReportKind}
 use Rattle.hsp_price_runs.specs.declared.report.PriceReportKind.TheVariants as kind
-use Rattle.hsp_stream.specs.KindsLog.{IsReadFault, OfLog}
+use Rattle.hsp_stream.specs.KindsLog.{OfLog}
+use Rattle.hsp_stream.specs.Watching.{MayStopReading}
 use Rattle.hsp_stream.specs.declared.fault.StreamFault.{StreamFault}
 use Rattle.hsp_stream_cli.specs.Checking.{PrintsLine}
 use Rattle.hsp_stream_cli.specs.Printing.{Ended, PrintsText}
@@ -26,9 +27,9 @@ IsShownReport priced kind left report =
     OfLog left (λ records. IsPriceReport kind priced.inputs priced.prices.items records (Ok report))
 
 -- why there is none
-abbrev pub IsReportFault : Priced → PriceReportKind → Option (List ℕ) → StreamFault → Type 0
-IsReportFault priced kind left fault =
-    IsReadFault fault
+abbrev pub IsReportFault : Type 0 → Priced → PriceReportKind → Option (List ℕ) → StreamFault → Type 0
+IsReportFault MayReadFail priced kind left fault =
+    MayStopReading MayReadFail fault
     ⊎ OfLog left (λ records. IsPriceReport kind priced.inputs priced.prices.items records (Err fault))
 
 -- the text is printed with status 0; or the line of a no with its reason, and the status of a no
@@ -37,8 +38,8 @@ PrintsShown MayFail (report.Shown text) old new ended = PrintsText MayFail text.
 PrintsShown MayFail (report.Refused reason) old new ended = PrintsLine MayFail (No reason) old new ended
 
 -- the report is printed; or nothing was written, and its fault is returned
-abbrev pub PrintsReport : Type 0 → Priced → PriceReportKind → Option (List ℕ) → Option (List ℕ) → Option (List ℕ)
-    → Ended → Type 0
-PrintsReport MayFail priced kind left old new ended =
+abbrev pub PrintsReport : Type 0 → Type 0 → Priced → PriceReportKind → Option (List ℕ) → Option (List ℕ)
+    → Option (List ℕ) → Ended → Type 0
+PrintsReport MayReadFail MayFail priced kind left old new ended =
     ((report : PriceReport) × IsShownReport priced kind left report × PrintsShown MayFail report old new ended)
-    ⊎ ((fault : StreamFault) × IsReportFault priced kind left fault × (new ≡ old) × (ended ≡ Err (Refused fault)))
+    ⊎ ((fault : StreamFault) × IsReportFault MayReadFail priced kind left fault × (new ≡ old) × (ended ≡ Err (Refused fault)))

@@ -31,8 +31,8 @@ fn print_verdict<F: OpenFile, O: Output>(
     log: F,
     out: &mut O,
 ) -> Ended
-    ensures prints { PrintsVerdict O.may_fail priced.now (F.remaining log) (O.contents out.old)
-        (O.contents out.new) result }
+    ensures prints { PrintsVerdict (F.may_read_fail log) O.may_fail priced.now (F.remaining log)
+        (O.contents out.old) (O.contents out.new) result }
     ensures handed { IsHandedOn (O.contents out.old) (O.handed out.old) (O.contents out.new)
         (O.handed out.new) result }
 {

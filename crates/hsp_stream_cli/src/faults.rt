@@ -13,8 +13,8 @@ use hsp_cli_orders::{FaultsOf, Word};
 use hsp_faulty::{Asked, FaultsStop, faults_run};
 use hsp_stream::{RowFault, StreamFault};
 use hsp_tables::TableKind;
+use hsp_talk::Source;
 use std::alloc::Global;
-use std::io::Read;
 
 // The failure by which a list stops.
 fn stopped_by(stop: FaultsStop) -> Failure<StreamFault>
@@ -30,7 +30,7 @@ fn stopped_by(stop: FaultsStop) -> Failure<StreamFault>
 // Hands on what was listed, and ends with a failure or, where that fails, with a failed write.
 fn hand_on_failed<O: Output>(out: &mut O, failure: Failure<StreamFault>) -> Ended
     ensures kept { Keeps (O.contents out.old) (O.contents out.new) }
-    ensures ended { (result ≡ Err failure) ⊎ (result ≡ Err Write) }
+    ensures ended { (result ≡ Err failure) ⊎ (O.may_fail × (result ≡ Err Write)) }
     ensures handed { (O.handed out.new ≡ O.contents out.new) ⊎ (result ≡ Err Write) }
 {
     match out.hand_on() {
@@ -49,7 +49,7 @@ fn list_status(some: bool) -> u8
 // Hands on a list that was written whole.
 fn hand_on_list<O: Output>(out: &mut O, some: bool) -> Ended
     ensures kept { Keeps (O.contents out.old) (O.contents out.new) }
-    ensures ended { (result ≡ ended_with some) ⊎ (result ≡ Err Write) }
+    ensures ended { (result ≡ ended_with some) ⊎ (O.may_fail × (result ≡ Err Write)) }
     ensures handed { (O.handed out.new ≡ O.contents out.new) ⊎ (result ≡ Err Write) }
 {
     match out.hand_on() {
@@ -62,9 +62,9 @@ fn hand_on_list<O: Output>(out: &mut O, some: bool) -> Ended
 }
 
 // Lists the faulty rows of a text.
-fn list<R: Read + Drop, O: Output>(alloc: Global, asked: Asked, text: R, out: &mut O) -> Ended
-    ensures ends { EndsList asked (R.remaining text) (O.contents out.old) (O.contents out.new)
-        result }
+fn list<R: Source + Drop, O: Output>(alloc: Global, asked: Asked, text: R, out: &mut O) -> Ended
+    ensures ends { EndsList (R.may_read_fail text) O.may_fail asked (R.remaining text)
+        (O.contents out.old) (O.contents out.new) result }
     ensures handed { IsHandedOn (O.contents out.old) (O.handed out.old) (O.contents out.new)
         (O.handed out.new) result }
 {
@@ -93,8 +93,8 @@ fn list_log<S: FileSource, O: Output>(
     file: &Word<'_>,
     out: &mut O,
 ) -> Ended
-    ensures lists { ListsFaults (S.disk files.now) FaultsOf.Log file.now (O.contents out.old)
-        (O.contents out.new) result }
+    ensures lists { ListsFaults (S.disk files.now) O.may_fail FaultsOf.Log file.now
+        (O.contents out.old) (O.contents out.new) result }
     ensures handed { IsHandedOn (O.contents out.old) (O.handed out.old) (O.contents out.new)
         (O.handed out.new) result }
 {
@@ -111,8 +111,8 @@ fn list_table<S: FileSource, O: Output>(
     out: &mut O,
 ) -> Ended
     requires { of ≢ FaultsOf.Log }
-    ensures lists { ListsFaults (S.disk files.now) of file.now (O.contents out.old)
-        (O.contents out.new) result }
+    ensures lists { ListsFaults (S.disk files.now) O.may_fail of file.now
+        (O.contents out.old) (O.contents out.new) result }
     ensures handed { IsHandedOn (O.contents out.old) (O.handed out.old) (O.contents out.new)
         (O.handed out.new) result }
 {
@@ -128,8 +128,8 @@ pub(crate) fn list_faults<S: FileSource, O: Output>(
     file: &Word<'_>,
     out: &mut O,
 ) -> Ended
-    ensures lists { ListsFaults (S.disk files.now) of file.now (O.contents out.old)
-        (O.contents out.new) result }
+    ensures lists { ListsFaults (S.disk files.now) O.may_fail of file.now
+        (O.contents out.old) (O.contents out.new) result }
     ensures handed { IsHandedOn (O.contents out.old) (O.handed out.old) (O.contents out.new)
         (O.handed out.new) result }
 {

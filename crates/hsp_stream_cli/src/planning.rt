@@ -36,8 +36,8 @@ fn print_plan<F: OpenFile, P: Progress + Drop, O: Output>(
     progress: P,
     out: &mut O,
 ) -> Ended
-    ensures prints { PrintsPlan O.may_fail inputs.now (F.remaining log) (O.contents out.old)
-        (O.contents out.new) result }
+    ensures prints { PrintsPlan (F.may_read_fail log) O.may_fail inputs.now (F.remaining log)
+        (O.contents out.old) (O.contents out.new) result }
     ensures handed { IsHandedOn (O.contents out.old) (O.handed out.old) (O.contents out.new)
         (O.handed out.new) result }
 {

@@ -46,8 +46,8 @@ fn print_report<F: OpenFile, O: Output>(
     log: F,
     out: &mut O,
 ) -> Ended
-    ensures prints { PrintsReport O.may_fail priced.now kind (F.remaining log)
-        (O.contents out.old) (O.contents out.new) result }
+    ensures prints { PrintsReport (F.may_read_fail log) O.may_fail priced.now kind
+        (F.remaining log) (O.contents out.old) (O.contents out.new) result }
     ensures handed { IsHandedOn (O.contents out.old) (O.handed out.old) (O.contents out.new)
         (O.handed out.new) result }
 {

@@ -4,7 +4,8 @@ use crate::fakes::{Pieces, Rows};
 use crate::same::is_same;
 use hsp_faulty::{Asked, FaultsStop, faults_run};
 use hsp_tables::TableKind;
-use std::alloc::Global;
+use hsp_text::push_whole;
+use std::alloc::{AllocError, Global};
 use std::process::Abort;
 
 // How the run ends, and what it lists.
@@ -98,6 +99,35 @@ fn faulty_rows_of_a_log_are_listed(rt: HostRuntime) {
             (Ok(true), listed),
         );
     }
+}
+
+// A log of counts whose rows name so many regions.
+fn log_of_regions(alloc: Global, regions: u64) -> Result<Vec<u8>, AllocError> {
+    let mut text = Vec::from_slice(alloc, b"region,handle,count\n")?;
+    for region in 0..regions {
+        text.push(b'r')?;
+        push_whole(&mut text, region)?;
+        text.extend_from_slice(b",10/1,1\n")?;
+    }
+    Ok(text)
+}
+
+// The 65th and the 66th region are too many, each in a row of its own.
+#[test]
+fn rows_of_further_regions_are_listed(rt: HostRuntime) {
+    let text = match log_of_regions(rt.alloc(), 66) {
+        Ok(text) => text,
+        Err(AllocError) => log_of_regions(rt.alloc(), 66).expect(&rt, "there is memory"),
+    };
+    let listed: &[u8] =
+        b"row,line,field,octet,fault\n64,66,0,714,log: TooManyRegions row 64\n65,67,0,725,log: TooManyRegions row 65\n";
+    has_faults(
+        &rt,
+        rt.alloc(),
+        Asked::Log,
+        Rows::only(text.as_slice()),
+        (Ok(true), listed),
+    );
 }
 
 // A header and a row are read, and then a read fails.

@@ -1,4 +1,5 @@
 use Rattle.std.proofs.Common.{inr}
+use Rattle.hsp_stream_cli.proofs.FailedReads.{prints_weaker}
 use Rattle.hsp_stream_cli.proofs.checking.check_prices.Goals as goal
 
 pub returns-clause-checks : goal.returns-clause-checks
@@ -8,5 +9,5 @@ returns-clause-checks g c =
       _,
       c.in_ok-priced.ensures.held,
       c.in_ok-log.ensures.held,
-      c.print_verdict.ensures.prints,
+      prints_weaker _ _ _ _ _ _ c.in_ok-log.ensures.reads c.print_verdict.ensures.prints,
     )

@@ -1,4 +1,5 @@
 use Rattle.std.proofs.Common.{inr}
+use Rattle.hsp_stream_cli.proofs.FailedReads.{prints_weaker}
 use Rattle.hsp_stream_cli.proofs.planning.plan_log.Goals as goal
 
 pub returns-clause-plans : goal.returns-clause-plans
@@ -8,5 +9,5 @@ returns-clause-plans g c =
       _,
       c.in_ok-inputs.ensures.held,
       c.in_ok-log.ensures.held,
-      c.print_plan.ensures.prints,
+      prints_weaker _ _ _ _ _ _ c.in_ok-log.ensures.reads c.print_plan.ensures.prints,
     )

@@ -1,4 +1,4 @@
-use Rattle.std.proofs.Common.{inl}
+use Rattle.std.proofs.Common.{inl, inr, refl}
 use Rattle.hsp_stream_cli.proofs.reporting.print_report.Goals as goal
 
 pub returns-in-Ok-clause-prints : goal.returns-in-Ok-clause-prints
@@ -8,3 +8,7 @@ returns-in-Ok-clause-prints g c =
       rw (← c.deref.ensures.value) c.in-Ok.ensures.report,
       c.print_shown.ensures.prints,
     )
+
+pub returns-in-Err-clause-prints : goal.returns-in-Err-clause-prints
+returns-in-Err-clause-prints g c =
+    inr (c.in-Err.fault, rw (← c.deref.ensures.value) c.in-Err.ensures.fault, refl, refl)

@@ -1,4 +1,5 @@
 use Rattle.std.proofs.Common.{inr}
+use Rattle.hsp_stream_cli.proofs.FailedReads.{prints_weaker}
 use Rattle.hsp_stream_cli.proofs.reporting.report_prices.Goals as goal
 
 pub returns-clause-reports : goal.returns-clause-reports
@@ -8,5 +9,5 @@ returns-clause-reports g c =
       _,
       c.in_ok-priced.ensures.held,
       c.in_ok-log.ensures.held,
-      rw c.kind_of.ensures at c.print_report.ensures.prints,
+      prints_weaker _ _ _ _ _ _ c.in_ok-log.ensures.reads (rw c.kind_of.ensures at c.print_report.ensures.prints),
     )
