@@ -97,6 +97,7 @@ module _ (net : Transport) (whole : IsNetwork net) (size : CanPress net) (flow :
     fall : slice_index pressed j + at_host host (λ h. slice_index q h)
         ≤ at_host host (λ h. slice_index q' h) + slice_index sums j
 
+  -- a pressed sum is the pressed price of the host and what is left of the server's
   parts : (j : ℕ) → j < length p → Parts j (host_of net j)
   parts j l = by (host_of net j) refl
     where
@@ -125,6 +126,7 @@ module _ (net : Transport) (whole : IsNetwork net) (size : CanPress net) (flow :
       let part = parts j l in
       omega (arith, own j (omega (arith, l, servers.many, sums_many)), part.under, part.fall, sums_are j l)
 
+  -- no host's price rises
   hosts_fall : (h : ℕ) → h < length q → slice_index q' h ≤ slice_index q h
   hosts_fall h l = falls numbers ascend (slice_index q h) (slice_index q' h) (hosts.each h l)
 
@@ -144,6 +146,7 @@ module _ (net : Transport) (whole : IsNetwork net) (size : CanPress net) (flow :
       each_number (λ k. slice_index u (source k) ≤ paid p q k) (length net.sources) met.balanced.prices.below k l in
       omega (arith, below, sums_are (server k) (has_price k l))
 
+  -- a source pays its price over an arc in use
   used_before : (k : ℕ) → k < length net.sources → 0 < on k
       → slice_index u (source k) ≡ slice_index net.costs k + slice_index sums (server k)
   used_before k l some =

@@ -87,6 +87,7 @@ up_from last (n ∷ more) low ascend = (
 )
 
 module _ (numbers : List ℕ) (ascend : IsNonDecreasing numbers) where
+  -- they rise from 0 on
   up : AreUp 0 numbers
   up = up_from 0 numbers (λ k l. omega arith) ascend
 

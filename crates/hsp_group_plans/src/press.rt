@@ -133,7 +133,8 @@ fn own_prices(
     requires below { HostsAreBelow (length host_prices.now) hosts.now }
     ensures many { IfOk result (λ own. length own.items ≡ length sums.now) }
     ensures each { IfOk result (λ own. (j : ℕ) → j < length sums.now → slice_index own.items j
-        ≡ slice_index sums.now j - at_host (host_in hosts.now j) (λ h. slice_index host_prices.now h)) }
+        ≡ slice_index sums.now j - at_host (host_in hosts.now j)
+        (λ h. slice_index host_prices.now h)) }
 {
     let mut own = Vec::with_capacity(alloc, sums.len())?;
     for server in 0..sums.len() {

@@ -1,7 +1,9 @@
 -- A pair that is added: its octets behind those of the others, and its entry as the last of its bucket.
-use Rattle.std.proofs.Common.{◌≡◌, ◌≢◌, ◌⊎◌, ◌≤◌, ◌<◌, ◌+◌, ◌-◌, ◌^◌, ◌∙◌, ◌++◌, ◌∷◌, [], ℕ, suc, List, length, map, take, drop}
+use Rattle.std.proofs.Common.{◌≡◌, ◌≢◌, ◌⊎◌, ◌≤◌, ◌<◌, ◌+◌, ◌-◌, ◌^◌, ◌∙◌, ◌++◌, ◌∷◌, [], ℕ, suc, List, length, map}
+use Rattle.std.proofs.Common.{take, drop}
 use Rattle.std.proofs.Common.{append_assoc, refl, sym, subst, ap, inl, inr, arith}
-use Rattle.std.specs.Prelude.{Err, IfErr, None, Ok, OnErr, OnOk, Result, Some, Vec, nat_lt, if◌then◌else◌, slice_index, slice_set}
+use Rattle.std.specs.Prelude.{Err, IfErr, None, Ok, OnErr, OnOk, Result, Some, Vec, nat_lt, if◌then◌else◌}
+use Rattle.std.specs.Prelude.{slice_index, slice_set}
 use Rattle.std.specs.declared.alloc.Global.{Global}
 use Rattle.std.specs.BTreeMap.{BTreeMap}
 use Rattle.std.proofs.lemmas.Bool.{cases_eq, eq-eqb, le-ltb, lt-ltb, ne_eqb}
@@ -346,6 +348,7 @@ module _ (xs first second : List ℕ) (entries : List Entry) (lasts : List ℕ)
 
   -- whether the pair was added, or memory ran out before
   module _ {X Y : Type 0} (more : List Entry) (new : Named (BTreeMap (Vec ℕ Global) ℕ)) where
+    -- either way the pairs are held
     pub held_either : (hash : ℕ) → hash ≡ hash_of pair → e.mark ≡ mark_of hash → e.depth < LONGEST_CHAIN
         → length entries + 1 < 2 ^ 32 → (r : Result X Y)
         → OnOk r (more ≡ entries ++ e ∷ []) → OnOk r (number_in new pair ≡ Some (length entries))
@@ -357,11 +360,13 @@ module _ (xs first second : List ℕ) (entries : List Entry) (lasts : List ℕ)
     held_either hash is mark short few (Err x) added own others same kept =
         rw same (held_alike octets entries lasts rest new kept still)
 
+    -- if it was added, it is the last one
     pub pairs_either : (r : Result X Y) → OnOk r (more ≡ entries ++ e ∷ [])
         → OnOk r (map (pair_in octets) more ≡ map (pair_in xs) entries ++ pair ∷ [])
     pairs_either (Ok x) added = rw added pairs_added
     pairs_either (Err x) added = record {}
 
+    -- if not, the pairs are those of before
     pub kept_either : (r : Result X Y) → OnErr r (more ≡ entries)
         → IfErr r (λ _. map (pair_in octets) more ≡ map (pair_in xs) entries)
     kept_either (Ok x) same = record {}

@@ -47,6 +47,7 @@ last_alike g h b zero same = refl
 last_alike g h b (suc n) same =
     rw (same n (omega arith), last_alike g h b n (λ k l. same k (omega (arith, l)))) refl
 
+-- buckets that are alike have as many places
 pub count_alike : (g h : ℕ → ℕ) (b n : ℕ) → ((k : ℕ) → k < n → g k ≡ h k) → count_of g b n ≡ count_of h b n
 unfolding count_of
 count_alike g h b zero same = refl

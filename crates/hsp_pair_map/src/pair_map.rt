@@ -1,5 +1,5 @@
-// The map: the octets of all names in one run, an entry for each pair, of each bucket the last entry, and pairs in order
-// whose bucket is full.
+// The map: the octets of all names in one run, an entry for each pair, of each bucket the last entry, and in order the
+// pairs whose bucket is full.
 
 ghost use Rattle.std.specs.Prelude.{◌≡◌, ◌≢◌, ◌≤◌, ◌<◌, ◌↔◌, ◌+◌, ◌-◌, ◌^◌, ◌++◌, ◌∷◌, [], ℕ};
 ghost use Rattle.std.specs.Prelude.{IfErr, IfNone, IfOk, IfSome, OnErr, OnOk, Some, true, length, slice_get};
@@ -30,8 +30,8 @@ pub(crate) struct Entry {
 
 /// A map from pairs of names to their numbers. The first pair that is added has the number 0.
 ///
-/// A bucket has at most [`LONGEST_CHAIN`] pairs. Further pairs of its hash stand in the order of their octets. So no
-/// choice of names makes a search long.
+/// A bucket has at most eight pairs. Further ones stand in the order of their octets. So no choice of names makes a
+/// search long.
 #[derive(Drop)]
 pub struct PairMap {
     octets: Vec<u8>,

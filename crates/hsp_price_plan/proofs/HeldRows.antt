@@ -98,6 +98,7 @@ many_rows at (row ∷ rows) (own ∷ kept) all = omega (arith, many_rows at rows
 abbrev HasFew : KeptRow → Type 0
 HasFew row = length row.arcs ≤ 32
 
+-- each row has at most one arc a site
 few_of : (at : Service) → IsService at → (rows : List Row) (kept : List KeptRow) → AllZip (IsRow at) rows kept
     → AllByRecursion HasFew kept
 few_of at service [] [] all = tt

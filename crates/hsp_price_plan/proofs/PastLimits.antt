@@ -60,6 +60,7 @@ module _ (at : Service) (rows : List Row) (plan : Best) (service : IsService at)
       region : class.region ≡ row.region
       servers : class.servers ≡ servers_of (least_of at plan row)
 
+    -- a class has a row
     class_row : (row : Row) × IsClassOf row
     class_row =
         let found = Any-from_list_any (λ row. is_of at plan class row) rows (valid NotLeast k d l) in

@@ -93,7 +93,8 @@ module _ (only : GivesNothingElse) (one : HasOneAnswer) (inputs : Inputs) (octet
       let by =
       known_service only (AnswersByPrices (λ it. IsVerdictBy) octets) inputs answer records is.has judged in
       let asked =
-      known_first (OfInput (IsCertificateIn octets)) (λ certificate own. AnswersRecords (IsVerdictBy at certificate) own records) is.certificate answer
+      known_first (OfInput (IsCertificateIn octets))
+      (λ certificate own. AnswersRecords (IsVerdictBy at certificate) own records) is.certificate answer
       (known_input (IsCertificateIn octets) is.certificate
       (known_certificate one octets is.certificate (is.is, is.text))) by in
       only_yes at is.has.rows is.certificate answer is.valid

@@ -101,7 +101,8 @@ pub(crate) fn ask_inputs<A: Asked, R: Source + Drop>(
     ensures answer { IfOk result (λ answer. OfLog (R.remaining log)
         (AnswersRead (A.Is asked.now) inputs.now prices.now (Ok answer))) }
     ensures fault { IfErr result (λ fault. MayStopReading (R.may_read_fail log) fault
-        ⊎ OfLog (R.remaining log) (AnswersInputs (A.Is asked.now) inputs.now prices.now (Err fault))) }
+        ⊎ OfLog (R.remaining log)
+        (AnswersInputs (A.Is asked.now) inputs.now prices.now (Err fault))) }
 {
     let instance = instance_in(alloc, inputs)?;
     // The instance is within its limits.
@@ -140,7 +141,8 @@ pub fn price_check_run<R: Source + Drop>(
     ensures verdict { IfOk result (λ verdict. OfLog (R.remaining log) (λ records.
         IsPriceVerdict inputs.now prices.now records (Ok verdict))) }
     ensures fault { IfErr result (λ fault. MayStopReading (R.may_read_fail log) fault
-        ⊎ OfLog (R.remaining log) (λ records. IsPriceVerdict inputs.now prices.now records (Err fault))) }
+        ⊎ OfLog (R.remaining log)
+        (λ records. IsPriceVerdict inputs.now prices.now records (Err fault))) }
     // Yes means that the certificate shows a best plan of the rows, or that there is none.
     ensures shows { IfOk result (λ verdict. verdict ≡ Yes → OfLog (R.remaining log)
         (ShowsLog inputs.now prices.now)) }

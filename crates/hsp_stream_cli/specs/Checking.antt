@@ -36,4 +36,5 @@ abbrev pub PrintsVerdict : Type 0 → Type 0 → Priced → Option (List ℕ) �
     → Type 0
 PrintsVerdict MayReadFail MayFail priced left old new ended =
     ((verdict : PriceVerdict) × IsShownVerdict priced left verdict × PrintsLine MayFail verdict old new ended)
-    ⊎ ((fault : StreamFault) × IsVerdictFault MayReadFail priced left fault × (new ≡ old) × (ended ≡ Err (Refused fault)))
+    ⊎ ((fault : StreamFault) × IsVerdictFault MayReadFail priced left fault × (new ≡ old)
+    × (ended ≡ Err (Refused fault)))

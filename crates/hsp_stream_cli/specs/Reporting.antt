@@ -42,4 +42,5 @@ abbrev pub PrintsReport : Type 0 → Type 0 → Priced → PriceReportKind → O
     → Option (List ℕ) → Ended → Type 0
 PrintsReport MayReadFail MayFail priced kind left old new ended =
     ((report : PriceReport) × IsShownReport priced kind left report × PrintsShown MayFail report old new ended)
-    ⊎ ((fault : StreamFault) × IsReportFault MayReadFail priced kind left fault × (new ≡ old) × (ended ≡ Err (Refused fault)))
+    ⊎ ((fault : StreamFault) × IsReportFault MayReadFail priced kind left fault × (new ≡ old)
+    × (ended ≡ Err (Refused fault)))

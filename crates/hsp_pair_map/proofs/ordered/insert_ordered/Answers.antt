@@ -21,7 +21,8 @@ returns-in-Some-clause-own c =
     let w = c.insert.new.self in
     let written = (c.get_mut.follows.holds w).3 (subst (λ o. IsSome o) c.in-Some.ensures.value refl) in
     let seconds =
-    updates_at c.in-Some.seconds.now w _ _ c.args.second.now c.in_ok-name.ensures.items c.in_ok-insert.ensures.updates in
+    updates_at c.in-Some.seconds.now w _ _ c.args.second.now c.in_ok-name.ensures.items
+    c.in_ok-insert.ensures.updates in
     ap (λ o. at_second o c.args.second.now) written.1 ∙ seconds.1
 
 pub returns-in-Some-clause-others : goal.returns-in-Some-clause-others
@@ -29,7 +30,8 @@ returns-in-Some-clause-others c =
     let w = c.insert.new.self in
     let written = (c.get_mut.follows.holds w).3 (subst (λ o. IsSome o) c.in-Some.ensures.value refl) in
     let seconds =
-    updates_at c.in-Some.seconds.now w _ _ c.args.second.now c.in_ok-name.ensures.items c.in_ok-insert.ensures.updates in
+    updates_at c.in-Some.seconds.now w _ _ c.args.second.now c.in_ok-name.ensures.items
+    c.in_ok-insert.ensures.updates in
     λ p apart.
     numbers_kept c.args.pairs.now.entries _ c.args.first.now written.3 w written.1 p (λ e.
     others_kept c.in-Some.seconds.now.entries w.entries c.args.second.now seconds.3 p.second
@@ -39,9 +41,11 @@ returns-in-Some-clause-others c =
 pub returns-clause-own : goal.returns-clause-own
 returns-clause-own c =
     let seconds =
-    updates_at c.new-seconds.result c.insert-2.new.self _ _ c.args.second.now c.in_ok-name.ensures.items c.in_ok-insert-2.ensures.updates in
+    updates_at c.new-seconds.result c.insert-2.new.self _ _ c.args.second.now c.in_ok-name.ensures.items
+    c.in_ok-insert-2.ensures.updates in
     let firsts =
-    updates_at c.get_mut.follows.lender-at-none c.insert-3.new.self _ _ c.args.first.now c.in_ok-from_slice.ensures.items
+    updates_at c.get_mut.follows.lender-at-none c.insert-3.new.self _ _ c.args.first.now
+    c.in_ok-from_slice.ensures.items
     c.in_ok-insert-3.ensures.updates in
     ap (λ o. at_second o c.args.second.now) firsts.1 ∙ seconds.1
 
@@ -49,9 +53,11 @@ pub returns-clause-others : goal.returns-clause-others
 returns-clause-others c =
     let w = c.insert-2.new.self in
     let seconds =
-    updates_at c.new-seconds.result c.insert-2.new.self _ _ c.args.second.now c.in_ok-name.ensures.items c.in_ok-insert-2.ensures.updates in
+    updates_at c.new-seconds.result c.insert-2.new.self _ _ c.args.second.now c.in_ok-name.ensures.items
+    c.in_ok-insert-2.ensures.updates in
     let firsts =
-    updates_at c.get_mut.follows.lender-at-none c.insert-3.new.self _ _ c.args.first.now c.in_ok-from_slice.ensures.items
+    updates_at c.get_mut.follows.lender-at-none c.insert-3.new.self _ _ c.args.first.now
+    c.in_ok-from_slice.ensures.items
     c.in_ok-insert-3.ensures.updates in
     λ p apart.
     numbers_kept c.args.pairs.now.entries _ c.args.first.now (rw c.get_mut.follows.holds-at-none at firsts.3) w firsts.1

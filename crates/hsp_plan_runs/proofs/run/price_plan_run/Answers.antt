@@ -76,7 +76,8 @@ returns-in-Ok-clause-fault g c =
     IfErr-weaker c.plan_log.result
     (λ (fault : StreamFault). MayStopReading (g.R.Source.may_read_fail c.args.log) fault
     ⊎ OfLog log (AnswersRecords (IsPlanBy (service_of costs it)) (Err fault)))
-    (λ (fault : StreamFault). MayStopReading (g.R.Source.may_read_fail c.args.log) fault ⊎ OfLog log (IsPlannedLog inputs (Err fault)))
+    (λ (fault : StreamFault). MayStopReading (g.R.Source.may_read_fail c.args.log) fault ⊎ OfLog log
+    (IsPlannedLog inputs (Err fault)))
     (λ fault told. elim told [
       | inl read ↦ inl read
       | inr known ↦

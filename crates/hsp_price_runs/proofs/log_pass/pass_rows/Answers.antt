@@ -15,7 +15,8 @@ rows-init g c = record {
 
 pub pass_record-requires : goal.pass_record-requires
 pass_record-requires g c =
-    some_taken g.T.RowTaker.HasTaken c.args.form c.args.taker.now (watched_left g.R.Read.remaining) c.args.reader.now c.rows.reader
+    some_taken g.T.RowTaker.HasTaken c.args.form c.args.taker.now
+    (watched_left g.R.Read.remaining) c.args.reader.now c.rows.reader
     c.take_watched.new.reader c.rows.row c.rows.taker
     (fields_of c.take_watched.new.record) c.rows.invariant.so_far
 
@@ -30,7 +31,8 @@ returns-in_err-pass_record-clause-fault g c =
       | inl memory ↦ inl (inl memory)
       | inr bad ↦
           inr
-          (one_bad g.T.RowTaker.HasTaken c.args.form c.args.taker.now (watched_left g.R.Read.remaining) c.args.reader.now
+          (one_bad g.T.RowTaker.HasTaken c.args.form c.args.taker.now
+          (watched_left g.R.Read.remaining) c.args.reader.now
           c.rows.reader next c.rows.row c.rows.taker fields so_far c.in_err-pass_record.field-0.0
           (rw c.if-not-branch.false at c.in_ok-take_watched.ensures.takes)
           (bad c.args.taker.now so_far.rows so_far.taken))
@@ -40,7 +42,8 @@ pub rows-preserved : goal.rows-preserved
 rows-preserved g c = record {
   reading = c.in_ok-take_watched.ensures.reading;
   so_far =
-      one_taken g.T.RowTaker.HasTaken c.args.form c.args.taker.now (watched_left g.R.Read.remaining) c.args.reader.now c.rows.reader
+      one_taken g.T.RowTaker.HasTaken c.args.form c.args.taker.now
+      (watched_left g.R.Read.remaining) c.args.reader.now c.rows.reader
       c.take_watched.new.reader c.rows.row c.rows.taker
       (fields_of c.take_watched.new.record) c.rows.invariant.so_far c.pass_record.new.taker
       (rw c.if-not-branch.false at c.in_ok-take_watched.ensures.takes) c.in_ok-pass_record.ensures.passed;

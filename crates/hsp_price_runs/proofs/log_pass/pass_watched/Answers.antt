@@ -43,7 +43,8 @@ returns-clause-fault g c =
     (λ (fault : StreamFault). MayStopReading g.K.Watch.may_fail fault
     ⊎ OfLeft (watched_left g.R.Read.remaining) c.take_watched.new.reader
     (λ records. rows_with c.in_ok-form.form 0 [] records ≡ Err fault))
-    (λ (fault : StreamFault). MayStopReading g.K.Watch.may_fail fault ⊎ OfLog log (λ records. log_rows records ≡ Err fault))
+    (λ (fault : StreamFault). MayStopReading g.K.Watch.may_fail fault ⊎ OfLog log
+    (λ records. log_rows records ≡ Err fault))
     (λ fault told. elim told [
       | inl read ↦ inl read
       | inr bad ↦

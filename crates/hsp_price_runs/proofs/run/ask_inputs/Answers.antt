@@ -56,7 +56,8 @@ returns-in-Ok-clause-fault g c =
     IfErr-weaker c.ask_text.result
     (λ (fault : StreamFault). MayStopReading (g.R.Source.may_read_fail c.args.log) fault
     ⊎ OfLog log (AnswersText (Is it (service_of costs it)) octets (Err fault)))
-    (λ (fault : StreamFault). MayStopReading (g.R.Source.may_read_fail c.args.log) fault ⊎ OfLog log (AnswersInputs Is inputs octets (Err fault)))
+    (λ (fault : StreamFault). MayStopReading (g.R.Source.may_read_fail c.args.log) fault ⊎ OfLog log
+    (AnswersInputs Is inputs octets (Err fault)))
     (λ fault told. elim told [
       | inl read ↦ inl read
       | inr known ↦

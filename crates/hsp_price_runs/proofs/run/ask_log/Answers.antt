@@ -51,7 +51,8 @@ returns-clause-fault g c =
     ⊎ ((own : List CostEntry) (rows : List Row)
     → IsPassed (service_of own it) certificate rows c.pass_log.new.taker
     → By (service_of own it) certificate rows (Err fault)))
-    (λ (fault : StreamFault). MayStopReading (g.R.Source.may_read_fail c.args.log) fault ⊎ OfLog log (AnswersRecords Is (Err fault)))
+    (λ (fault : StreamFault). MayStopReading (g.R.Source.may_read_fail c.args.log) fault ⊎ OfLog log
+    (AnswersRecords Is (Err fault)))
     (λ fault told. elim told [
       | inl memory ↦ inl (inl memory)
       | inr answers ↦

@@ -47,8 +47,10 @@ returns-clause-fault g c =
     let log = g.R.Read.remaining c.args.log in
     let certificate = c.in_ok-certificate.certificate in
     IfErr-weaker c.ask_log.result
-    (λ (fault : StreamFault). MayStopReading (g.R.Source.may_read_fail c.args.log) fault ⊎ OfLog log (AnswersRecords (Is certificate) (Err fault)))
-    (λ (fault : StreamFault). MayStopReading (g.R.Source.may_read_fail c.args.log) fault ⊎ OfLog log (AnswersText Is octets (Err fault)))
+    (λ (fault : StreamFault). MayStopReading (g.R.Source.may_read_fail c.args.log) fault ⊎ OfLog log
+    (AnswersRecords (Is certificate) (Err fault)))
+    (λ (fault : StreamFault). MayStopReading (g.R.Source.may_read_fail c.args.log) fault ⊎ OfLog log
+    (AnswersText Is octets (Err fault)))
     (λ fault told. elim told [
       | inl read ↦ inl read
       | inr known ↦

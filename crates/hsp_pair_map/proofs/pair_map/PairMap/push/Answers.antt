@@ -21,7 +21,8 @@ returns-in_err-extend_from_slice-2-clause-kept c =
     err_from_is_err_and c.from_residual-in_err-extend_from_slice-2.result
     c.from_residual-in_err-extend_from_slice-2.ensures.1 in
     rw (p.1, c.in_err-extend_from_slice-2.ensures.items, c.in_ok-extend_from_slice.ensures.items)
-    (pairs_still m.octets.items c.args.first.now m.entries.items m.lasts.items m.rest.entries c.self.invariant ∙ c.self.view_is)
+    (pairs_still m.octets.items c.args.first.now m.entries.items m.lasts.items m.rest.entries c.self.invariant
+    ∙ c.self.view_is)
 
 pub invariant_of-self-in_err-push : goal.invariant_of-self-in_err-push
 invariant_of-self-in_err-push c =
@@ -61,7 +62,8 @@ returns-in_err-push-clause-kept c =
     c.in_ok-extend_from_slice-2.ensures.items ∙ ap (λ t. t ++ c.args.second.now) c.in_ok-extend_from_slice.ensures.items
     ∙ append_assoc m.octets.items c.args.first.now c.args.second.now in
     rw (p.1, whole, c.in_err-push.ensures.items)
-    (pairs_still m.octets.items (c.args.first.now ++ c.args.second.now) m.entries.items m.lasts.items m.rest.entries c.self.invariant
+    (pairs_still m.octets.items
+    (c.args.first.now ++ c.args.second.now) m.entries.items m.lasts.items m.rest.entries c.self.invariant
     ∙ c.self.view_is)
 
 pub chain_length-length-requires-clause-last : goal.chain_length-length-requires-clause-last
@@ -107,7 +109,14 @@ beside c =
     rw (← c.self.view_is, length-map m.entries.items (pair_in m.octets.items)) at c.requires in
     let new = c.push_apart.new.rest.entries in
     let entry : Entry =
-    record { mark = c.mark_of.result; depth = 0; before = 0; start = c.len-start.result; cut = c.len-cut.result; end = c.in-Ok.end } in
+    record {
+      mark = c.mark_of.result;
+      depth = 0;
+      before = 0;
+      start = c.len-start.result;
+      cut = c.len-cut.result;
+      end = c.in-Ok.end;
+    } in
     rw (whole, ← c.self.view_is) (
       held_either m.octets.items c.args.first.now c.args.second.now m.entries.items m.lasts.items m.rest.entries
           c.self.invariant entry start cut end _ new c.hash_of-hash.result c.hash_of-hash.ensures c.mark_of.ensures
@@ -152,7 +161,8 @@ added c =
     let few : length m.entries.items + 1 < 2 ^ 32 =
     rw (← c.self.view_is, length-map m.entries.items (pair_in m.octets.items)) at c.requires in
     rw (whole, c.in_ok-push.ensures.items, many, ← c.self.view_is) (
-      held_added m.octets.items c.args.first.now c.args.second.now m.entries.items m.lasts.items m.rest.entries c.self.invariant _
+      held_added m.octets.items c.args.first.now c.args.second.now m.entries.items m.lasts.items m.rest.entries
+          c.self.invariant _
           start cut end
           c.hash_of-hash.result c.hash_of-hash.ensures c.mark_of.ensures c.bucket_of-bucket.result
           (rw (c.len-2.ensures, m.lasts.ok.0) at c.bucket_of-bucket.ensures.bucket)
@@ -162,7 +172,8 @@ added c =
           c.chain_length-length.ensures.none
           (rw c.deref.ensures.value at c.chain_length-length.ensures.some)
           (omega (arith, c.if-length-ge-LONGEST_CHAIN.false)) few,
-      pairs_added m.octets.items c.args.first.now c.args.second.now m.entries.items m.lasts.items m.rest.entries c.self.invariant _
+      pairs_added m.octets.items c.args.first.now c.args.second.now m.entries.items m.lasts.items m.rest.entries
+          c.self.invariant _
           start cut end,
     )
 
