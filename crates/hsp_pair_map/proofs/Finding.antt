@@ -17,7 +17,7 @@ use Rattle.hsp_pair_map.proofs.Chaining.{last_within, last_own, last_others}
 
 -- no entry of a bucket from a number on is the pair's, and the entry before the number is in the bucket
 pub record IsSearched (octets : List ℕ) (entries : List Entry) (bucket : ℕ → ℕ) (p : Pair)
-(at number : ℕ) : Type 0 where
+    (at number : ℕ) : Type 0 where
   pub within : number ≤ length entries
   pub own : (r : ℕ) → number ≡ suc r → bucket r ≡ at
   pub others : (k : ℕ) → number ≤ k → k < length entries → bucket k ≡ at → pair_in octets (entry_at entries k) ≢ p
