@@ -2,8 +2,7 @@
 
 use crate::failure::Failure;
 use crate::random::Generator;
-use hsp_network::{Network, NetworkLists, Outcome, accepts};
-use hsp_simplex::propose;
+use hsp_network::{Network, NetworkLists, Outcome, accepts, propose};
 use std::alloc::{AllocError, Global};
 
 // The lists of a network, drawn at random: two arcs may be equal, a demand, capacity, limit or cost may be 0, and a

@@ -18,7 +18,7 @@ use Rattle.hsp_network.proofs.Numbered.{sent_numbers}
 use Rattle.hsp_flow.specs.Planning.{transport_of, uses_of, flagged_from, HasLimitedPrices, row_of, cost_of}
 use Rattle.hsp_network.specs.Sums.{sum_below, only}
 use Rattle.hsp_network.specs.declared.network.PricedFlow.{PricedFlow}
-use Rattle.hsp_shortest_paths.proofs.Sums.{term_within, only_here}
+use Rattle.hsp_network.proofs.AddingUp.{term_within, only_here}
 use Rattle.hsp_flow.proofs.Ordering.{no_arc}
 use Rattle.hsp_flow.proofs.Bridging.{arc}
 use Rattle.hsp_flow.proofs.Certifying.{cost_is, instance_ordered, plan_feasible, plan_of_flow, plan_valid}

@@ -10,8 +10,8 @@ use Rattle.hsp_instance.specs.declared.arc.Arc.{Arc}
 use Rattle.hsp_instance.specs.Instance.{Instance, IsInstance, Row}
 use Rattle.hsp_instance.specs.Groups.{AreGroups, Groups}
 use Rattle.hsp_transport.specs.Spread.{asked_before}
-use Rattle.hsp_shortest_paths.proofs.Sums.{sum_below_low}
-use Rattle.hsp_shortest_paths.specs.Layout.{IsSmall}
+use Rattle.hsp_network.proofs.AddingUp.{sum_below_low}
+use Rattle.hsp_network.specs.Layout.{IsSmall}
 use Rattle.hsp_network.specs.Network.{IsNetwork}
 use Rattle.hsp_check.specs.Instance.{arcs_from, capacities_in, demands_in, limits_in, network_of, server_hosts_in}
 use Rattle.hsp_check.specs.Network.{transport}

@@ -19,14 +19,14 @@ use Rattle.hsp_instance.proofs.Lists.{all_at}
 use Rattle.hsp_transport.specs.Lists.{HostsAreBelow}
 use Rattle.hsp_transport.proofs.Places.{hosts_below}
 use Rattle.hsp_transport.proofs.Summing.{sum_by_le_all, by_key}
-use Rattle.hsp_shortest_paths.specs.Layout.{IsSmall}
+use Rattle.hsp_network.specs.Layout.{IsSmall}
 use Rattle.hsp_network.specs.Network.{IsNetwork, host_of, numbered}
 use Rattle.hsp_transport.specs.Cut.{demand_of}
 use Rattle.hsp_flow.specs.Nodes.{nodes_by}
 use Rattle.hsp_flow.specs.Planning.{transport_of, transport_over, row_of, server_of, cost_of}
 use Rattle.hsp_flow.proofs.Ordering.{no_arc, each_at, all_ordered, rows_between, rows_ordered, arcs_many}
 use Rattle.hsp_flow.proofs.Bridging.{arc}
-use Rattle.hsp_shortest_paths.proofs.Sums.{sum_below_low}
+use Rattle.hsp_network.proofs.AddingUp.{sum_below_low}
 use Rattle.hsp_text.proofs.Lists.{all_append}
 use Rattle.hsp_instance.proofs.Lists.{all_so}
 

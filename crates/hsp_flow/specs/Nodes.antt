@@ -2,7 +2,7 @@
 use Rattle.std.specs.Prelude.{ℕ, ◌+◌, length}
 use Rattle.hsp_instance.specs.Instance.{Instance}
 use Rattle.hsp_instance.specs.Groups.{Groups, AreGroups}
-use Rattle.hsp_shortest_paths.specs.Nodes.{MayHaveUpTo}
+use Rattle.hsp_network.specs.Nodes.{MayHaveUpTo}
 
 -- the sink, the hosts and the servers, and `groups` groups
 abbrev pub nodes_by : Instance → ℕ → ℕ

@@ -12,6 +12,6 @@ mod planning;
 mod shortfall;
 mod spreading;
 
-pub use hsp_shortest_paths::{Frontier, HeapFrontier, ScanFrontier, SearchEffort};
+pub use hsp_network::{Frontier, HeapFrontier, ScanFrontier, SearchEffort};
 pub use planning::{Effort, solve, solve_counted, solve_proposed, solve_with};
 pub use shortfall::flagged;

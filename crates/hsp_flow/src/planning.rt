@@ -8,7 +8,7 @@ ghost use Rattle.hsp_check.specs.Shown.{HasBestPlan, HasEqualSums, HasNoPlan};
 ghost use Rattle.hsp_check.specs.Valid.{IsValid};
 ghost use Rattle.hsp_network.specs.Answer.{Answers, IsShortSet};
 ghost use Rattle.hsp_network.specs.Problem.{problem_of};
-ghost use Rattle.hsp_shortest_paths.specs.Nodes.{MayHaveUpTo};
+ghost use Rattle.hsp_network.specs.Nodes.{MayHaveUpTo};
 ghost use Rattle.hsp_flow.specs.Grouped.{AreGroupArcs, AreRowsOfGroups, demands_by, transport_by};
 ghost use Rattle.hsp_flow.specs.Lists.{transport_in};
 ghost use Rattle.hsp_flow.specs.Nodes.{MayHaveNodesOf, nodes_by};
@@ -21,9 +21,7 @@ use crate::shortfall::short_certificate;
 use crate::spreading::{GroupedRows, spread};
 use hsp_cert::Certificate;
 use hsp_instance::{Groups, Instance, groups};
-use hsp_network::{Network, Outcome, accepts};
-use hsp_shortest_paths::{Frontier, HeapFrontier, SearchEffort, minimum_cost_flow};
-use hsp_simplex::{SimplexEffort, propose_counted};
+use hsp_network::{Frontier, HeapFrontier, Network, Outcome, SearchEffort, SimplexEffort, accepts, minimum_cost_flow, propose_counted};
 use std::alloc::{AllocError, Global};
 
 /// How much work a run took: its searches, the accepted proposals of the network simplex, and the pivots of all

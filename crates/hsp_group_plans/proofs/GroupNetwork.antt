@@ -12,7 +12,7 @@ use Rattle.hsp_text.proofs.Lists.{all_append}
 use Rattle.hsp_network.specs.Answer.{BoundsCosts, HasLengths}
 use Rattle.hsp_network.specs.Network.{IsNetwork}
 use Rattle.hsp_network.specs.declared.network.PricedFlow.{PricedFlow}
-use Rattle.hsp_shortest_paths.specs.Layout.{IsSmall}
+use Rattle.hsp_network.specs.Layout.{IsSmall}
 use Rattle.hsp_check.specs.declared.arc.NetworkArc.{NetworkArc}
 use Rattle.hsp_check.specs.Instance.{arc_of, arcs_from}
 use Rattle.hsp_flow.proofs.Ordering.{each_at, no_arc, rows_between}

@@ -4,9 +4,8 @@ use crate::groups::Groups;
 use crate::lists::{get_or, number_of, saturating_sum};
 use crate::room::Room;
 use crate::terms::Terms;
-use hsp_network::{Network, NetworkLists, Outcome, PricedFlow};
+use hsp_network::{Network, NetworkLists, Outcome, PricedFlow, propose};
 use hsp_price_check::ServiceNumbers;
-use hsp_simplex::propose;
 use std::alloc::{AllocError, Global};
 
 // The greatest sum of the prices of a server and its host.

@@ -6,3 +6,13 @@ pub mod Sums
 pub mod Priced
 pub mod Accepted
 pub mod Reached
+pub mod Frontier
+pub mod Graph
+pub mod Index
+pub mod Layout
+pub mod Nodes
+pub mod InitialPotentials
+pub mod ProblemArcs
+pub mod Residual
+pub mod Search
+pub mod Through

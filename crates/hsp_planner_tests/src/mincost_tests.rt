@@ -1,10 +1,9 @@
 ghost use Rattle.std.specs.Prelude.{ℕ};
-ghost use Rattle.hsp_shortest_paths.specs.Layout.{IsSmall};
+ghost use Rattle.hsp_network.specs.Layout.{IsSmall};
 ghost use Rattle.hsp_network.specs.Problem.{problem_of};
 
 use crate::same::is_same;
-use hsp_network::{Network, Outcome};
-use hsp_shortest_paths::{Frontier, HeapFrontier, ScanFrontier, SearchEffort, minimum_cost_flow};
+use hsp_network::{Frontier, HeapFrontier, Network, Outcome, ScanFrontier, SearchEffort, minimum_cost_flow};
 use std::alloc::{AllocError, Global};
 use std::process::Abort;
 
