@@ -10,7 +10,7 @@ use Rattle.hsp_instance.specs.Instance.{Instance, Row}
 use Rattle.hsp_check.specs.Instance.{capacities_in, limits_in, server_hosts_in}
 use Rattle.hsp_kinds.specs.Rows.{Service}
 use Rattle.hsp_groups.specs.Rows.{IsRow, KeptRow}
-use Rattle.hsp_grouping.specs.Grouping.{asked_in}
+use Rattle.hsp_price_plan.specs.Grouping.{asked_in}
 use Rattle.hsp_price_check.specs.Classes.{service_of}
 use Rattle.hsp_price_check.specs.Passed.{capped}
 use Rattle.hsp_price_check.specs.PlanPass.{AreNumbersOf}

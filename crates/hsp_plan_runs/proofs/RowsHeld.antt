@@ -20,11 +20,11 @@ use Rattle.hsp_instance.proofs.ArcsWithin.{arcs_within}
 use Rattle.hsp_tally.proofs.KindCounts.{few_regions, region_added}
 use Rattle.hsp_kinds.specs.Rows.{Service}
 use Rattle.hsp_groups.specs.Rows.{IsRow, KeptRow}
-use Rattle.hsp_kept_rows.specs.Entries.{AreServers}
-use Rattle.hsp_kept_rows.specs.Held.{CanPush, HeldRows, loose_row, with_row}
-use Rattle.hsp_kept_rows.specs.Regions.{RegionArcs, no_region, region_at, region_with, with_region, HasShape}
-use Rattle.hsp_kept_rows.proofs.LooseRows.{bare, own_shape, region_is, shapes_with}
-use Rattle.hsp_grouping.specs.Grouping.{asked_in}
+use Rattle.hsp_price_plan.specs.Entries.{AreServers}
+use Rattle.hsp_price_plan.specs.Held.{CanPush, HeldRows, loose_row, with_row}
+use Rattle.hsp_price_plan.specs.Regions.{RegionArcs, no_region, region_at, region_with, with_region, HasShape}
+use Rattle.hsp_price_plan.proofs.LooseRows.{bare, own_shape, region_is, shapes_with}
+use Rattle.hsp_price_plan.specs.Grouping.{asked_in}
 use Rattle.hsp_price_check.specs.Passed.{capped}
 use Rattle.hsp_price_check.proofs.Capping.{kept_more}
 use Rattle.hsp_price_check.proofs.RegionPlaces.{among_at, place_low, placed_before}

@@ -8,9 +8,9 @@ use Rattle.hsp_instance.specs.RowArcs.{ArcsInTurn}
 use Rattle.hsp_kinds.specs.Rows.{Service}
 use Rattle.hsp_classes.specs.Shown.{IsService}
 use Rattle.hsp_groups.specs.Solved.{AreRows}
-use Rattle.hsp_kept_rows.specs.Held.{HeldRows}
-use Rattle.hsp_kept_rows.specs.Regions.{HasShape}
-use Rattle.hsp_grouping.specs.Grouping.{asked_in}
+use Rattle.hsp_price_plan.specs.Held.{HeldRows}
+use Rattle.hsp_price_plan.specs.Regions.{HasShape}
+use Rattle.hsp_price_plan.specs.Grouping.{asked_in}
 use Rattle.hsp_price_check.specs.Passed.{capped}
 use Rattle.hsp_plan_runs.specs.declared.holder.RowHolder.{RowHolder}
 

@@ -1,7 +1,7 @@
 // A plan of the rows of a log.
 
 ghost use Rattle.std.specs.Prelude.{◌≡◌, ◌⊎◌, Err, IfErr, IfOk, Ok};
-ghost use Rattle.hsp_grouping.specs.Grouping.{asked_in};
+ghost use Rattle.hsp_price_plan.specs.Grouping.{asked_in};
 ghost use Rattle.hsp_price_check.specs.Classes.{service_of};
 ghost use Rattle.hsp_price_check.specs.Passed.{capped};
 ghost use Rattle.hsp_price_runs.specs.PriceRun.{AnswersRecords};
@@ -14,13 +14,11 @@ ghost use Rattle.hsp_plan_runs.specs.Taken.{AreTakenOfSome, IsTakenFault, IsVali
 use crate::holder::RowHolder;
 use crate::text::{PricesText, text_of};
 use hsp_classes::laws::{plan_is_shown, shortage_is_shown};
-use hsp_guess::keep_guessed;
+use hsp_price_plan::{KeptRows, PlanFault, Progress, keep_guessed, plan_rows};
 use hsp_headline::Inputs;
 use hsp_headline::laws::instances_are_defined;
 use hsp_instance::Instance;
-use hsp_kept_rows::KeptRows;
 use hsp_price_check::{ServiceNumbers, numbers_of};
-use hsp_price_plan::{PlanFault, Progress, plan_rows};
 use hsp_price_runs::pass_log;
 use hsp_price_text::PriceCertificate;
 use hsp_runs::{costs_in, instance_in};

@@ -17,12 +17,12 @@ use Rattle.hsp_instance.specs.declared.arc.Arc.{Arc}
 use Rattle.hsp_kinds.specs.Rows.{Service}
 use Rattle.hsp_groups.specs.Groups.{Group}
 use Rattle.hsp_groups.specs.Rows.{IsRow, KeptRow}
-use Rattle.hsp_kept_rows.specs.Held.{CanPush, HeldRows, loose_row, region_named, with_each, with_row}
-use Rattle.hsp_kept_rows.specs.Regions.{RegionArcs, no_region, region_at, region_with, shape_of, with_region, HasShape}
-use Rattle.hsp_kept_rows.proofs.StillRows.{LeavesRows}
-use Rattle.hsp_kept_rows.proofs.LooseRows.{bare, own_shape, region_is, shape_in, shapes_with}
+use Rattle.hsp_price_plan.specs.Held.{CanPush, HeldRows, loose_row, region_named, with_each, with_row}
+use Rattle.hsp_price_plan.specs.Regions.{RegionArcs, no_region, region_at, region_with, shape_of, with_region, HasShape}
+use Rattle.hsp_price_plan.proofs.StillRows.{LeavesRows}
+use Rattle.hsp_price_plan.proofs.LooseRows.{bare, own_shape, region_is, shape_in, shapes_with}
 use Rattle.hsp_price_check.specs.declared.numbers.ServiceNumbers.{ServiceNumbers}
-use Rattle.hsp_group_plans.specs.Solving.{HasArcsWithin}
+use Rattle.hsp_price_plan.specs.Solving.{HasArcsWithin}
 use Rattle.hsp_price_plan.specs.Planning.{AreOfSome}
 use Rattle.hsp_price_plan.proofs.HeldRows.{held_still}
 use Rattle.hsp_plan_tests.specs.Filling.{HasRows}

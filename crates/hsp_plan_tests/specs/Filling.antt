@@ -5,9 +5,9 @@ use Rattle.hsp_instance.specs.Instance.{Row}
 use Rattle.hsp_instance.specs.RowArcs.{ArcsInTurn}
 use Rattle.hsp_kinds.specs.Rows.{Service}
 use Rattle.hsp_groups.specs.Solved.{AreRows}
-use Rattle.hsp_kept_rows.specs.Held.{HeldRows}
-use Rattle.hsp_kept_rows.specs.Regions.{HasShape}
-use Rattle.hsp_grouping.specs.Grouping.{asked_in}
+use Rattle.hsp_price_plan.specs.Held.{HeldRows}
+use Rattle.hsp_price_plan.specs.Regions.{HasShape}
+use Rattle.hsp_price_plan.specs.Grouping.{asked_in}
 
 -- rows of the service are held, each of which asks for at most a million queries
 pub record HasRows (at : Service) (held : HeldRows) : Type 0 where

@@ -4,13 +4,13 @@ ghost use Rattle.std.specs.Prelude.{◌≡◌, ◌≤◌, ◌<◌, ◌+◌, ◌=
 ghost use Rattle.hsp_text.specs.declared.limits.TheConstants.{MOST_REGIONS, MOST_SERVERS};
 ghost use Rattle.hsp_kinds.specs.Rows.{Service};
 ghost use Rattle.hsp_price_check.specs.Classes.{service_of};
-ghost use Rattle.hsp_kept_rows.specs.Held.{region_named};
+ghost use Rattle.hsp_price_plan.specs.Held.{region_named};
 ghost use Rattle.hsp_price_plan.specs.Planning.{AreOfSome};
 ghost use Rattle.hsp_plan_tests.specs.Filling.{IsFilled};
 
 use crate::service::Held;
 use hsp_instance::{Arc, Instance, RowArcs};
-use hsp_kept_rows::KeptRows;
+use hsp_price_plan::KeptRows;
 use hsp_names::HandleRef;
 use hsp_price_check::{ServiceNumbers, numbers_of};
 use hsp_tables::Costs;

@@ -6,7 +6,7 @@ use crate::filling::{Filled, held_rows, row_of};
 use crate::keeping::keep_least;
 use crate::same::is_same;
 use crate::service::{ROOMY, hold};
-use hsp_grouping::{GroupTable, RowGroup, groups_of};
+use hsp_price_plan::{GroupTable, RowGroup, groups_of};
 use hsp_instance::Arc;
 use std::alloc::{AllocError, Global};
 use std::process::Abort;

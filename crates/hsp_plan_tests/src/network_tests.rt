@@ -6,14 +6,13 @@ ghost use Rattle.std.specs.Prelude.{◌≡◌, ◌<◌, ◌^◌, All, IfOk, IfSo
 ghost use Rattle.std.specs.List.{AllByRecursion};
 ghost use Rattle.hsp_instance.specs.RowArcs.{IsWithin};
 ghost use Rattle.hsp_network.specs.Answer.{IsMet};
-ghost use Rattle.hsp_group_plans.specs.Pressing.{HasTextPrices};
-ghost use Rattle.hsp_group_plans.specs.Solving.{HasArcsWithin, HasFewArcs, demand_in, group_network};
+ghost use Rattle.hsp_price_plan.specs.Pressing.{HasTextPrices};
+ghost use Rattle.hsp_price_plan.specs.Solving.{HasArcsWithin, HasFewArcs, demand_in, group_network};
 
 use crate::judging::says;
 use crate::same::is_same;
 use crate::service::{Held, NARROW, hold};
-use hsp_group_plans::{plan_of, reached_by, short_of, solve};
-use hsp_grouping::{GroupTable, RowGroup};
+use hsp_price_plan::{GroupTable, RowGroup, plan_of, reached_by, short_of, solve};
 use hsp_instance::Arc;
 use hsp_network::{Outcome, PricedFlow};
 use hsp_price_check::{ServiceNumbers, numbers_of};

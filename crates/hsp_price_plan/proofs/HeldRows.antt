@@ -20,10 +20,10 @@ use Rattle.hsp_groups.specs.Groups.{AreGroupsOf, Group, is_in}
 use Rattle.hsp_groups.specs.Rows.{IsRow, KeptArc, KeptRow, arcs_in}
 use Rattle.hsp_price_check.specs.PlanPass.{AreNumbersOf}
 use Rattle.hsp_price_check.specs.declared.numbers.ServiceNumbers.{ServiceNumbers}
-use Rattle.hsp_kept_rows.specs.Held.{AreWithin}
-use Rattle.hsp_kept_rows.proofs.StillRows.{LeavesRows, still_rows}
-use Rattle.hsp_grouping.specs.Grouping.{asked_in}
-use Rattle.hsp_group_plans.specs.Solving.{HasArcsWithin, HasFewArcs}
+use Rattle.hsp_price_plan.specs.Held.{AreWithin}
+use Rattle.hsp_price_plan.proofs.StillRows.{LeavesRows, still_rows}
+use Rattle.hsp_price_plan.specs.Grouping.{asked_in}
+use Rattle.hsp_price_plan.specs.Solving.{HasArcsWithin, HasFewArcs}
 use Rattle.hsp_price_plan.specs.Planning.{AreOfSome, Outlasts}
 
 -- there are as many servers as numbers of them

@@ -20,9 +20,9 @@ use Rattle.hsp_groups.proofs.GroupsBest.{groups_show_best}
 use Rattle.hsp_price_check.specs.Extras.{AreExtras, pay_by}
 use Rattle.hsp_price_check.specs.PlanPass.{AreNumbersOf}
 use Rattle.hsp_price_check.specs.declared.numbers.ServiceNumbers.{ServiceNumbers}
-use Rattle.hsp_group_plans.specs.Planning.{IsPlanFor}
-use Rattle.hsp_group_plans.specs.Pressing.{HasTextPrices}
-use Rattle.hsp_group_plans.specs.Solving.{group_network}
+use Rattle.hsp_price_plan.specs.PlanOfGroups.{IsPlanFor}
+use Rattle.hsp_price_plan.specs.Pressing.{HasTextPrices}
+use Rattle.hsp_price_plan.specs.Solving.{group_network}
 use Rattle.hsp_price_check.proofs.PricePays.{same_pay}
 use Rattle.hsp_price_plan.specs.Planning.{IsFaultOf, IsValidFor}
 use Rattle.hsp_price_plan.specs.declared.fault.PlanFault.TheVariants.{TooLarge}

@@ -9,8 +9,8 @@ use Rattle.hsp_groups.specs.Groups.{AreGroupsOf, Group}
 use Rattle.hsp_groups.specs.Rows.{KeptRow, with_leaving}
 use Rattle.hsp_groups.proofs.ShortShown.{groups_show_short}
 use Rattle.hsp_price_check.specs.declared.numbers.ServiceNumbers.{ServiceNumbers}
-use Rattle.hsp_group_plans.specs.Shortage.{AreReachedBy, IsShortageFor, IsShortagePast}
-use Rattle.hsp_group_plans.specs.Solving.{group_network}
+use Rattle.hsp_price_plan.specs.Shortage.{AreReachedBy, IsShortageFor, IsShortagePast}
+use Rattle.hsp_price_plan.specs.Solving.{group_network}
 use Rattle.hsp_price_plan.specs.Planning.{IsFaultOf, IsValidFor}
 use Rattle.hsp_price_plan.specs.declared.fault.PlanFault.TheVariants.{TooLarge}
 use Rattle.hsp_price_plan.proofs.PlanShown.{same_network}

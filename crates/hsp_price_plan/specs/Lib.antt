@@ -1,2 +1,13 @@
 pub mod Limits
 pub mod Planning
+pub mod Regions
+pub mod Entries
+pub mod Keeping
+pub mod Held
+pub mod Grouping
+pub mod Columns
+pub mod Solving
+pub mod Pressing
+pub mod ClassSums
+pub mod PlanOfGroups
+pub mod Shortage

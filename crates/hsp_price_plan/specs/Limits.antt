@@ -10,7 +10,7 @@ use Rattle.hsp_price_text.specs.declared.certificate.PriceCertificate.{PriceCert
 use Rattle.hsp_price_text.specs.declared.certificate.PriceCertificate.TheVariants.{Plan, Shortage}
 use Rattle.hsp_classes.specs.Verdict.{IsVerdict}
 use Rattle.hsp_classes.specs.declared.verdict.PriceVerdict.TheVariants.{Yes}
-use Rattle.hsp_group_plans.specs.declared.network.TheConstants.{MOST_GROUPS}
+use Rattle.hsp_price_plan.specs.declared.network.TheConstants.{MOST_GROUPS}
 
 -- the most classes of a text
 abbrev pub most_classes : ℕ

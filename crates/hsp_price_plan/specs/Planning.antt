@@ -11,7 +11,7 @@ use Rattle.hsp_groups.specs.Rows.{KeptRow, loose_of}
 use Rattle.hsp_groups.specs.Solved.{AreRows}
 use Rattle.hsp_price_check.specs.PlanPass.{AreNumbersOf}
 use Rattle.hsp_price_check.specs.declared.numbers.ServiceNumbers.{ServiceNumbers}
-use Rattle.hsp_grouping.specs.Grouping.{asked_in}
+use Rattle.hsp_price_plan.specs.Grouping.{asked_in}
 use Rattle.hsp_price_plan.specs.Limits.{AreTooLarge}
 use Rattle.hsp_price_plan.specs.declared.fault.PlanFault.{PlanFault}
 use Rattle.hsp_price_plan.specs.declared.fault.PlanFault.TheVariants as fault

@@ -4,15 +4,15 @@ ghost use Rattle.std.specs.Prelude.{◌≡◌, ◌<◌, ◌^◌, IfErr, IfOk, le
 ghost use Rattle.std.specs.List.{AllByRecursion};
 ghost use Rattle.hsp_network.specs.Answer.{IsMet, IsShortSet};
 ghost use Rattle.hsp_groups.specs.Groups.{AreGroupsOf};
-ghost use Rattle.hsp_group_plans.specs.Pressing.{HasTextPrices};
-ghost use Rattle.hsp_group_plans.specs.Solving.{HasArcsWithin, demand_in, group_network};
+ghost use Rattle.hsp_price_plan.specs.Pressing.{HasTextPrices};
+ghost use Rattle.hsp_price_plan.specs.Solving.{HasArcsWithin, demand_in, group_network};
 ghost use Rattle.hsp_price_plan.specs.Planning.{AreOfSome, IsFaultOf, IsRoundEnd, IsValidFor, Outlasts};
 
 use crate::fault::PlanFault;
 use crate::progress::Progress;
-use hsp_group_plans::{plan_of, reached_by, short_of, solve};
-use hsp_grouping::{RowGroup, groups_of};
-use hsp_kept_rows::KeptRows;
+use crate::{plan_of, reached_by, short_of, solve};
+use crate::{RowGroup, groups_of};
+use crate::KeptRows;
 use hsp_network::{Outcome, PricedFlow};
 use hsp_price_check::{ServiceNumbers, extras_of};
 use hsp_price_text::PriceCertificate;

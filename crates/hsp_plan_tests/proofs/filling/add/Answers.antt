@@ -1,7 +1,7 @@
 use Rattle.std.proofs.Common.{◌≤◌, ◌<◌, ◌==◌, ◌+◌, ◌∙◌, ap, arith, length, subst, sym}
 use Rattle.std.specs.Prelude.{if◌then◌else◌}
 use Rattle.hsp_names.specs.Lent.{octets_of}
-use Rattle.hsp_kept_rows.specs.Held.{HeldRows}
+use Rattle.hsp_price_plan.specs.Held.{HeldRows}
 use Rattle.hsp_plan_tests.specs.Filling.{HasRows}
 use Rattle.hsp_plan_tests.proofs.Fillings.{can_push, one_more, regions_with, service_arcs}
 use Rattle.hsp_plan_tests.proofs.filling.add.Goals as goal

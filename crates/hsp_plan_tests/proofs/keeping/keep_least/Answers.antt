@@ -1,8 +1,8 @@
 use Rattle.std.proofs.Common.{arith}
 use Rattle.hsp_groups.specs.Rows.{with_least}
 use Rattle.hsp_price_check.specs.Extras.{pay_by}
-use Rattle.hsp_kept_rows.proofs.StillRows.{least_leaves}
-use Rattle.hsp_guess.proofs.Kept.{within_many}
+use Rattle.hsp_price_plan.proofs.StillRows.{least_leaves}
+use Rattle.hsp_price_plan.proofs.Kept.{within_many}
 use Rattle.hsp_plan_tests.proofs.Fillings.{still_some}
 use Rattle.hsp_plan_tests.proofs.keeping.keep_least.Goals as goal
 

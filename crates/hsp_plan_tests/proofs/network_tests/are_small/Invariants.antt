@@ -1,6 +1,6 @@
 use Rattle.std.proofs.Common.{ℕ, ◌<◌, slice_index_or}
 use Rattle.hsp_groups.specs.Groups.{Group}
-use Rattle.hsp_group_plans.specs.Solving.{HasFewArcs}
+use Rattle.hsp_price_plan.specs.Solving.{HasFewArcs}
 use Rattle.hsp_plan_tests.proofs.network_tests.are_small.Given as goal
 
 abbrev pub invariant-loop-group : goal.invariant-loop-group

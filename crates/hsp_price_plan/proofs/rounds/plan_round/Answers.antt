@@ -1,9 +1,9 @@
 use Rattle.std.proofs.Common.{◌≡◌, ◌∙◌, IfSome, arith, List, ℕ, ap, length, map, subst, sym}
-use Rattle.hsp_group_plans.specs.Planning.{IsPlanFor, IsPlanPast}
+use Rattle.hsp_price_plan.specs.PlanOfGroups.{IsPlanFor, IsPlanPast}
 use Rattle.hsp_check.specs.Prices.{ArePrices}
 use Rattle.hsp_groups.specs.Rows.{with_least}
-use Rattle.hsp_kept_rows.specs.Held.{AreWithin, HeldRows}
-use Rattle.hsp_kept_rows.proofs.StillRows.{least_leaves}
+use Rattle.hsp_price_plan.specs.Held.{AreWithin, HeldRows}
+use Rattle.hsp_price_plan.proofs.StillRows.{least_leaves}
 use Rattle.hsp_price_check.specs.Extras.{AreExtras, pay_by}
 use Rattle.hsp_price_plan.proofs.HeldRows.{held_still, rows_within}
 use Rattle.hsp_price_plan.proofs.PlanShown.{plan_too_large, plan_valid}

@@ -1,9 +1,9 @@
 use Rattle.std.proofs.Common.{◌≡◌, ◌∙◌, All, Bool, IfSome, List, ap, arith, length, map, subst, sym}
 use Rattle.hsp_transport.specs.Lists.{flag_at}
 use Rattle.hsp_groups.specs.Rows.{with_leaving}
-use Rattle.hsp_kept_rows.specs.Held.{AreWithin, HeldRows}
-use Rattle.hsp_kept_rows.proofs.StillRows.{leaving_leaves}
-use Rattle.hsp_group_plans.specs.Shortage.{IsShortageFor, IsShortagePast}
+use Rattle.hsp_price_plan.specs.Held.{AreWithin, HeldRows}
+use Rattle.hsp_price_plan.proofs.StillRows.{leaving_leaves}
+use Rattle.hsp_price_plan.specs.Shortage.{IsShortageFor, IsShortagePast}
 use Rattle.hsp_price_plan.proofs.HeldRows.{held_still, rows_within, same_many}
 use Rattle.hsp_price_plan.proofs.PlanShown.{all_settled}
 use Rattle.hsp_price_plan.proofs.ShortShown.{short_too_large, short_valid}

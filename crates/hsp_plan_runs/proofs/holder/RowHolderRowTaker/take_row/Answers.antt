@@ -1,7 +1,7 @@
 use Rattle.std.proofs.Common.{◌≡◌, ◌∙◌, ◌<◌, ◌+◌, ◌^◌, List, ap, arith, length, subst, sym}
 use Rattle.hsp_names.specs.Lent.{octets_of}
 use Rattle.hsp_instance.specs.declared.arc.Arc.{Arc}
-use Rattle.hsp_kept_rows.specs.Held.{CanPush, HeldRows, with_row}
+use Rattle.hsp_price_plan.specs.Held.{CanPush, HeldRows, with_row}
 use Rattle.hsp_price_check.specs.Passed.{capped}
 use Rattle.hsp_plan_runs.proofs.RowsHeld.{can_push, taken_more}
 use Rattle.hsp_plan_runs.proofs.holder.RowHolderRowTaker.take_row.Goals as goal

@@ -1,3 +1,0 @@
-mod Joining
-mod Finding
-pub mod OwnArcs

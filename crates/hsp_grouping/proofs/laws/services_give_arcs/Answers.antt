@@ -1,5 +1,0 @@
-use Rattle.hsp_grouping.proofs.OwnArcs.{services_give}
-use Rattle.hsp_grouping.proofs.laws.services_give_arcs.Goals as goal
-
-pub returns : goal.returns
-returns c = services_give

@@ -1,6 +1,0 @@
-use Rattle.std.proofs.Common.{◌≡◌, take}
-use Rattle.hsp_kept_rows.specs.Entries.{bare_arcs}
-use Rattle.hsp_kept_rows.proofs.entries.fill_arcs.Given as goal
-
-abbrev pub invariant-loop-i : goal.invariant-loop-i
-invariant-loop-i l = l.arcs.items ≡ take l.i (bare_arcs l.shape l.entries)

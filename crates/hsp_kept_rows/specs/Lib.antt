@@ -1,4 +1,0 @@
-pub mod Regions
-pub mod Entries
-pub mod Keeping
-pub mod Held

@@ -1,0 +1,19 @@
+use Rattle.std.proofs.Common.{◌≡◌}
+use Rattle.hsp_transport.specs.Lists.{flag_at}
+use Rattle.hsp_groups.specs.Rows.{with_leaving}
+use Rattle.hsp_price_plan.proofs.Passing.{ArePassed}
+use Rattle.hsp_price_plan.proofs.rows.KeptRows.keep_leaving.Given as goal
+
+abbrev pub invariant-loop-row : goal.invariant-loop-row
+invariant-loop-row l =
+    let old = l.initial.self-inside in
+    let now = l.self-inside in
+    record {
+      sites : now.sites ≡ old.sites;
+      regions : now.regions ≡ old.regions;
+      numbers : now.row_regions ≡ old.row_regions;
+      counts : now.counts ≡ old.counts;
+      passed :
+          ArePassed (with_leaving (flag_at l.set)) old.sites old.regions.items old.row_regions.items old.counts.items
+          old.places.items now.places.items l.row l.kept;
+    }

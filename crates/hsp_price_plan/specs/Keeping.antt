@@ -1,0 +1,36 @@
+-- To keep more arcs of a row, by its entries.
+use Rattle.std.specs.Prelude.{◌≡◌, ◌≤◌, ◌+◌, ℕ, Bool, List, [], ◌∷◌, length, min, nat_le}
+use Rattle.std.specs.List.{list_all}
+use Rattle.hsp_instance.specs.declared.arc.Arc.{Arc}
+use Rattle.hsp_groups.specs.Rows.{KeptRow, arcs_in, keeping}
+use Rattle.hsp_price_plan.specs.Entries.{arcs_by, loose_count}
+use Rattle.hsp_price_plan.specs.Regions.{RegionArcs}
+use Rattle.hsp_price_plan.specs.declared.region.SiteCost.{SiteCost}
+
+-- the least of a number and what a query pays over each arc
+abbrev pub least_from : (Arc → ℕ) → ℕ → List Arc → ℕ
+least_from pay least [] = least
+least_from pay least (arc ∷ arcs) = least_from pay (min least (pay arc)) arcs
+
+-- over no arc a query pays so much less that this arc is further than the window from it
+abbrev pub is_near : (Arc → ℕ) → ℕ → List Arc → Arc → Bool
+is_near pay window arcs arc = list_all (λ other. nat_le (pay arc) (pay other + window)) arcs
+
+-- with the arcs over which a query pays at most so much more than the least
+abbrev pub with_near : (Arc → ℕ) → ℕ → KeptRow → KeptRow
+with_near pay window row = keeping (is_near pay window (arcs_in row)) row
+
+-- a row of a region, by its entries
+abbrev pub row_by : RegionArcs → List ℕ → ℕ → KeptRow
+row_by region entries count = record {
+  region = region.name;
+  arcs = arcs_by region.shape entries;
+  count = count;
+}
+
+-- by its entries a row, whatever its name and count, is what a function makes of it, and so many arcs weren't kept
+pub record IsKeptBy (f : KeptRow → KeptRow) (shape : List SiteCost) (old new : List ℕ) (count : ℕ) : Type 0 where
+  pub row : (name : List ℕ) (n : ℕ)
+      → row_by (record { name = name; shape = shape }) new n ≡ f (row_by (record { name = name; shape = shape }) old n)
+  pub counted : count + loose_count (arcs_by shape new) ≡ loose_count (arcs_by shape old)
+  pub few : count ≤ length shape
