@@ -15,7 +15,7 @@ use Rattle.hsp_runs.specs.SiteText.{IsSiteRun}
 use Rattle.hsp_runs.specs.Report.{IsReported}
 use Rattle.hsp_runs.specs.declared.report.ReportKind.{ReportKind}
 use Rattle.hsp_runs.specs.declared.report.ReportKind.TheVariants.{Load, Region, Shortage}
-use Rattle.hsp_headline.specs.declared.inputs.Inputs.{Inputs}
+use Rattle.hsp_runs.specs.declared.inputs.Inputs.{Inputs}
 use Rattle.hsp_cli.specs.Answers.{Answered, IsAnswered, IsShownPlan, IsShownVerdict, fields_reply, plan_reply}
 use Rattle.hsp_cli.specs.Answers.{text_reply, verdict_reply}
 use Rattle.hsp_cli.specs.Dispatching.{Dispatches, Opened}

@@ -2,8 +2,8 @@
 
 ghost use Rattle.std.specs.Prelude.{◌≡◌, ℕ, List, IfOk, codes};
 ghost use Rattle.hsp_cli.specs.Ending.{own_text};
-ghost use Rattle.hsp_faults.specs.FaultText as fault_texts;
-ghost use Rattle.hsp_faults.specs.SumsText as sums_texts;
+ghost use Rattle.hsp_runs.specs.FaultText as fault_texts;
+ghost use Rattle.hsp_runs.specs.SumsText as sums_texts;
 
 use crate::failure::Failure;
 use hsp_dispatch::LogSums;

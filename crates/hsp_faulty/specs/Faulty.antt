@@ -13,7 +13,7 @@ use Rattle.hsp_dispatch.specs.RowChecks.{IsRowRefused, IsSpelled, field_at_fault
 use Rattle.hsp_dispatch.specs.declared.fault.LogFault.{LogFault}
 use Rattle.hsp_dispatch.specs.declared.fault.LogFault.TheVariants.{Header as LogHeader, LogTooLong}
 use Rattle.hsp_dispatch.specs.declared.row_check.LogForm.{LogForm}
-use Rattle.hsp_faults.specs.declared.fault.Fault.TheVariants as input
+use Rattle.hsp_runs.specs.declared.fault.Fault.TheVariants as input
 use Rattle.hsp_tables.specs.TableChecks.{faulty_at_start, header_of}
 use Rattle.hsp_tables.specs.declared.fault.TableFault.{TableFault}
 use Rattle.hsp_tables.specs.declared.fault.TableFault.TheVariants.{Header}

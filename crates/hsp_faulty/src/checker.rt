@@ -7,7 +7,7 @@ ghost use Rattle.hsp_csv.specs.Walks.{shown};
 ghost use Rattle.hsp_csv.specs.declared.found.Checked.TheVariants.{Faulty, Last};
 ghost use Rattle.hsp_csv.specs.declared.found.Found.{Found as FoundFault};
 ghost use Rattle.hsp_dispatch.specs.RowChecks.{field_at_fault};
-ghost use Rattle.hsp_faults.specs.declared.fault.Fault.TheVariants.{Log};
+ghost use Rattle.hsp_runs.specs.declared.fault.Fault.TheVariants.{Log};
 ghost use Rattle.hsp_stream.specs.declared.fault.StreamFault.{StreamFault};
 ghost use Rattle.hsp_stream.specs.declared.fault.StreamFault.TheVariants.{Input};
 ghost use Rattle.hsp_faulty.specs.Checkers.{IsReady, Lists, LooksAt, checked_named};
@@ -20,7 +20,7 @@ use crate::regions::Regions;
 use csv::ByteRecord;
 use hsp_csv::{Checked, Found, PlacedRecord};
 use hsp_dispatch::{LogFault, LogForm, check_row, field_at_fault, log_form_of};
-use hsp_faults::Fault;
+use hsp_runs::Fault;
 use hsp_stream::{
     RowFault, StreamFault, count_fault, handle_fault, is_count_header, is_handle_header,
 };

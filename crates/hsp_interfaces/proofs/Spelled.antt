@@ -8,7 +8,7 @@ use Rattle.hsp_tables.specs.Settings.{SettingsEntries, SiteEntry, SiteSource}
 use Rattle.hsp_instance.specs.Building.{AreSitesAfter, IsReading, IsSiteOf, site_octets, site_of_reading}
 use Rattle.hsp_instance.specs.Instance.{Site, servers_of}
 use Rattle.hsp_instance.specs.declared.fault.BuildFault.{BuildFault}
-use Rattle.hsp_headline.specs.Readings.{AreSites}
+use Rattle.hsp_runs.specs.Readings.{AreSites}
 use Rattle.hsp_interfaces.specs.Interfaces.{HasRecord, HaveRecords}
 
 module _ (values : Option (List HandleValue)) (n before : ℕ) (name : List ℕ) (source : SiteSource) (site : Site) where

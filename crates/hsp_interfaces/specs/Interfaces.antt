@@ -10,8 +10,8 @@ use Rattle.hsp_record.specs.Values.{HandleValue}
 use Rattle.hsp_tables.specs.Settings.{SettingsEntries, SiteEntry, SiteSource}
 use Rattle.hsp_instance.specs.Building.{site_octets}
 use Rattle.hsp_instance.specs.Instance.{Site}
-use Rattle.hsp_faults.specs.declared.fault.Fault.{Fault}
-use Rattle.hsp_headline.specs.Readings.{AreSites, ReadsSettings, ReadsValues}
+use Rattle.hsp_runs.specs.declared.fault.Fault.{Fault}
+use Rattle.hsp_runs.specs.Readings.{AreSites, ReadsSettings, ReadsValues}
 
 -- ---- rows
 

@@ -1,13 +1,12 @@
 // The run that lists service interfaces.
 
 ghost use Rattle.std.specs.Prelude.{option_map};
-ghost use Rattle.hsp_headline.specs.Memory.{OrNoMemory};
+ghost use Rattle.hsp_runs.specs.Memory.{OrNoMemory};
 ghost use Rattle.hsp_text.specs.Answers.{Stands};
 ghost use Rattle.hsp_interfaces.specs.Interfaces.{AreInterfacesIn};
 
 use crate::records::table_of;
-use hsp_faults::Fault;
-use hsp_runs::{settings_in, sites_of, values_in};
+use hsp_runs::{Fault, settings_in, sites_of, values_in};
 use std::alloc::Global;
 
 /// The table of the service interfaces of all servers of the sites that settings, and a value list where one is given,

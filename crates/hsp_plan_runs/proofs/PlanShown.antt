@@ -8,9 +8,9 @@ use Rattle.hsp_cert.specs.declared.fault.CertFault.TheVariants as cert_fault
 use Rattle.hsp_price_text.specs.declared.certificate.PriceCertificate.{PriceCertificate}
 use Rattle.hsp_classes.specs.Shown.{PlanIsShown, ShortageIsShown}
 use Rattle.hsp_classes.specs.declared.verdict.PriceVerdict.TheVariants.{Yes}
-use Rattle.hsp_headline.specs.Instance.{ReadsCosts}
-use Rattle.hsp_headline.specs.declared.inputs.Inputs.{Inputs}
-use Rattle.hsp_headline.proofs.Steps.{went_on}
+use Rattle.hsp_runs.specs.Instance.{ReadsCosts}
+use Rattle.hsp_runs.specs.declared.inputs.Inputs.{Inputs}
+use Rattle.hsp_runs.proofs.Steps.{went_on}
 use Rattle.hsp_price_check.specs.Classes.{service_of}
 use Rattle.hsp_price_runs.specs.PriceRun.{AnswersByPrices, AnswersRead, AnswersRecords, AnswersText, IsCertificateIn}
 use Rattle.hsp_price_runs.specs.PriceRun.{IsReadFrom, IsVerdictBy}

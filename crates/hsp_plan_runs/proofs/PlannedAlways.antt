@@ -1,8 +1,8 @@
 -- Rows that are known are planned.
 use Rattle.std.proofs.Common.{◌⊎◌, inl, inr, ℕ, List, Option, Some, None, Result, Ok, Err, IfErr, IfOk, subst}
 use Rattle.hsp_csv.specs.Records.{Fields, records_of}
-use Rattle.hsp_headline.specs.Laws.{GivesNothingElse}
-use Rattle.hsp_headline.specs.declared.inputs.Inputs.{Inputs}
+use Rattle.hsp_runs.specs.HeadlineLaws.{GivesNothingElse}
+use Rattle.hsp_runs.specs.declared.inputs.Inputs.{Inputs}
 use Rattle.hsp_price_check.specs.Classes.{service_of}
 use Rattle.hsp_price_runs.specs.PriceAlways.{HasRows}
 use Rattle.hsp_price_runs.proofs.Known.{known_rows, known_service}

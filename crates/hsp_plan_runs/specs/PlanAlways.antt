@@ -3,7 +3,7 @@ use Rattle.std.specs.Prelude.{◌⊎◌, ⊤, ℕ, List, Option, Some, None, Res
 use Rattle.hsp_csv.specs.Records.{records_of}
 use Rattle.hsp_instance.specs.Instance.{Row}
 use Rattle.hsp_kinds.specs.Rows.{Service}
-use Rattle.hsp_headline.specs.declared.inputs.Inputs.{Inputs}
+use Rattle.hsp_runs.specs.declared.inputs.Inputs.{Inputs}
 use Rattle.hsp_price_check.specs.Classes.{service_of}
 use Rattle.hsp_price_runs.specs.PriceAlways.{HasRows}
 use Rattle.hsp_stream.specs.Watching.{MayStopReading}

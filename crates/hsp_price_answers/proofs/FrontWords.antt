@@ -5,7 +5,7 @@ use Rattle.hsp_text.specs.Whole.{whole_within}
 use Rattle.hsp_text.specs.declared.limits.TheConstants.{MOST_FRONTS}
 use Rattle.hsp_text.proofs.Steps.{first_step}
 use Rattle.hsp_dispatch.specs.declared.front_share.Front.{Front}
-use Rattle.hsp_faults.specs.declared.fault.Fault.TheVariants.{BadFronts}
+use Rattle.hsp_runs.specs.declared.fault.Fault.TheVariants.{BadFronts}
 use Rattle.hsp_runs.specs.Counts.{count_at}
 use Rattle.hsp_stream.specs.Words.{front_at, fronts_at, word_or}
 use Rattle.hsp_stream.specs.declared.fault.StreamFault.TheVariants.{Input}

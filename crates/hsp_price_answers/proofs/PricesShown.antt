@@ -20,10 +20,10 @@ use Rattle.hsp_price_dispatch.specs.declared.fault.StartFault.TheVariants as sta
 use Rattle.hsp_price_dispatch.proofs.Arcs.{goes_over}
 use Rattle.hsp_price_dispatch.proofs.Planned.{plan_stays}
 use Rattle.hsp_price_dispatch.proofs.RoomTaken.{never_exceeds, same_service}
-use Rattle.hsp_faults.specs.declared.fault.Fault.TheVariants.{WrongKind}
-use Rattle.hsp_headline.specs.Headline.{Defines}
-use Rattle.hsp_headline.specs.Instance.{ReadsCosts}
-use Rattle.hsp_headline.specs.declared.inputs.Inputs.{Inputs}
+use Rattle.hsp_runs.specs.declared.fault.Fault.TheVariants.{WrongKind}
+use Rattle.hsp_runs.specs.Headline.{Defines}
+use Rattle.hsp_runs.specs.Instance.{ReadsCosts}
+use Rattle.hsp_runs.specs.declared.inputs.Inputs.{Inputs}
 use Rattle.hsp_price_check.specs.Classes.{service_of}
 use Rattle.hsp_price_runs.specs.PriceRun.{IsCertificateIn}
 use Rattle.hsp_price_runs.proofs.Shown.{certificate_means}

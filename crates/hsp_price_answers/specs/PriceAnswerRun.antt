@@ -12,10 +12,10 @@ use Rattle.hsp_price_dispatch.specs.Holding.{Held}
 use Rattle.hsp_price_dispatch.specs.Starting.{Fits, IsBegun, Stands}
 use Rattle.hsp_price_dispatch.specs.declared.fault.StartFault.{StartFault}
 use Rattle.hsp_price_dispatch.specs.declared.fault.StartFault.TheVariants as start
-use Rattle.hsp_faults.specs.declared.fault.Fault.{Fault}
-use Rattle.hsp_faults.specs.declared.fault.Fault.TheVariants.{WrongKind}
-use Rattle.hsp_headline.specs.Instance.{IsInstanceOf, ReadsCosts}
-use Rattle.hsp_headline.specs.declared.inputs.Inputs.{Inputs}
+use Rattle.hsp_runs.specs.declared.fault.Fault.{Fault}
+use Rattle.hsp_runs.specs.declared.fault.Fault.TheVariants.{WrongKind}
+use Rattle.hsp_runs.specs.Instance.{IsInstanceOf, ReadsCosts}
+use Rattle.hsp_runs.specs.declared.inputs.Inputs.{Inputs}
 use Rattle.hsp_price_check.specs.Classes.{service_of}
 use Rattle.hsp_price_runs.specs.PriceRun.{IsCertificateIn}
 use Rattle.hsp_stream.specs.AnswerRun.{EndsTalk, Refuses, RunOf}

@@ -17,8 +17,8 @@ use Rattle.hsp_price_dispatch.specs.Holding.{Held}
 use Rattle.hsp_price_dispatch.specs.Laws.{answers_to, count_at, count_on, left_after}
 use Rattle.hsp_price_dispatch.specs.Starting.{Fits, IsBegun, capacity_at, limit_at}
 use Rattle.hsp_price_dispatch.specs.declared.answer.PriceAnswer.TheVariants.{Assigned, Diverted}
-use Rattle.hsp_headline.specs.Headline.{AreCosts, Defines}
-use Rattle.hsp_headline.specs.declared.inputs.Inputs.{Inputs}
+use Rattle.hsp_runs.specs.Headline.{AreCosts, Defines}
+use Rattle.hsp_runs.specs.declared.inputs.Inputs.{Inputs}
 use Rattle.hsp_price_check.specs.Classes.{service_of}
 use Rattle.hsp_stream.specs.AnswersShown.{IsOfTalk, IsRefused, SpellsOr}
 use Rattle.hsp_stream.specs.AnswerTalk.{EndsBy}

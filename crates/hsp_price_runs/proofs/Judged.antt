@@ -4,9 +4,9 @@ use Rattle.hsp_csv.specs.Records.{Fields}
 use Rattle.hsp_instance.specs.Instance.{Instance, Row}
 use Rattle.hsp_kinds.specs.Rows.{Service}
 use Rattle.hsp_price_text.specs.declared.certificate.PriceCertificate.{PriceCertificate}
-use Rattle.hsp_faults.specs.declared.fault.Fault.{Fault}
-use Rattle.hsp_headline.specs.Instance.{IsInstanceOf}
-use Rattle.hsp_headline.specs.declared.inputs.Inputs.{Inputs}
+use Rattle.hsp_runs.specs.declared.fault.Fault.{Fault}
+use Rattle.hsp_runs.specs.Instance.{IsInstanceOf}
+use Rattle.hsp_runs.specs.declared.inputs.Inputs.{Inputs}
 use Rattle.hsp_price_check.specs.Checking.{IsPassed}
 use Rattle.hsp_price_check.specs.declared.checking.PriceCheck.{PriceCheck}
 use Rattle.hsp_stream.specs.Faults.{fault_of_input}

@@ -9,11 +9,11 @@ use Rattle.hsp_instance.specs.Building as building
 use Rattle.hsp_instance.specs.Building.{IsBuilt, arcs_from}
 use Rattle.hsp_instance.specs.Instance.{Instance, Row}
 use Rattle.hsp_instance.proofs.BuiltParts.{BuiltOf, built_has_its_parts, built_of}
-use Rattle.hsp_headline.specs.Headline.{AreArcs, AreCosts, Defines}
-use Rattle.hsp_headline.specs.declared.inputs.Inputs.{Inputs}
-use Rattle.hsp_headline.proofs.Page.{Holds, costs_are_read_as, is_read}
-use Rattle.hsp_headline.proofs.PageArcs.{arcs_are}
-use Rattle.hsp_headline.proofs.PageBuilt.{is_built, sites_of_instance}
+use Rattle.hsp_runs.specs.Headline.{AreArcs, AreCosts, Defines}
+use Rattle.hsp_runs.specs.declared.inputs.Inputs.{Inputs}
+use Rattle.hsp_runs.proofs.Page.{Holds, costs_are_read_as, is_read}
+use Rattle.hsp_runs.proofs.PageArcs.{arcs_are}
+use Rattle.hsp_runs.proofs.PageBuilt.{is_built, sites_of_instance}
 use Rattle.hsp_price_runs.specs.OneTheory.{RowsHaveTheirArcs, TableHasItsNetwork}
 
 -- what was read of inputs that define an instance is built to it, with these costs

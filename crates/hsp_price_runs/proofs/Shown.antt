@@ -11,10 +11,10 @@ use Rattle.hsp_price_text.specs.declared.certificate.PriceCertificate.TheVariant
 use Rattle.hsp_classes.specs.Shown.{IsService, PlanIsShown, ShortageIsShown}
 use Rattle.hsp_classes.specs.Verdict.{IsVerdict}
 use Rattle.hsp_classes.specs.declared.verdict.PriceVerdict.TheVariants.{Yes}
-use Rattle.hsp_faults.specs.declared.fault.Fault.TheVariants.{Cert}
-use Rattle.hsp_headline.specs.declared.inputs.Inputs.{Inputs}
-use Rattle.hsp_headline.proofs.PageRead.{stated_well}
-use Rattle.hsp_headline.proofs.Steps.{went_on}
+use Rattle.hsp_runs.specs.declared.fault.Fault.TheVariants.{Cert}
+use Rattle.hsp_runs.specs.declared.inputs.Inputs.{Inputs}
+use Rattle.hsp_runs.proofs.PageRead.{stated_well}
+use Rattle.hsp_runs.proofs.Steps.{went_on}
 use Rattle.hsp_price_check.specs.Classes.{service_of}
 use Rattle.hsp_stream.proofs.PageCosts.{costs_of_page}
 use Rattle.hsp_price_runs.specs.PriceRun.{AnswersRead, IsCertificateIn, IsVerdictBy, OfInput}

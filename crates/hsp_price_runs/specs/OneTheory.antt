@@ -7,8 +7,8 @@ use Rattle.hsp_instance.specs.declared.arc.Arc.{Arc}
 use Rattle.hsp_check.specs.Instance.{network_of}
 use Rattle.hsp_kinds.specs.Rows.{network_for}
 use Rattle.hsp_classes.specs.Least.{arcs_of}
-use Rattle.hsp_headline.specs.Headline.{AreCosts, Defines, IsArc}
-use Rattle.hsp_headline.specs.declared.inputs.Inputs.{Inputs}
+use Rattle.hsp_runs.specs.Headline.{AreCosts, Defines, IsArc}
+use Rattle.hsp_runs.specs.declared.inputs.Inputs.{Inputs}
 use Rattle.hsp_price_check.specs.Classes.{service_of}
 
 -- by prices the rows of a table have the network of its instance

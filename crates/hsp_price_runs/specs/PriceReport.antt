@@ -8,8 +8,8 @@ use Rattle.hsp_price_text.specs.declared.certificate.PriceCertificate.{PriceCert
 use Rattle.hsp_price_text.specs.declared.certificate.PriceCertificate.TheVariants.{Plan, Shortage}
 use Rattle.hsp_classes.specs.Verdict.{IsVerdict}
 use Rattle.hsp_classes.specs.declared.verdict.PriceVerdict.TheVariants.{No, Yes}
-use Rattle.hsp_faults.specs.declared.fault.Fault.TheVariants.{WrongKind}
-use Rattle.hsp_headline.specs.declared.inputs.Inputs.{Inputs}
+use Rattle.hsp_runs.specs.declared.fault.Fault.TheVariants.{WrongKind}
+use Rattle.hsp_runs.specs.declared.inputs.Inputs.{Inputs}
 use Rattle.hsp_price_report.specs.LoadReport.{load_report}
 use Rattle.hsp_price_report.specs.RegionReport.{region_report}
 use Rattle.hsp_stream.specs.declared.fault.StreamFault.{StreamFault}

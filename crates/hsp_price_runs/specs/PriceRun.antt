@@ -12,11 +12,11 @@ use Rattle.hsp_price_text.specs.Reading.{Means}
 use Rattle.hsp_price_text.specs.declared.certificate.PriceCertificate.{PriceCertificate}
 use Rattle.hsp_classes.specs.Verdict.{IsVerdict}
 use Rattle.hsp_classes.specs.declared.verdict.PriceVerdict.{PriceVerdict}
-use Rattle.hsp_faults.specs.declared.fault.Fault.{Fault}
-use Rattle.hsp_faults.specs.declared.fault.Fault.TheVariants.{Cert}
-use Rattle.hsp_headline.specs.Headline.{Defines}
-use Rattle.hsp_headline.specs.Instance.{IsInstanceOf, ReadsCosts}
-use Rattle.hsp_headline.specs.declared.inputs.Inputs.{Inputs}
+use Rattle.hsp_runs.specs.declared.fault.Fault.{Fault}
+use Rattle.hsp_runs.specs.declared.fault.Fault.TheVariants.{Cert}
+use Rattle.hsp_runs.specs.Headline.{Defines}
+use Rattle.hsp_runs.specs.Instance.{IsInstanceOf, ReadsCosts}
+use Rattle.hsp_runs.specs.declared.inputs.Inputs.{Inputs}
 use Rattle.hsp_price_check.specs.Classes.{service_of}
 use Rattle.hsp_stream.specs.Faults.{fault_of_input}
 use Rattle.hsp_stream.specs.declared.fault.StreamFault.{StreamFault}

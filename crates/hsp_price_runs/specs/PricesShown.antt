@@ -12,8 +12,8 @@ use Rattle.hsp_price_text.specs.Text.{text_of}
 use Rattle.hsp_price_text.specs.declared.certificate.PriceCertificate.{PriceCertificate}
 use Rattle.hsp_price_text.specs.declared.certificate.PriceCertificate.TheVariants as certificates
 use Rattle.hsp_classes.specs.Shown.{IsShownBy}
-use Rattle.hsp_headline.specs.Headline.{AreCosts, Defines}
-use Rattle.hsp_headline.specs.declared.inputs.Inputs.{Inputs}
+use Rattle.hsp_runs.specs.Headline.{AreCosts, Defines}
+use Rattle.hsp_runs.specs.declared.inputs.Inputs.{Inputs}
 use Rattle.hsp_price_check.specs.Classes.{service_of}
 use Rattle.hsp_stream.specs.LogTables.{SpellsLog}
 

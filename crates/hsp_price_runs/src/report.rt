@@ -12,8 +12,7 @@ ghost use Rattle.hsp_price_runs.specs.PriceReport.{IsPriceReport, IsReportBy, re
 use crate::asked::Asked;
 use crate::run::ask_inputs;
 use hsp_classes::{PriceReason, PriceVerdict};
-use hsp_faults::Fault;
-use hsp_headline::Inputs;
+use hsp_runs::{Fault, Inputs};
 use hsp_instance::Instance;
 use hsp_price_check::PriceCheck;
 use hsp_price_report::{price_load_report, price_region_report};

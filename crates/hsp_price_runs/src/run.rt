@@ -1,7 +1,7 @@
 // Questions to a check of a certificate by prices, and the verdict.
 
 ghost use Rattle.std.specs.Prelude.{◌≡◌, ◌⊎◌, Err, IfErr, IfOk, Ok};
-ghost use Rattle.hsp_headline.specs.Memory.{OrNoMemory};
+ghost use Rattle.hsp_runs.specs.Memory.{OrNoMemory};
 ghost use Rattle.hsp_classes.specs.declared.verdict.PriceVerdict.TheVariants.{Yes};
 ghost use Rattle.hsp_price_check.specs.Classes.{service_of};
 ghost use Rattle.hsp_stream.specs.KindsLog.{OfLog};
@@ -16,14 +16,12 @@ use crate::log_pass::pass_log;
 use hsp_cert::CertFault;
 use hsp_classes::PriceVerdict;
 use hsp_classes::laws::{plan_is_shown, shortage_is_shown};
-use hsp_faults::Fault;
-use hsp_headline::Inputs;
-use hsp_headline::laws::instances_are_defined;
+use hsp_runs::{Fault, Inputs, costs_in, instance_in};
+use hsp_runs::headline_laws::instances_are_defined;
 use hsp_instance::Instance;
 use hsp_price_check::PriceCheck;
 use hsp_price_text::laws::one_answer;
 use hsp_price_text::{PriceCertificate, read_prices};
-use hsp_runs::{costs_in, instance_in};
 use hsp_stream::StreamFault;
 use hsp_tables::Costs;
 use hsp_talk::Source;

@@ -23,22 +23,22 @@ use Rattle.hsp_dispatch.specs.declared.answer.FrontSums.{FrontSums}
 use Rattle.hsp_dispatch.specs.declared.answer.LogSums.{LogSums}
 use Rattle.hsp_dispatch.specs.declared.fault.LogFault.{LogFault}
 use Rattle.hsp_dispatch.specs.declared.fault.LogFault.TheVariants as log_fault
-use Rattle.hsp_faults.specs.FaultText.{fault_of_log}
-use Rattle.hsp_faults.specs.declared.fault.Fault.{Fault}
-use Rattle.hsp_faults.specs.declared.fault.Fault.TheVariants.{BadFronts, Log, OutOfMemory}
+use Rattle.hsp_runs.specs.FaultText.{fault_of_log}
+use Rattle.hsp_runs.specs.declared.fault.Fault.{Fault}
+use Rattle.hsp_runs.specs.declared.fault.Fault.TheVariants.{BadFronts, Log, OutOfMemory}
 use Rattle.hsp_runs.specs.Always.{GivesTheDefinedAlways, ReadsAlways}
 use Rattle.hsp_runs.specs.Counts.{above_none}
 use Rattle.hsp_runs.specs.Dispatch.{AnswersAs, AnswersBy, EndsLog, Refuses, Staff, a_dispatcher, fronts_at, so_many}
-use Rattle.hsp_headline.specs.Headline.{Defines, ShowsOf}
-use Rattle.hsp_headline.specs.Instance.{IsInstanceOf}
-use Rattle.hsp_headline.specs.Laws.{GivesNothingElse}
+use Rattle.hsp_runs.specs.Headline.{Defines, ShowsOf}
+use Rattle.hsp_runs.specs.Instance.{IsInstanceOf}
+use Rattle.hsp_runs.specs.HeadlineLaws.{GivesNothingElse}
 use Rattle.hsp_runs.specs.Logs.{IsOkUnlessLog}
 use Rattle.hsp_runs.specs.Parts.{IsNamed}
 use Rattle.hsp_runs.specs.Plan.{IsPlanText, Printed}
-use Rattle.hsp_headline.specs.Shown.{Holds, Shows, Spells}
-use Rattle.hsp_headline.specs.Memory.{OrNoMemory}
+use Rattle.hsp_runs.specs.Shown.{Holds, Shows, Spells}
+use Rattle.hsp_runs.specs.Memory.{OrNoMemory}
 use Rattle.hsp_runs.specs.declared.accepted.Accepted.{Accepted}
-use Rattle.hsp_headline.specs.declared.inputs.Inputs.{Inputs}
+use Rattle.hsp_runs.specs.declared.inputs.Inputs.{Inputs}
 
 -- ---- a fault that is handed on
 

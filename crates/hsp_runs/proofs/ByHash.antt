@@ -12,11 +12,11 @@ use Rattle.hsp_dispatch.proofs.ByHash.{goes_by_hash}
 use Rattle.hsp_dispatch.proofs.FrontShares.{share_none}
 use Rattle.hsp_runs.specs.Accepted.{IsAcceptedOf}
 use Rattle.hsp_runs.specs.Check.{IsCertificate}
-use Rattle.hsp_headline.specs.Instance.{IsInstanceOf}
+use Rattle.hsp_runs.specs.Instance.{IsInstanceOf}
 use Rattle.hsp_runs.specs.Laws.{LogsGoByHash}
 use Rattle.hsp_runs.specs.declared.accepted.Accepted.{Accepted}
-use Rattle.hsp_headline.specs.declared.inputs.Inputs as files
-use Rattle.hsp_headline.proofs.PageRead.{hold}
+use Rattle.hsp_runs.specs.declared.inputs.Inputs as files
+use Rattle.hsp_runs.proofs.PageRead.{hold}
 
 -- what is accepted was read, and its certificate is valid for its instance
 pub accepted_of : (inputs : files.Inputs) (octets : List ℕ) (accepted : Accepted)

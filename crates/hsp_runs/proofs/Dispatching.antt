@@ -16,8 +16,8 @@ use Rattle.hsp_dispatch.specs.declared.fault.LogFault.{LogFault}
 use Rattle.hsp_dispatch.specs.declared.fault.LogFault.TheVariants as log_fault
 use Rattle.hsp_runs.specs.Accepted.{plan_in}
 use Rattle.hsp_runs.specs.Dispatch.{AnswersAs, EndsLog, IsBeforeLog, a_dispatcher, so_many}
-use Rattle.hsp_faults.specs.FaultText.{fault_of_log}
-use Rattle.hsp_faults.specs.declared.fault.Fault.{Fault}
+use Rattle.hsp_runs.specs.FaultText.{fault_of_log}
+use Rattle.hsp_runs.specs.declared.fault.Fault.{Fault}
 
 -- a result that is of this fault
 pub is_fault : {A : Type 0} (answer : Result A Fault) (fault : Fault) → IsErrAnd answer (λ e. e ≡ fault)

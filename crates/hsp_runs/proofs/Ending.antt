@@ -8,7 +8,7 @@ use Rattle.hsp_dispatch.specs.declared.fault.LogFault.{LogFault}
 use Rattle.hsp_dispatch.specs.declared.fault.LogFault.TheVariants as log_fault
 use Rattle.hsp_runs.specs.Dispatch.{EndsLog}
 use Rattle.hsp_runs.specs.Logs.{Ends}
-use Rattle.hsp_faults.specs.declared.fault.Fault.{Fault}
+use Rattle.hsp_runs.specs.declared.fault.Fault.{Fault}
 
 module _ (one other : Desk) (run : Streams) (heads : one.header ≡ other.header)
     (goes : (form : _) (rows : List Fields) (lines : List (List ℕ)) (sums : FrontSums)

@@ -1,6 +1,6 @@
 -- What the parts of a run answered.
 use Rattle.std.proofs.Common.{◌≡◌, Result, Ok, Err}
-use Rattle.hsp_faults.specs.declared.fault.Fault.{Fault}
+use Rattle.hsp_runs.specs.declared.fault.Fault.{Fault}
 use Rattle.hsp_runs.specs.Parts.{IsNamed}
 
 -- a value in the answer of the run is the part's

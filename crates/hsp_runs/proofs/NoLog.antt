@@ -6,13 +6,13 @@ use Rattle.hsp_cert.specs.Certificate.{Claim}
 use Rattle.hsp_dispatch.specs.declared.fault.LogFault.{LogFault}
 use Rattle.hsp_runs.specs.Accepted.{IsAccepted, IsAcceptedOf}
 use Rattle.hsp_runs.specs.Check.{IsCertificate}
-use Rattle.hsp_headline.specs.Instance.{BuildsInstance, IsInstanceOf, ReadsCapacitiesOn, ReadsCostsOn, ReadsValuesOn}
-use Rattle.hsp_headline.specs.Instance.{ReadsDemandOn}
-use Rattle.hsp_headline.specs.Readings.{AreListed, ReadsValues}
-use Rattle.hsp_faults.specs.declared.fault.Fault.{Fault}
-use Rattle.hsp_faults.specs.declared.fault.Fault.TheVariants.{Build, Capacity, Cert, Costs, Demand, Log, Settings}
-use Rattle.hsp_faults.specs.declared.fault.Fault.TheVariants.{Values}
-use Rattle.hsp_headline.specs.declared.inputs.Inputs.{Inputs}
+use Rattle.hsp_runs.specs.Instance.{BuildsInstance, IsInstanceOf, ReadsCapacitiesOn, ReadsCostsOn, ReadsValuesOn}
+use Rattle.hsp_runs.specs.Instance.{ReadsDemandOn}
+use Rattle.hsp_runs.specs.Readings.{AreListed, ReadsValues}
+use Rattle.hsp_runs.specs.declared.fault.Fault.{Fault}
+use Rattle.hsp_runs.specs.declared.fault.Fault.TheVariants.{Build, Capacity, Cert, Costs, Demand, Log, Settings}
+use Rattle.hsp_runs.specs.declared.fault.Fault.TheVariants.{Values}
+use Rattle.hsp_runs.specs.declared.inputs.Inputs.{Inputs}
 
 -- no fault that the relation has is the log's
 abbrev pub HasNoLog : {A : Type 0} → (Result A Fault → Type 0) → Type 0

@@ -21,8 +21,8 @@ use Rattle.hsp_check.specs.Uses.{table}
 use Rattle.hsp_transport.specs.Sums.{times}
 use Rattle.hsp_check.proofs.Changes.{one_change_is_priced, prices_bound_changes}
 use Rattle.hsp_check.proofs.InstanceNetwork.{is_network}
-use Rattle.hsp_headline.specs.declared.inputs.Inputs.{Inputs}
-use Rattle.hsp_headline.proofs.Page.{Holds, is_read, is_within}
+use Rattle.hsp_runs.specs.declared.inputs.Inputs.{Inputs}
+use Rattle.hsp_runs.proofs.Page.{Holds, is_read, is_within}
 use Rattle.hsp_runs.specs.Pricing.{DifferInNumbers, PrintedPricesAnswer, without_count, without_limit}
 
 -- ---- arcs go by rows without their counts

@@ -12,7 +12,7 @@ use Rattle.hsp_check.specs.Valid.{IsValid, IsValidPlan, IsValidSet}
 use Rattle.hsp_check.specs.Verdict.{is_one_of}
 use Rattle.hsp_check.proofs.Duality.{prices_show_best, short_shows_none}
 use Rattle.hsp_check.proofs.InstanceNetwork.{is_network}
-use Rattle.hsp_headline.specs.Shown.{Holds, HoldsBest, HoldsShort}
+use Rattle.hsp_runs.specs.Shown.{Holds, HoldsBest, HoldsShort}
 
 -- a valid claim holds by what it shows
 pub shown_holds : (n : Network) (claim : Claim) → IsValid n claim → HasBestPlan n claim → HasEqualSums n claim

@@ -29,14 +29,14 @@ use Rattle.hsp_dispatch.proofs.Resting.{answer_same}
 use Rattle.hsp_runs.specs.Accepted.{IsAcceptedOf}
 use Rattle.hsp_runs.specs.Counts.{above_none}
 use Rattle.hsp_runs.specs.Dispatch.{AnswersBy, AreAnsweredBy, EndsLog, fronts_at, so_many}
-use Rattle.hsp_headline.specs.Headline.{Defines}
+use Rattle.hsp_runs.specs.Headline.{Defines}
 use Rattle.hsp_runs.specs.Laws.{FrontsLogsShow}
 use Rattle.hsp_runs.specs.Logs.{AnswersByShares, IsLogAt, IsRefused, ShowsFrontsOf, ShowsPlanOf, by_shares}
-use Rattle.hsp_headline.specs.Shown.{Holds}
+use Rattle.hsp_runs.specs.Shown.{Holds}
 use Rattle.hsp_runs.specs.declared.accepted.Accepted.{Accepted}
-use Rattle.hsp_faults.specs.declared.fault.Fault.{Fault}
-use Rattle.hsp_faults.specs.declared.fault.Fault.TheVariants.{BadFronts, Log}
-use Rattle.hsp_headline.specs.declared.inputs.Inputs.{Inputs}
+use Rattle.hsp_runs.specs.declared.fault.Fault.{Fault}
+use Rattle.hsp_runs.specs.declared.fault.Fault.TheVariants.{BadFronts, Log}
+use Rattle.hsp_runs.specs.declared.inputs.Inputs.{Inputs}
 use Rattle.hsp_runs.proofs.ByHash.{logs_go_by_hash}
 use Rattle.hsp_runs.proofs.Ending.{ends}
 use Rattle.hsp_tables.proofs.TableRows.{whole_is}

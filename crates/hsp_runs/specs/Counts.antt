@@ -2,7 +2,7 @@
 use Rattle.std.specs.Prelude.{◌==◌, ℕ, List, Result, Ok, Err, if◌then◌else◌}
 use Rattle.hsp_text.specs.Whole.{whole_within}
 use Rattle.hsp_text.specs.declared.whole.WholeFault.{WholeFault}
-use Rattle.hsp_faults.specs.declared.fault.Fault.{Fault}
+use Rattle.hsp_runs.specs.declared.fault.Fault.{Fault}
 
 -- a number that was read, where it is above 0
 abbrev pub above_none : Fault → Result ℕ WholeFault → Result ℕ Fault

@@ -17,10 +17,10 @@ use Rattle.hsp_text.specs.declared.limits.TheConstants.{MOST_FRONTS}
 use Rattle.hsp_runs.specs.Accepted.{IsAcceptedOf}
 use Rattle.hsp_runs.specs.Counts.{count_at}
 use Rattle.hsp_runs.specs.declared.accepted.Accepted.{Accepted}
-use Rattle.hsp_faults.specs.FaultText.{fault_of_log}
-use Rattle.hsp_faults.specs.declared.fault.Fault.{Fault}
-use Rattle.hsp_faults.specs.declared.fault.Fault.TheVariants.{BadFronts, Log, OutOfMemory, WrongKind}
-use Rattle.hsp_headline.specs.declared.inputs.Inputs.{Inputs}
+use Rattle.hsp_runs.specs.FaultText.{fault_of_log}
+use Rattle.hsp_runs.specs.declared.fault.Fault.{Fault}
+use Rattle.hsp_runs.specs.declared.fault.Fault.TheVariants.{BadFronts, Log, OutOfMemory, WrongKind}
+use Rattle.hsp_runs.specs.declared.inputs.Inputs.{Inputs}
 
 -- ---- who answers
 

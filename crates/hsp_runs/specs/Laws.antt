@@ -13,8 +13,8 @@ use Rattle.hsp_dispatch.specs.declared.answer.LogSums.{LogSums}
 use Rattle.hsp_runs.specs.Dispatch.{IsDispatched, IsDispatchedAt}
 use Rattle.hsp_runs.specs.Logs.{ShowsFrontsOf, ShowsLogOf}
 use Rattle.hsp_runs.specs.declared.accepted.Accepted.{Accepted}
-use Rattle.hsp_faults.specs.declared.fault.Fault.{Fault}
-use Rattle.hsp_headline.specs.declared.inputs.Inputs.{Inputs}
+use Rattle.hsp_runs.specs.declared.fault.Fault.{Fault}
+use Rattle.hsp_runs.specs.declared.inputs.Inputs.{Inputs}
 
 -- Where inputs and a certificate are accepted, each entry is answered by the server that is responsible for
 -- its handle by the hash option of the site: by the certificate's plan, and by any front's share of it.

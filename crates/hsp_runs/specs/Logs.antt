@@ -19,12 +19,12 @@ use Rattle.hsp_dispatch.specs.declared.answer.FrontAnswer.TheVariants.{Answered}
 use Rattle.hsp_dispatch.specs.declared.answer.FrontSums.{FrontSums}
 use Rattle.hsp_dispatch.specs.declared.answer.LogSums.{LogSums}
 use Rattle.hsp_dispatch.specs.declared.fault.LogFault.{LogFault}
-use Rattle.hsp_headline.specs.Headline.{Defines}
-use Rattle.hsp_headline.specs.Shown.{ShowsPlan, Spells}
-use Rattle.hsp_faults.specs.FaultText.{fault_of_log}
-use Rattle.hsp_faults.specs.declared.fault.Fault.{Fault}
-use Rattle.hsp_faults.specs.declared.fault.Fault.TheVariants.{Log, OutOfMemory}
-use Rattle.hsp_headline.specs.declared.inputs.Inputs.{Inputs}
+use Rattle.hsp_runs.specs.Headline.{Defines}
+use Rattle.hsp_runs.specs.Shown.{ShowsPlan, Spells}
+use Rattle.hsp_runs.specs.FaultText.{fault_of_log}
+use Rattle.hsp_runs.specs.declared.fault.Fault.{Fault}
+use Rattle.hsp_runs.specs.declared.fault.Fault.TheVariants.{Log, OutOfMemory}
+use Rattle.hsp_runs.specs.declared.inputs.Inputs.{Inputs}
 
 -- A run answered the log to its end, and the sums count the answers; or it stopped at a fault, when it had
 -- answered rows from the log's beginning and written their lines, of the last one perhaps a part. The fault is

@@ -1,7 +1,7 @@
 -- What the parts of a run answer, in the terms of the run.
 use Rattle.std.specs.Prelude.{◌≡◌, ◌≢◌, ◌⊎◌, Result, Ok, Err}
-use Rattle.hsp_faults.specs.declared.fault.Fault.{Fault}
-use Rattle.hsp_faults.specs.declared.fault.Fault.TheVariants.{OutOfMemory}
+use Rattle.hsp_runs.specs.declared.fault.Fault.{Fault}
+use Rattle.hsp_runs.specs.declared.fault.Fault.TheVariants.{OutOfMemory}
 
 -- where memory ran out for the part it did so for the run, and any other fault of the part has a name in the run
 abbrev pub IsNamedFault : {F : Type 0} → (F → Fault → Type 0) → F → F → Fault → Type 0

@@ -5,16 +5,16 @@ ghost use Rattle.hsp_check.specs.Instance.{network_of};
 ghost use Rattle.hsp_check.specs.declared.verdict.Verdict.TheVariants.{Yes};
 ghost use Rattle.hsp_runs.specs.Check.{IsCertificate, IsChecked, IsVerdict, IsVerdictOn};
 ghost use Rattle.hsp_runs.specs.Always.{ReadsAlways};
-ghost use Rattle.hsp_headline.specs.Headline.{SaysYesAlways, ShowsOf};
-ghost use Rattle.hsp_headline.specs.Shown.{Holds, Shows};
-ghost use Rattle.hsp_headline.specs.Memory.{IsOrNoMemory, OrNoMemory};
+ghost use Rattle.hsp_runs.specs.Headline.{SaysYesAlways, ShowsOf};
+ghost use Rattle.hsp_runs.specs.Shown.{Holds, Shows};
+ghost use Rattle.hsp_runs.specs.Memory.{IsOrNoMemory, OrNoMemory};
 
 use crate::instance::instance_in;
 use crate::parts::named;
 use hsp_cert::{Certificate, read_cert};
 use hsp_check::{Verdict, check};
-use hsp_faults::Fault;
-use hsp_headline::Inputs;
+use crate::Fault;
+use crate::Inputs;
 use hsp_instance::Instance;
 use std::alloc::Global;
 

@@ -8,8 +8,8 @@ ghost use Rattle.hsp_runs.specs.Logs.{DispatchesAlways, ShowsLogOf};
 
 use crate::accepted::{Accepted, accepted_in};
 use hsp_dispatch::{Dispatcher, LogSums, run_log};
-use hsp_faults::Fault;
-use hsp_headline::Inputs;
+use crate::Fault;
+use crate::Inputs;
 use std::alloc::Global;
 use std::io::{Read, Write};
 

@@ -2,17 +2,17 @@
 
 ghost use Rattle.std.specs.Prelude.{IfOk, option_map};
 ghost use Rattle.hsp_runs.specs.Always.{GivesTheDefinedAlways};
-ghost use Rattle.hsp_headline.specs.Headline.{Defines};
-ghost use Rattle.hsp_headline.specs.Instance.{BuildsInstance, IsInstanceOf, ReadsCapacitiesOn, ReadsCostsOn};
-ghost use Rattle.hsp_headline.specs.Instance.{ReadsValuesOn};
-ghost use Rattle.hsp_headline.specs.Instance.{ReadsDemandOn, ReadsCapacities, ReadsCosts, ReadsDemand};
-ghost use Rattle.hsp_headline.specs.Memory.{OrNoMemory};
+ghost use Rattle.hsp_runs.specs.Headline.{Defines};
+ghost use Rattle.hsp_runs.specs.Instance.{BuildsInstance, IsInstanceOf, ReadsCapacitiesOn, ReadsCostsOn};
+ghost use Rattle.hsp_runs.specs.Instance.{ReadsValuesOn};
+ghost use Rattle.hsp_runs.specs.Instance.{ReadsDemandOn, ReadsCapacities, ReadsCosts, ReadsDemand};
+ghost use Rattle.hsp_runs.specs.Memory.{OrNoMemory};
 
 use crate::parts::named;
 use crate::readings::{settings_in, values_in};
-use hsp_faults::Fault;
-use hsp_headline::Inputs;
-use hsp_headline::laws::instances_are_defined;
+use crate::Fault;
+use crate::Inputs;
+use crate::headline_laws::instances_are_defined;
 use hsp_instance::{Instance, build};
 use hsp_record::ValueList;
 use hsp_tables::{Capacities, Costs, Demand, Settings, read_capacity, read_costs, read_demand};

@@ -8,7 +8,7 @@ ghost use Rattle.hsp_runs.specs.Locate.{AreLocated, IsLocated, handle_at, option
 use crate::counts::count_at;
 use crate::readings::sites_in;
 use crate::site_lines::site_lines;
-use hsp_faults::Fault;
+use crate::Fault;
 use hsp_hash::{HashOption, server_number};
 use hsp_names::HandleRef;
 use hsp_text::limits::MOST_SERVERS;

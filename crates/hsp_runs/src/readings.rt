@@ -1,11 +1,11 @@
 // What runs read from their inputs.
 
 ghost use Rattle.std.specs.Prelude.{option_map};
-ghost use Rattle.hsp_headline.specs.Readings.{AreListed, AreSites, AreSitesIn, ReadsSettings, ReadsValues};
-ghost use Rattle.hsp_headline.specs.Memory.{OrNoMemory};
+ghost use Rattle.hsp_runs.specs.Readings.{AreListed, AreSites, AreSitesIn, ReadsSettings, ReadsValues};
+ghost use Rattle.hsp_runs.specs.Memory.{OrNoMemory};
 
 use crate::parts::named;
-use hsp_faults::Fault;
+use crate::Fault;
 use hsp_instance::{Sites, build_sites};
 use hsp_record::{ValueList, decode_values};
 use hsp_tables::{Settings, read_settings};

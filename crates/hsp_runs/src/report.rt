@@ -6,8 +6,8 @@ ghost use Rattle.hsp_runs.specs.Report.{IsReport, IsReported};
 ghost use Rattle.hsp_text.specs.Answers.{Stands};
 
 use crate::accepted::{Accepted, accepted_in};
-use hsp_faults::Fault;
-use hsp_headline::Inputs;
+use crate::Fault;
+use crate::Inputs;
 use hsp_report::{load_report, region_report, shortage_report};
 use std::alloc::Global;
 

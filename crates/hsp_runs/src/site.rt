@@ -8,7 +8,7 @@ ghost use Rattle.hsp_runs.specs.SiteText.{IsRecordRun, IsSiteRun, IsValueRun, co
 ghost use Rattle.hsp_runs.specs.SiteText.{server_lines, site_text};
 
 use crate::parts::named;
-use hsp_faults::Fault;
+use crate::Fault;
 use hsp_record::{ServerRecord, SiteRecord, decode_site, decode_values};
 use hsp_text::{push_line, push_whole, read_whole};
 use std::alloc::{AllocError, Global};

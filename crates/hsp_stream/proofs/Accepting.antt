@@ -10,14 +10,14 @@ use Rattle.hsp_check.specs.Valid.{IsValid}
 use Rattle.hsp_dispatch.specs.Portions.{portion_of}
 use Rattle.hsp_dispatch.specs.Shares.{IsPlanFor, plan_of}
 use Rattle.hsp_dispatch.specs.declared.portion.Portion.{Portion}
-use Rattle.hsp_faults.specs.declared.fault.Fault.{Fault}
-use Rattle.hsp_faults.specs.declared.fault.Fault.TheVariants.{WrongKind}
+use Rattle.hsp_runs.specs.declared.fault.Fault.{Fault}
+use Rattle.hsp_runs.specs.declared.fault.Fault.TheVariants.{WrongKind}
 use Rattle.hsp_runs.specs.Accepted.{IsAccepted, IsAcceptedOf, plan_in}
 use Rattle.hsp_runs.specs.Check.{IsCertificate}
 use Rattle.hsp_runs.specs.Instance.{IsInstanceOf}
 use Rattle.hsp_runs.specs.declared.accepted.Accepted.{Accepted}
-use Rattle.hsp_headline.specs.declared.inputs.Inputs.{Inputs}
-use Rattle.hsp_headline.proofs.Steps.{went_on}
+use Rattle.hsp_runs.specs.declared.inputs.Inputs.{Inputs}
+use Rattle.hsp_runs.proofs.Steps.{went_on}
 use Rattle.hsp_stream.specs.AnswerRun.{AnswersAs, EndsLog, HasCosts, Refuses, Run}
 use Rattle.hsp_stream.specs.Faults.{fault_of_input}
 

@@ -17,13 +17,13 @@ use Rattle.hsp_dispatch.specs.declared.portion.Portion.{Portion}
 use Rattle.hsp_dispatch.proofs.Dispatching.{never_exceeds}
 use Rattle.hsp_dispatch.proofs.FrontShares.{share_le}
 use Rattle.hsp_dispatch.proofs.Parts.{part_none}
-use Rattle.hsp_faults.specs.declared.fault.Fault.{Fault}
-use Rattle.hsp_faults.specs.declared.fault.Fault.TheVariants.{Costs, WrongKind}
-use Rattle.hsp_faults.specs.declared.fault.Fault.TheVariants as input
-use Rattle.hsp_headline.specs.Headline.{Defines}
-use Rattle.hsp_headline.specs.Shown.{Holds}
-use Rattle.hsp_headline.specs.declared.inputs.Inputs.{Inputs}
-use Rattle.hsp_headline.proofs.PageRead.{hold, stated_well}
+use Rattle.hsp_runs.specs.declared.fault.Fault.{Fault}
+use Rattle.hsp_runs.specs.declared.fault.Fault.TheVariants.{Costs, WrongKind}
+use Rattle.hsp_runs.specs.declared.fault.Fault.TheVariants as input
+use Rattle.hsp_runs.specs.Headline.{Defines}
+use Rattle.hsp_runs.specs.Shown.{Holds}
+use Rattle.hsp_runs.specs.declared.inputs.Inputs.{Inputs}
+use Rattle.hsp_runs.proofs.PageRead.{hold, stated_well}
 use Rattle.hsp_runs.specs.Accepted.{IsAcceptedOf}
 use Rattle.hsp_runs.specs.Instance.{ReadsCosts}
 use Rattle.hsp_runs.specs.declared.accepted.Accepted.{Accepted}

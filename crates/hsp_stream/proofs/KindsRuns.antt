@@ -2,7 +2,7 @@
 use Rattle.std.proofs.Common.{◌≡◌, ℕ, List, Option, Ok, Err, refl, sym}
 use Rattle.std.specs.Prelude.{Result}
 use Rattle.hsp_csv.specs.Records.{Fields}
-use Rattle.hsp_faults.specs.declared.fault.Fault.{Fault}
+use Rattle.hsp_runs.specs.declared.fault.Fault.{Fault}
 use Rattle.hsp_stream.specs.Faults.{fault_of_input}
 use Rattle.hsp_stream.specs.KindsFiles.{AreFilesIn}
 use Rattle.hsp_stream.specs.KindsRun.{IsKindsText, kinds_text}

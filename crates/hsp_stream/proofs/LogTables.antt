@@ -37,15 +37,15 @@ use Rattle.hsp_kinds.specs.Keeping.{PricesOfKinds}
 use Rattle.hsp_kinds.specs.Rows.{TablesAreOfKinds, kinds_of, network_for}
 use Rattle.hsp_kinds.specs.Same.{PlanIsTheSame}
 use Rattle.hsp_kinds.specs.Units.{UnitsServeRows, in_units, rounded_up}
-use Rattle.hsp_faults.specs.declared.fault.Fault.{Fault}
-use Rattle.hsp_faults.specs.declared.fault.Fault.TheVariants.{Build, Costs}
-use Rattle.hsp_headline.specs.Headline.{AreCosts, Defines}
-use Rattle.hsp_headline.specs.Instance.{IsInstanceOf, ReadsCosts}
-use Rattle.hsp_headline.specs.Laws.{AcceptsTheDefined, GivesOneAnswer}
-use Rattle.hsp_headline.specs.Readings.{AreSites, ReadsSettings, ReadsValues}
-use Rattle.hsp_headline.specs.declared.inputs.Inputs.{Inputs}
-use Rattle.hsp_headline.proofs.PageRead.{hold, is_instance, stated_well}
-use Rattle.hsp_headline.proofs.Steps.{went_on}
+use Rattle.hsp_runs.specs.declared.fault.Fault.{Fault}
+use Rattle.hsp_runs.specs.declared.fault.Fault.TheVariants.{Build, Costs}
+use Rattle.hsp_runs.specs.Headline.{AreCosts, Defines}
+use Rattle.hsp_runs.specs.Instance.{IsInstanceOf, ReadsCosts}
+use Rattle.hsp_runs.specs.HeadlineLaws.{AcceptsTheDefined, GivesOneAnswer}
+use Rattle.hsp_runs.specs.Readings.{AreSites, ReadsSettings, ReadsValues}
+use Rattle.hsp_runs.specs.declared.inputs.Inputs.{Inputs}
+use Rattle.hsp_runs.proofs.PageRead.{hold, is_instance, stated_well}
+use Rattle.hsp_runs.proofs.Steps.{went_on}
 use Rattle.hsp_tally.specs.Tally.{capped, capped_row}
 use Rattle.hsp_stream.specs.Faults.{fault_of_input}
 use Rattle.hsp_stream.specs.KindsFiles.{AreFilesIn, are_checked}

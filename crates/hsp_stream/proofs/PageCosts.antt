@@ -9,10 +9,10 @@ use Rattle.hsp_tables.specs.Costs.{CostEntry, IsCostEntry}
 use Rattle.hsp_tables.proofs.TableRows as table_rows
 use Rattle.hsp_tables.proofs.TableRows.{cost_fields, whole_is_read}
 use Rattle.hsp_instance.specs.Instance.{Instance, Site}
-use Rattle.hsp_faults.specs.declared.fault.Fault.TheVariants.{Costs}
-use Rattle.hsp_headline.specs.Headline.{AreCosts, Defines, IsCost}
-use Rattle.hsp_headline.specs.declared.inputs.Inputs.{Inputs}
-use Rattle.hsp_headline.proofs.PageRead.{stated_well}
+use Rattle.hsp_runs.specs.declared.fault.Fault.TheVariants.{Costs}
+use Rattle.hsp_runs.specs.Headline.{AreCosts, Defines, IsCost}
+use Rattle.hsp_runs.specs.declared.inputs.Inputs.{Inputs}
+use Rattle.hsp_runs.proofs.PageRead.{stated_well}
 use Rattle.hsp_runs.specs.Instance.{ReadsCosts}
 
 -- two costs of the same decimal are the same

@@ -11,7 +11,7 @@ use Rattle.hsp_text.specs.declared.whole.WholeFault.{WholeFault}
 use Rattle.hsp_tables.proofs.TableRows.{whole_is, whole_is_read}
 use Rattle.hsp_dispatch.specs.declared.portion.Portion.{Portion}
 use Rattle.hsp_dispatch.specs.declared.portion.TheConstants.{GREATEST_UNIT}
-use Rattle.hsp_faults.specs.declared.fault.Fault.TheVariants.{BadFronts}
+use Rattle.hsp_runs.specs.declared.fault.Fault.TheVariants.{BadFronts}
 use Rattle.hsp_runs.specs.Counts.{above_none, count_at}
 use Rattle.hsp_stream.specs.AnswersShown.{SpellsOr, SpellsPortion}
 use Rattle.hsp_stream.specs.Words.{below, front_at, fronts_at, or_else_fault, portion_among, portion_at, portion_with}

@@ -8,12 +8,12 @@ use Rattle.hsp_check.specs.Plan.{Plan}
 use Rattle.hsp_dispatch.specs.Portions.{portion_of}
 use Rattle.hsp_dispatch.specs.Shares.{plan_of}
 use Rattle.hsp_dispatch.specs.declared.portion.Portion.{Portion}
-use Rattle.hsp_faults.specs.declared.fault.Fault.{Fault}
-use Rattle.hsp_faults.specs.declared.fault.Fault.TheVariants.{WrongKind}
+use Rattle.hsp_runs.specs.declared.fault.Fault.{Fault}
+use Rattle.hsp_runs.specs.declared.fault.Fault.TheVariants.{WrongKind}
 use Rattle.hsp_runs.specs.Accepted.{IsAcceptedOf}
 use Rattle.hsp_runs.specs.Instance.{ReadsCosts}
 use Rattle.hsp_runs.specs.declared.accepted.Accepted.{Accepted}
-use Rattle.hsp_headline.specs.declared.inputs.Inputs.{Inputs}
+use Rattle.hsp_runs.specs.declared.inputs.Inputs.{Inputs}
 use Rattle.hsp_talk.specs.Known.{Known, Went}
 use Rattle.hsp_stream.specs.AnswerTalk.{EndsBy}
 use Rattle.hsp_stream.specs.Answering.{AnswersRows}

@@ -11,9 +11,9 @@ use Rattle.hsp_dispatch.specs.Dispatch.{Entry, answer_to, assigned_in}
 use Rattle.hsp_dispatch.specs.Laws.{IsByHash}
 use Rattle.hsp_dispatch.specs.Portions.{portion_of}
 use Rattle.hsp_dispatch.specs.declared.portion.Portion.{Portion}
-use Rattle.hsp_headline.specs.Headline.{AreCosts, Defines}
-use Rattle.hsp_headline.specs.Shown.{Spells}
-use Rattle.hsp_headline.specs.declared.inputs.Inputs.{Inputs}
+use Rattle.hsp_runs.specs.Headline.{AreCosts, Defines}
+use Rattle.hsp_runs.specs.Shown.{Spells}
+use Rattle.hsp_runs.specs.declared.inputs.Inputs.{Inputs}
 use Rattle.hsp_runs.specs.Logs.{ShowsPlanOf}
 use Rattle.hsp_talk.specs.Known.{Went}
 use Rattle.hsp_stream.specs.AnswerRun.{Run, RunOf}

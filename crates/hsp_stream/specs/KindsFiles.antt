@@ -5,8 +5,8 @@ use Rattle.hsp_tables.specs.Costs.{CostEntry}
 use Rattle.hsp_tables.specs.Settings.{SettingsEntries}
 use Rattle.hsp_instance.specs.Building.{cost_fault, unless}
 use Rattle.hsp_instance.specs.Instance.{Site}
-use Rattle.hsp_faults.specs.declared.fault.Fault.{Fault}
-use Rattle.hsp_faults.specs.declared.fault.Fault.TheVariants.{Build}
+use Rattle.hsp_runs.specs.declared.fault.Fault.{Fault}
+use Rattle.hsp_runs.specs.declared.fault.Fault.TheVariants.{Build}
 use Rattle.hsp_runs.specs.Instance.{ReadsCosts}
 use Rattle.hsp_runs.specs.Readings.{AreSites, ReadsSettings, ReadsValues}
 use Rattle.hsp_text.specs.Answers.{◌>>=◌, Then, fault_as}

@@ -1,7 +1,7 @@
 -- What the run `kinds` prints: the table of the kinds of a log, or the first fault.
 use Rattle.std.specs.Prelude.{◌≡◌, ℕ, List, [], Option, Result}
 use Rattle.hsp_csv.specs.Records.{Fields}
-use Rattle.hsp_faults.specs.declared.fault.Fault.{Fault}
+use Rattle.hsp_runs.specs.declared.fault.Fault.{Fault}
 use Rattle.hsp_tables.specs.Costs.{CostEntry}
 use Rattle.hsp_text.specs.Answers.{◌>>=◌, Then, fault_as}
 use Rattle.hsp_instance.specs.Instance.{Site}

@@ -1,6 +1,6 @@
 -- What hsplan-stream prints of faults and sums, and its statuses.
 use Rattle.std.specs.Prelude.{◌++◌, ◌∷◌, [], ℕ, List, codes, decimal}
-use Rattle.hsp_faults.specs.FaultText as input
+use Rattle.hsp_runs.specs.FaultText as input
 use Rattle.hsp_stream.specs.PriceReasons.{reason_word}
 use Rattle.hsp_stream.specs.declared.fault.RowFault.{RowFault}
 use Rattle.hsp_stream.specs.declared.fault.RowFault.TheVariants as row

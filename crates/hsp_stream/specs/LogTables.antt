@@ -11,8 +11,8 @@ use Rattle.hsp_kinds.specs.Kinds.{AreKinds, ArePricesOfKinds, pooled}
 use Rattle.hsp_kinds.specs.Rows.{Service, kinds_of, network_for}
 use Rattle.hsp_kinds.specs.Same.{HasSamePlans, HasShortRows}
 use Rattle.hsp_kinds.specs.Units.{IsWithin}
-use Rattle.hsp_headline.specs.Headline.{AreCosts, Defines}
-use Rattle.hsp_headline.specs.declared.inputs.Inputs.{Inputs}
+use Rattle.hsp_runs.specs.Headline.{AreCosts, Defines}
+use Rattle.hsp_runs.specs.declared.inputs.Inputs.{Inputs}
 use Rattle.hsp_stream.specs.KindsLaws.{SpellRows}
 use Rattle.hsp_stream.specs.KindsLog.{header_of}
 use Rattle.hsp_stream.specs.KindsRun.{IsKindsText}

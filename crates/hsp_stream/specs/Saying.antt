@@ -2,7 +2,7 @@
 use Rattle.std.specs.Prelude.{◌<◌, ◌+◌, ⊤, ℕ, List, [], ◌∷◌, ◌++◌, codes, count_by, Option, None, Some}
 use Rattle.std.specs.List.{slice_get}
 use Rattle.hsp_instance.specs.Instance.{Instance}
-use Rattle.hsp_faults.specs.FaultText.{handle_words}
+use Rattle.hsp_runs.specs.FaultText.{handle_words}
 use Rattle.hsp_dispatch.specs.Dispatch.{is_assigned, is_spent, is_unknown}
 use Rattle.hsp_dispatch.specs.Lines.{or_none, served_by}
 use Rattle.hsp_dispatch.specs.declared.answer.Answer.{Answer}

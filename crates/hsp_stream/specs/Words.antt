@@ -6,7 +6,7 @@ use Rattle.hsp_text.specs.declared.whole.WholeFault.{WholeFault}
 use Rattle.hsp_text.specs.declared.limits.TheConstants.{MOST_FRONTS}
 use Rattle.hsp_dispatch.specs.declared.portion.Portion.{Portion}
 use Rattle.hsp_dispatch.specs.declared.portion.TheConstants.{GREATEST_UNIT}
-use Rattle.hsp_faults.specs.declared.fault.Fault.TheVariants.{BadFronts}
+use Rattle.hsp_runs.specs.declared.fault.Fault.TheVariants.{BadFronts}
 use Rattle.hsp_runs.specs.Counts.{count_at}
 use Rattle.hsp_stream.specs.declared.fault.StreamFault.{StreamFault}
 use Rattle.hsp_stream.specs.declared.fault.StreamFault.TheVariants.{BadFront, BadUnit, Input}

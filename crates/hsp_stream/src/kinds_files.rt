@@ -5,10 +5,9 @@ ghost use Rattle.hsp_runs.specs.Memory.{OrNoMemory};
 ghost use Rattle.hsp_stream.specs.KindsFiles.{AreFilesIn, ReadsSitesOn, ReadsValuesOn, ReadsCostsOn, are_checked};
 ghost use Rattle.hsp_text.specs.Answers.{Gives};
 
-use hsp_faults::Fault;
+use hsp_runs::{Fault, costs_in, settings_in, sites_of, values_in};
 use hsp_instance::{Sites, check_costs};
 use hsp_record::ValueList;
-use hsp_runs::{costs_in, settings_in, sites_of, values_in};
 use hsp_tables::{Costs, Settings};
 use std::alloc::Global;
 

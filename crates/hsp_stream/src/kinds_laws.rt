@@ -4,7 +4,7 @@ ghost use Rattle.hsp_stream.specs.KindsLaws.{PartsMakeTheTable, PrintedTableIsRe
 ghost use Rattle.hsp_stream.specs.KindsLaws.{ReportedUnitIsTheLeast};
 ghost use Rattle.hsp_stream.specs.LogTables.{TableSpeaksOfTheLog, UnitsServeTheLog};
 
-use hsp_headline::laws::instances_are_defined;
+use hsp_runs::headline_laws::instances_are_defined;
 use hsp_kinds::{
     log_in_parts, plan_is_the_same, prices_of_kinds, tables_are_of_kinds, units_serve_rows,
 };

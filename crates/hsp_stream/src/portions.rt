@@ -9,8 +9,7 @@ ghost use Rattle.hsp_stream.specs.Words.{unit_at, word_or};
 
 use crate::fault::StreamFault;
 use hsp_dispatch::{GREATEST_UNIT, Portion};
-use hsp_faults::Fault;
-use hsp_runs::count_at;
+use hsp_runs::{Fault, count_at};
 use hsp_text::limits::MOST_FRONTS;
 use hsp_text::read_whole;
 

@@ -4,7 +4,7 @@ ghost use Rattle.std.specs.Prelude.{◌≡◌, ◌++◌, OnOk};
 ghost use Rattle.hsp_stream.specs.Saying.{refusal_words, refused_line};
 ghost use Rattle.hsp_stream.specs.declared.row_refusal.RowRefusal.TheVariants.{BadHandle};
 
-use hsp_faults::handle_words;
+use hsp_runs::handle_words;
 use hsp_names::HandleFault;
 use std::alloc::AllocError;
 

@@ -19,7 +19,7 @@ use Rattle.hsp_cli.specs.Failing as failing
 use Rattle.hsp_cli.specs.Failing.{failure_of}
 use Rattle.hsp_cli.specs.Files.{Disk, HoldsRest}
 use Rattle.hsp_cli.specs.declared.failure.Failure.TheVariants.{Memory}
-use Rattle.hsp_headline.specs.declared.inputs.Inputs.{Inputs}
+use Rattle.hsp_runs.specs.declared.inputs.Inputs.{Inputs}
 use Rattle.hsp_price_answers.specs.declared.front_words.FrontChoice.{FrontChoice}
 use Rattle.hsp_stream.specs.declared.kinds_files.KindsInputs.{KindsInputs}
 use Rattle.hsp_stream.specs.declared.portions.PortionWords.{PortionWords}

@@ -1,7 +1,7 @@
 -- Plans of logs by prices.
 use Rattle.std.specs.Prelude.{◌≡◌, ◌⊎◌, ℕ, List, Option, Err}
 use Rattle.hsp_cli.specs.declared.failure.Failure.TheVariants.{Refused}
-use Rattle.hsp_headline.specs.declared.inputs.Inputs.{Inputs}
+use Rattle.hsp_runs.specs.declared.inputs.Inputs.{Inputs}
 use Rattle.hsp_plan_runs.specs.PlanRun.{IsPlannedLog, IsShownPlan}
 use Rattle.hsp_plan_runs.specs.PricesText.{octets_of}
 use Rattle.hsp_plan_runs.specs.declared.text.PricesText.{PricesText}

@@ -2,7 +2,7 @@
 use Rattle.std.specs.Prelude.{◌≡◌, ⊤, ℕ, List, Option, None, Some, Ok, Err, option_map}
 use Rattle.hsp_cli.specs.declared.failure.Failure.TheVariants.{Refused}
 use Rattle.hsp_cli_orders.specs.declared.stream_order.FrontWords.{FrontWords}
-use Rattle.hsp_headline.specs.declared.inputs.Inputs.{Inputs}
+use Rattle.hsp_runs.specs.declared.inputs.Inputs.{Inputs}
 use Rattle.hsp_talk.specs.Known.{Known}
 use Rattle.hsp_price_answers.specs.PriceAnswerRun.{IsPriceAnswered}
 use Rattle.hsp_price_answers.specs.declared.front_words.FrontChoice.{FrontChoice}

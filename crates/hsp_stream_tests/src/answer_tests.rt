@@ -7,7 +7,7 @@ use crate::same::is_same;
 use crate::worked::{PLAN, inputs_of, owned, owned_word};
 use hsp_cert::CertFault;
 use hsp_check::Reason;
-use hsp_faults::Fault;
+use hsp_runs::Fault;
 use hsp_stream::{PortionWords, RowFault, StreamFault, StreamSums, answer_run};
 use hsp_talk::Joined;
 use std::alloc::{AllocError, Global};

@@ -2,7 +2,7 @@
 
 use crate::same::is_same;
 use crate::worked::BY_INDEX;
-use hsp_faults::Fault;
+use hsp_runs::Fault;
 use hsp_instance::BuildFault;
 use hsp_interfaces::interfaces_run;
 use hsp_tables::TableFault;

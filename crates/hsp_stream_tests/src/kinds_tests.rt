@@ -3,7 +3,7 @@
 use crate::fakes::Rows;
 use crate::same::is_same;
 use crate::worked::{BY_INDEX, COSTS, VALUES, owned};
-use hsp_faults::Fault;
+use hsp_runs::Fault;
 use hsp_instance::BuildFault;
 use hsp_names::HandleFault;
 use hsp_stream::{KindsInputs, RowFault, StreamFault, kinds_run};

@@ -3,7 +3,7 @@
 use crate::same::is_same;
 use hsp_check::Reason;
 use hsp_classes::PriceReason;
-use hsp_faults::Fault;
+use hsp_runs::Fault;
 use hsp_names::HandleFault;
 use hsp_stream::{
     RowFault, StreamFault, StreamSums, stream_fault_line, stream_status, stream_sums_line,

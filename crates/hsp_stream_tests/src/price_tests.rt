@@ -8,7 +8,7 @@ use crate::same::is_same;
 use crate::worked::owned;
 use hsp_cert::CertFault;
 use hsp_classes::{PriceReason, PriceVerdict};
-use hsp_faults::Fault;
+use hsp_runs::{Fault, Inputs, costs_in, instance_in};
 use hsp_instance::Instance;
 use hsp_names::HandleRef;
 use hsp_price_check::{PassFault, PriceCheck};
@@ -17,7 +17,6 @@ use hsp_price_runs::{
     price_verdict_status,
 };
 use hsp_price_text::{PriceCertificate, read_prices};
-use hsp_runs::{Inputs, costs_in, instance_in};
 use hsp_stream::{RowFault, StreamFault};
 use hsp_tables::Costs;
 use hsp_test_support::service::{CAPACITY, COSTS, DEMAND, SETTINGS};

@@ -1,9 +1,9 @@
 use Rattle.std.proofs.Common.{◌≡◌, ◌⊎◌, inl, inr, ℕ, List, Option, Ok, Err, ap, refl}
 use Rattle.std.proofs.lemmas.Result.{IfErr-weaker, IfOk-weaker, err_from_is_err_and}
-use Rattle.hsp_faults.specs.declared.fault.Fault.{Fault}
-use Rattle.hsp_faults.specs.declared.fault.Fault.TheVariants as input
-use Rattle.hsp_headline.specs.Instance.{IsInstanceOf}
-use Rattle.hsp_headline.specs.declared.inputs.Inputs.{Inputs}
+use Rattle.hsp_runs.specs.declared.fault.Fault.{Fault}
+use Rattle.hsp_runs.specs.declared.fault.Fault.TheVariants as input
+use Rattle.hsp_runs.specs.Instance.{IsInstanceOf}
+use Rattle.hsp_runs.specs.declared.inputs.Inputs.{Inputs}
 use Rattle.hsp_price_check.specs.Classes.{service_of}
 use Rattle.hsp_price_runs.specs.PriceRun.{AnswersRecords, IsReadFrom}
 use Rattle.hsp_price_runs.proofs.Judged.{inputs_are, inputs_stop}
