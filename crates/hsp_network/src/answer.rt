@@ -9,7 +9,7 @@ ghost use Rattle.hsp_network.specs.Residual.{nodes, prices};
 ghost use Rattle.hsp_network.specs.Search.{AreAllMet, HasStuckSource, Ready};
 
 use crate::arcs::{Arcs, Flow, SearchTree};
-use crate::{Network, PricedFlow};
+use crate::network::{Network, PricedFlow};
 use std::alloc::{AllocError, Global};
 
 /// For each arc from `start` up to `end`: by how much the price at its tail is above that at its head.

@@ -7,8 +7,8 @@
 // than any path. So each arc leads from a node to one with a smaller number, and the greater end of an arc is its
 // tail.
 
-use crate::Network;
 use crate::lists::{ABSENT, get_or, increase, number_of};
+use crate::network::Network;
 use crate::star::{ForwardStar, StarArc};
 use std::alloc::{AllocError, Global};
 use std::ops::Range;

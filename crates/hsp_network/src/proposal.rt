@@ -1,12 +1,13 @@
 // The network simplex from a network to an outcome.
 
+use crate::accept::greatest;
 use crate::graph::Graph;
 use crate::guide::Guide;
 use crate::lists::saturating_sum;
+use crate::network::{Network, Outcome};
 use crate::regret::by_regret;
 use crate::shortage::total_capacity;
 use crate::tree::{SimplexEffort, Tree};
-use crate::{Network, Outcome, greatest};
 use std::alloc::{AllocError, Global};
 
 /// An outcome that may be the network's, or `None` where the network is too large for the solver's numbers or the

@@ -2,9 +2,9 @@
 
 use crate::graph::Graph;
 use crate::lists::{ABSENT, between, get_or, set};
+use crate::network::{Outcome, PricedFlow};
 use crate::shortage::short_set;
 use crate::tree::Tree;
-use crate::{Outcome, PricedFlow};
 use std::alloc::{AllocError, Global};
 
 impl Tree {

@@ -4,9 +4,9 @@
 // from the unmet ones. The servers and hosts that it reaches are full, and only of these sources' flow. Otherwise an
 // augmenting path would be left.
 
-use crate::Network;
 use crate::graph::{Graph, ROOT};
 use crate::lists::{get_or, increase, mark, set};
+use crate::network::Network;
 use std::alloc::{AllocError, Global};
 
 /// What all servers can take together, or the greatest number where the sum is above it.

@@ -9,14 +9,15 @@ ghost use Rattle.hsp_network.specs.ProblemArcs.{AreArcsOf, IsArcsOf};
 ghost use Rattle.hsp_network.specs.Residual.{nodes};
 ghost use Rattle.hsp_network.specs.Search.{Blank, Ready};
 
+use crate::accept::greatest;
 use crate::answer::{priced_flow, short_set};
 use crate::arcs::{ArcLists, Arcs, Flow, Progress, SearchEffort, SearchTree};
 use crate::frontier::Frontier;
 use crate::index::chain_arcs;
 use crate::initial_potentials::initial_potentials;
+use crate::network::{Network, Outcome};
 use crate::successive_paths::meet_all;
 use crate::tables::{arc_capacities, arc_costs, arc_heads, arc_tails, node_supplies};
-use crate::{Network, Outcome, greatest};
 use std::alloc::{AllocError, Global};
 
 /// Runs the solver from a flow with its prices, by searches whose tree is blank at first.

@@ -6,7 +6,7 @@ ghost use Rattle.hsp_network.specs.Layout.{Appends, CapacitiesOf, CostsOf, Heads
 ghost use Rattle.hsp_network.specs.Layout.{TailsOf, host_node};
 ghost use Rattle.hsp_network.specs.Problem.{problem_of};
 
-use crate::Network;
+use crate::network::Network;
 use std::alloc::{AllocError, Global};
 
 /// Appends each number, raised by `shift`.

@@ -16,7 +16,7 @@ ghost use Rattle.hsp_price_plan.specs.Solving.{HasArcsWithin, arcs_in};
 ghost use Rattle.hsp_price_plan.specs.ClassSums.{AddsFlow, AreSums, HasRoom, HasRoomFor, added};
 ghost use Rattle.hsp_price_plan.specs.ClassSums.{class_of, key_cmp, sent_of};
 
-use crate::RowGroup;
+use crate::group::RowGroup;
 use hsp_instance::Arc;
 use hsp_price_check::{fill_least, fill_servers};
 use hsp_price_text::Class;

@@ -3,7 +3,7 @@
 ghost use Rattle.std.specs.Prelude.{◌≡◌, ◌<◌, ◌≤◌, ◌^◌, [], IfOk, OnOk, length};
 ghost use Rattle.hsp_price_plan.specs.Columns.{AreColumns, Extends};
 
-use crate::RowGroup;
+use crate::group::RowGroup;
 use hsp_instance::Arc;
 use std::alloc::{AllocError, Global};
 

@@ -6,7 +6,7 @@ ghost use Rattle.hsp_price_check.specs.Passed.{capped};
 ghost use Rattle.hsp_price_plan.specs.PlanOfGroups.{arcs_cost};
 ghost use Rattle.hsp_price_plan.specs.Solving.{arcs_in};
 
-use crate::RowGroup;
+use crate::group::RowGroup;
 use hsp_instance::Arc;
 
 // What flows over arcs cost. Sums above 2^128 - 1 are kept as that.

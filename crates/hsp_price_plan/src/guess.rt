@@ -5,12 +5,12 @@ ghost use Rattle.hsp_price_check.specs.LeastPay.{AreLow};
 ghost use Rattle.hsp_price_plan.specs.Planning.{AreOfSome, Outlasts};
 
 use crate::groups::Groups;
-use crate::levels::{FIRST_ROWS, Guess, MOST_ROUNDS, guess_of};
 use crate::guess_network::solve;
+use crate::levels::{FIRST_ROWS, Guess, MOST_ROUNDS, guess_of};
+use crate::progress::Progress;
+use crate::rows::KeptRows;
 use crate::terms::Terms;
-use crate::KeptRows;
 use hsp_price_check::ServiceNumbers;
-use crate::Progress;
 use std::alloc::{AllocError, Global};
 
 // The rounds end where a plan of the rows lacks so few arcs: one to so many rows.

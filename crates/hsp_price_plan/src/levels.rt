@@ -1,14 +1,14 @@
 // Prices by samples that grow.
 
 use crate::groups::Groups;
-use crate::lists::saturating_sum;
 use crate::guess_network::solve;
+use crate::lists::saturating_sum;
+use crate::progress::Progress;
+use crate::rows::KeptRows;
 use crate::sample::Sample;
 use crate::sampling::{asked_in, sample_of};
 use crate::terms::Terms;
-use crate::KeptRows;
 use hsp_price_check::ServiceNumbers;
-use crate::Progress;
 use std::alloc::{AllocError, Global};
 
 /// How many rows the first sample has, about.

@@ -11,10 +11,12 @@ ghost use Rattle.hsp_price_plan.specs.Pressing.{CanPress, HasTextPrices, IsTextO
 ghost use Rattle.hsp_price_plan.specs.Solving.{HasArcsWithin, HasFewArcs, IsOutcomeOf, demand_in, group_network};
 
 use crate::columns::{GroupColumns, columns_of};
+use crate::group::RowGroup;
 use crate::press::press_prices;
 use hsp_cert::ranges::are_prices;
-use crate::RowGroup;
-use hsp_network::{HeapFrontier, Network, Outcome, PricedFlow, SearchEffort, accepts, minimum_cost_flow, propose};
+use hsp_network::{
+    HeapFrontier, Network, Outcome, PricedFlow, SearchEffort, accepts, minimum_cost_flow, propose,
+};
 use hsp_price_check::ServiceNumbers;
 use hsp_text::limits::{MOST_HOSTS, MOST_SERVERS};
 use std::alloc::{AllocError, Global};

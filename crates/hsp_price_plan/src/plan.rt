@@ -10,7 +10,7 @@ ghost use Rattle.hsp_price_plan.specs.Solving.{HasArcsWithin, demand_in, group_n
 
 use crate::classes::classes_of;
 use crate::cost::flow_cost;
-use crate::RowGroup;
+use crate::group::RowGroup;
 use hsp_network::PricedFlow;
 use hsp_price_check::{ServiceNumbers, extras_of};
 use hsp_price_text::PricedPlan;

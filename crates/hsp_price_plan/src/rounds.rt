@@ -9,10 +9,13 @@ ghost use Rattle.hsp_price_plan.specs.Solving.{HasArcsWithin, demand_in, group_n
 ghost use Rattle.hsp_price_plan.specs.Planning.{AreOfSome, IsFaultOf, IsRoundEnd, IsValidFor, Outlasts};
 
 use crate::fault::PlanFault;
+use crate::group::RowGroup;
+use crate::network::solve;
+use crate::plan::plan_of;
 use crate::progress::Progress;
-use crate::{plan_of, reached_by, short_of, solve};
-use crate::{RowGroup, groups_of};
-use crate::KeptRows;
+use crate::row_groups::groups_of;
+use crate::rows::KeptRows;
+use crate::shortage::{reached_by, short_of};
 use hsp_network::{Outcome, PricedFlow};
 use hsp_price_check::{ServiceNumbers, extras_of};
 use hsp_price_text::PriceCertificate;

@@ -9,8 +9,8 @@ ghost use Rattle.hsp_groups.specs.Solved.{AreRows};
 ghost use Rattle.hsp_price_plan.specs.Grouping.{asked_in, demand_of};
 
 use crate::group::RowGroup;
+use crate::rows::KeptRows;
 use crate::table::GroupTable;
-use crate::KeptRows;
 use std::alloc::{AllocError, Global};
 
 /// The groups of rows of a service, by the arcs that they keep. The rows together ask for less than 2^64 queries.

@@ -1,8 +1,8 @@
 // Samples of rows.
 
 use crate::lists::mixed;
+use crate::rows::KeptRows;
 use crate::sample::Sample;
-use crate::KeptRows;
 use std::alloc::{AllocError, Global};
 
 /// What all rows ask for together, or the greatest number where it is above it.

@@ -10,8 +10,8 @@ ghost use Rattle.hsp_price_text.specs.Claim.{is_short};
 ghost use Rattle.hsp_price_plan.specs.Shortage.{AreReachedBy, IsShortageFor, IsShortagePast, caught_demand};
 ghost use Rattle.hsp_price_plan.specs.Solving.{HasArcsWithin, demand_in};
 
+use crate::group::RowGroup;
 use hsp_flow::flagged;
-use crate::RowGroup;
 use hsp_instance::Arc;
 use hsp_price_check::{ServiceNumbers, are_caught, capacity_of_set};
 use hsp_price_text::ShortServers;

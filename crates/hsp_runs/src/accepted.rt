@@ -11,11 +11,11 @@ ghost use Rattle.hsp_runs.specs.Shown.{Holds};
 ghost use Rattle.hsp_runs.specs.Memory.{OrNoMemory};
 
 use crate::checking::{certificate_in, judged};
+use crate::fault::Fault;
+use crate::inputs::Inputs;
 use crate::instance::instance_in;
 use hsp_cert::{BestRef, Certificate, ShortRef};
 use hsp_check::Verdict;
-use crate::Fault;
-use crate::Inputs;
 use hsp_instance::Instance;
 use std::alloc::Global;
 

@@ -9,12 +9,12 @@ ghost use Rattle.hsp_runs.specs.Headline.{SaysYesAlways, ShowsOf};
 ghost use Rattle.hsp_runs.specs.Shown.{Holds, Shows};
 ghost use Rattle.hsp_runs.specs.Memory.{IsOrNoMemory, OrNoMemory};
 
+use crate::fault::Fault;
+use crate::inputs::Inputs;
 use crate::instance::instance_in;
 use crate::parts::named;
 use hsp_cert::{Certificate, read_cert};
 use hsp_check::{Verdict, check};
-use crate::Fault;
-use crate::Inputs;
 use hsp_instance::Instance;
 use std::alloc::Global;
 

@@ -4,7 +4,7 @@ ghost use Rattle.std.specs.Prelude.{◌≤◌, IfOk};
 ghost use Rattle.hsp_text.specs.Answers.{Gives};
 ghost use Rattle.hsp_runs.specs.Counts.{count_at};
 
-use crate::Fault;
+use crate::fault::Fault;
 use hsp_text::read_whole;
 
 /// The number from 1 to `most` that a word spells, or the fault where it spells no such number.

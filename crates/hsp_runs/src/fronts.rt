@@ -10,9 +10,9 @@ ghost use Rattle.hsp_runs.specs.Logs.{DispatchesAtAlways, ShowsFrontsOf};
 
 use crate::accepted::{Accepted, accepted_in};
 use crate::counts::count_at;
+use crate::fault::Fault;
+use crate::inputs::Inputs;
 use hsp_dispatch::{FrontSums, Fronts, run_fronts};
-use crate::Fault;
-use crate::Inputs;
 use hsp_text::limits::MOST_FRONTS;
 use std::alloc::Global;
 use std::io::{Read, Write};

@@ -8,11 +8,11 @@ ghost use Rattle.hsp_runs.specs.Instance.{ReadsValuesOn};
 ghost use Rattle.hsp_runs.specs.Instance.{ReadsDemandOn, ReadsCapacities, ReadsCosts, ReadsDemand};
 ghost use Rattle.hsp_runs.specs.Memory.{OrNoMemory};
 
+use crate::fault::Fault;
+use crate::headline_laws::instances_are_defined;
+use crate::inputs::Inputs;
 use crate::parts::named;
 use crate::readings::{settings_in, values_in};
-use crate::Fault;
-use crate::Inputs;
-use crate::headline_laws::instances_are_defined;
 use hsp_instance::{Instance, build};
 use hsp_record::ValueList;
 use hsp_tables::{Capacities, Costs, Demand, Settings, read_capacity, read_costs, read_demand};

@@ -1,9 +1,9 @@
 // The runs behind the program: from the octets of its words and files to the octets that it prints, of faults, verdicts
 // and sums too, and to its status.
 //
-// Here is also the page of the headline: in plain terms, the instance that the octets of five inputs define, and what the
-// octets of a certificate show of it. Its laws say that the page is what inputs are read as: it defines the instance that
-// they give, and nothing else.
+// Here is also the page of the headline: in plain terms, the instance that the octets of five inputs define, and what
+// the octets of a certificate show of it. Its laws say that the page is what inputs are read as: it defines the
+// instance that they give, and nothing else.
 #![tactic(auto)]
 
 mod accepted;

@@ -6,9 +6,9 @@ ghost use Rattle.hsp_names.specs.Lent.{octets_of};
 ghost use Rattle.hsp_runs.specs.Locate.{AreLocated, IsLocated, handle_at, option_at, placed, servers_at};
 
 use crate::counts::count_at;
+use crate::fault::Fault;
 use crate::readings::sites_in;
 use crate::site_lines::site_lines;
-use crate::Fault;
 use hsp_hash::{HashOption, server_number};
 use hsp_names::HandleRef;
 use hsp_text::limits::MOST_SERVERS;

@@ -7,8 +7,8 @@ ghost use Rattle.hsp_record.specs.declared.fault.RecordFault.TheVariants as reco
 ghost use Rattle.hsp_runs.specs.Parts.{IsNamed};
 ghost use Rattle.hsp_tables.specs.declared.fault.TableFault.TheVariants as table_fault;
 
+use crate::fault::Fault;
 use hsp_cert::CertFault;
-use crate::Fault;
 use hsp_instance::BuildFault;
 use hsp_record::RecordFault;
 use hsp_tables::TableFault;

@@ -7,11 +7,11 @@ ghost use Rattle.hsp_runs.specs.Shown.{Shows};
 ghost use Rattle.hsp_runs.specs.Plan.{IsPlanText, IsPlanned, printed};
 ghost use Rattle.hsp_runs.specs.Memory.{OrNoMemory};
 
+use crate::fault::Fault;
+use crate::inputs::Inputs;
 use crate::instance::instance_in;
 use hsp_cert::{Certificate, write_cert};
-use crate::Fault;
 use hsp_flow::solve;
-use crate::Inputs;
 use hsp_instance::Instance;
 use std::alloc::{AllocError, Global};
 use std::marker::Model;

@@ -4,8 +4,8 @@ ghost use Rattle.std.specs.Prelude.{option_map};
 ghost use Rattle.hsp_runs.specs.Readings.{AreListed, AreSites, AreSitesIn, ReadsSettings, ReadsValues};
 ghost use Rattle.hsp_runs.specs.Memory.{OrNoMemory};
 
+use crate::fault::Fault;
 use crate::parts::named;
-use crate::Fault;
 use hsp_instance::{Sites, build_sites};
 use hsp_record::{ValueList, decode_values};
 use hsp_tables::{Settings, read_settings};

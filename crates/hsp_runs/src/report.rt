@@ -6,8 +6,8 @@ ghost use Rattle.hsp_runs.specs.Report.{IsReport, IsReported};
 ghost use Rattle.hsp_text.specs.Answers.{Stands};
 
 use crate::accepted::{Accepted, accepted_in};
-use crate::Fault;
-use crate::Inputs;
+use crate::fault::Fault;
+use crate::inputs::Inputs;
 use hsp_report::{load_report, region_report, shortage_report};
 use std::alloc::Global;
 

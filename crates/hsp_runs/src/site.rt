@@ -7,8 +7,8 @@ ghost use Rattle.hsp_text.specs.Writing.{numbered};
 ghost use Rattle.hsp_runs.specs.SiteText.{IsRecordRun, IsSiteRun, IsValueRun, counts_text, numbers_text, server_line};
 ghost use Rattle.hsp_runs.specs.SiteText.{server_lines, site_text};
 
+use crate::fault::Fault;
 use crate::parts::named;
-use crate::Fault;
 use hsp_record::{ServerRecord, SiteRecord, decode_site, decode_values};
 use hsp_text::{push_line, push_whole, read_whole};
 use std::alloc::{AllocError, Global};
