@@ -1,12 +1,12 @@
 -- Rows of one class are of one kind: they have the same least arcs.
-use Rattle.std.proofs.Common.{◌≡◌, ℕ, ◌&&◌, ◌∙◌, Bool, true, List, map, refl, ap, ap₂, sym, arith}
+use Rattle.std.proofs.Common.{◌≡◌, ℕ, ◌&&◌, ◌∙◌, Bool, true, List, map, refl, ap, ap₂, sym}
 use Rattle.std.specs.Prelude.{◌↔◌}
 use Rattle.std.specs.List.{AllByRecursion}
 use Rattle.std.specs.Str.{bytes_eq}
 use Rattle.hsp_instance.specs.Instance.{IsAscending, Row}
 use Rattle.hsp_instance.proofs.ArcLists.{arcs_ascending, by_region}
 use Rattle.hsp_kinds.specs.Rows.{Service, with_count_of}
-use Rattle.hsp_kinds.specs.Tables.{IsKinding, Kinding}
+use Rattle.hsp_kinds.proofs.Counting.{IsKinding, Kinding}
 use Rattle.hsp_kinds.proofs.Tabling.{both_equal}
 use Rattle.hsp_price_text.specs.Claim.{Best, Class}
 use Rattle.hsp_classes.specs.Least.{arcs_of, is_least, is_of, least_arcs, least_of, pay_over, servers_of}
@@ -61,13 +61,8 @@ module _ (at : Service) (plan : Best) where
     transitive =
         λ a b c e f. let p = (both a b).0 e in let q = (both b c).0 f in (both a c).1 (p.0 ∙ q.0, p.1 ∙ q.1);
     kept = λ a b. (both a (with_count_of a b)).1 (refl, ap servers_of (sym (least_kept a b)));
-    grouped = λ a b c. ap (counts a) (omega arith);
-    swapped = λ a b c. ap (counts a) (omega arith);
   }
     where
-      counts : Row → ℕ → Row
-      counts a n = record { region = a.region; handle = a.handle; count = n }
-
       both : (a b : Row) → (is_same_class a b ≡ true) ↔ ((a.region ≡ b.region) × (least_servers a ≡ least_servers b))
       both a b = both_equal a.region b.region (least_servers a) (least_servers b)
 

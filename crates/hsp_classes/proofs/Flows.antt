@@ -10,7 +10,7 @@ use Rattle.hsp_instance.specs.Instance.{Row}
 use Rattle.hsp_instance.specs.declared.arc.Arc.{Arc}
 use Rattle.hsp_instance.proofs.Lists.{all_so}
 use Rattle.hsp_kinds.specs.Rows.{Service, with_count_of}
-use Rattle.hsp_kinds.specs.Tables.{table_of}
+use Rattle.hsp_kinds.proofs.Counting.{table_of}
 use Rattle.hsp_price_text.specs.Claim.{Best, Class}
 use Rattle.hsp_classes.specs.Least.{is_of, least_of, only_arc}
 use Rattle.hsp_classes.specs.Sums.{brings, class_cost, class_load, cost_at, costs, row_cost, row_load, sends}

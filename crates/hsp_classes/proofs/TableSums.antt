@@ -6,8 +6,7 @@ use Rattle.std.proofs.lemmas.Bool.{both_ways, false_from_ne_true, false≢true, 
 use Rattle.std.proofs.lemmas.Bool.{or_right}
 use Rattle.std.proofs.lemmas.List.Folds.{Any-from_list_any}
 use Rattle.std.proofs.lemmas.List.Sums.{sum_by-cons}
-use Rattle.hsp_kinds.specs.Tables.{IsKinding, Kinding, counted, counted_all, table_of}
-use Rattle.hsp_kinds.proofs.Counting.{has, joined_is}
+use Rattle.hsp_kinds.proofs.Counting.{IsKinding, Kinding, counted, counted_all, has, joined_is, table_of}
 use Rattle.hsp_kinds.proofs.Placing.{all_there}
 use Rattle.hsp_classes.proofs.Once.{AtMostOnce}
 

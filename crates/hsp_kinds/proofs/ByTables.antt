@@ -1,20 +1,17 @@
 -- Rows and the table of their kinds, where rows of one kind have the same arcs.
 use Rattle.std.proofs.Common.{◌≡◌, ℕ, ◌+◌, ◌<◌, ◌≤◌, ◌==◌, inl, inr, true, List, [], length, map, sum_by}
-use Rattle.std.proofs.Common.{slice_index, slice_index_or, All, refl, ap, sym, ◌∙◌, subst, arith}
+use Rattle.std.proofs.Common.{slice_index, slice_index_or, refl, ap, sym, ◌∙◌, subst, arith}
 use Rattle.std.proofs.lemmas.List.{length-map, get_or-map}
 use Rattle.hsp_instance.specs.Instance.{Row}
 use Rattle.hsp_instance.specs.declared.arc.Arc.{Arc}
-use Rattle.hsp_check.specs.declared.arc.NetworkArc.{NetworkArc}
-use Rattle.hsp_check.specs.Network.{IsNetwork, site_of, transport}
-use Rattle.hsp_check.proofs.RowLinks.{link, links_of_row, rows_below}
-use Rattle.hsp_transport.specs.Kinds.{Link, links_to}
+use Rattle.hsp_check.proofs.RowLinks.{link, links_of_row}
+use Rattle.hsp_transport.specs.Kinds.{links_to}
 use Rattle.hsp_transport.specs.Sums.{sum_below}
 use Rattle.hsp_transport.proofs.Summing.{by_place, sum_below_same}
 use Rattle.hsp_transport.proofs.Rowwise.{when}
-use Rattle.hsp_transport.proofs.KindPrices.{of_row, of_all}
 use Rattle.hsp_kinds.specs.Kinds.{AreKinds, HasOneArcASite, links_of}
-use Rattle.hsp_kinds.specs.Tables.{IsKinding, Kinding, table_of}
 use Rattle.hsp_kinds.specs.Rows.{Service, network_by}
+use Rattle.hsp_kinds.proofs.Counting.{IsKinding, Kinding, table_of}
 use Rattle.hsp_kinds.proofs.Placing.{place_in, place_within, placed_same, all_more, all_there, all_seen}
 
 abbrev pub no_row : Row
@@ -106,25 +103,3 @@ module _ (at : Service) (by : Kinding Row) (is : IsKinding by)
     limits = refl;
     host_of = λ j. refl;
   }
-
-  -- where the table has a network whose numbers fit, so have the rows
-  pub is_network_of : IsNetwork (network_by at arcs table) → IsNetwork (network_by at arcs rows)
-  is_network_of fits = record {
-    sources = below;
-    servers =
-        of_all site_of (transport (network_by at arcs rows))
-        (λ i a. a.server < length (map (λ s. s.capacity) at.servers)) (length (map count rows))
-        (network_by at arcs rows).arcs below
-        (λ i l.
-        subst (All (λ (a : Link). a.server < length (map (λ s. s.capacity) at.servers)))
-        (sym (alike i (in_rows at arcs rows i l)))
-        (of_row site_of (transport (network_by at arcs table))
-        (λ i a. a.server < length (map (λ s. s.capacity) at.servers)) (network_by at arcs table).arcs fits.servers
-        (kind i)));
-    hosts = fits.hosts;
-  }
-    where
-      below : All (λ (a : NetworkArc). a.row < length (map count rows)) (network_by at arcs rows).arcs
-      below =
-          rows_below (map arcs rows) 0 (length (map count rows))
-          (omega (arith, length-map rows count, length-map rows arcs))

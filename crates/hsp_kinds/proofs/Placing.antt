@@ -3,9 +3,8 @@ use Rattle.std.proofs.Common.{◌≡◌, ℕ, zero, suc, ◌+◌, ◌<◌, ◌�
 use Rattle.std.proofs.Common.{sum_by, slice_index, slice_index_or, if◌then◌else◌, refl, ◌∙◌, arith}
 use Rattle.std.proofs.lemmas.List.Sums.{sum_by-cons}
 use Rattle.std.proofs.lemmas.Bool.{cases_lt, false≢true}
-use Rattle.hsp_kinds.specs.Tables.{Kinding, IsKinding, counted, counted_all}
 use Rattle.hsp_transport.proofs.Rowwise.{when}
-use Rattle.hsp_kinds.proofs.Counting.{has, has_counted, has_more, joined_is}
+use Rattle.hsp_kinds.proofs.Counting.{IsKinding, Kinding, counted, counted_all, has, has_counted, has_more, joined_is}
 
 module _ {A : Type 0} (by : Kinding A) (is : IsKinding by) (count : A → ℕ)
     (adds : (a b : A) → count (by.with_count_of a b) ≡ count a + count b) where

@@ -18,10 +18,6 @@ HasOneArcASite n = kinds.HasOneArcASite site_of (transport n)
 abbrev pub AreKinds : Network → Network → (ℕ → ℕ) → Type 0
 AreKinds n m kind = kinds.AreKinds site_of (transport n) (transport m) kind
 
--- the plan of the kinds that sends what a plan of the rows sends
-abbrev pub pooled : Network → (ℕ → ℕ) → Plan → Plan
-pooled n kind x = kinds.pooled (transport n) kind x
-
 -- the two plans cost the same, and bring the same to each server and each host
 abbrev pub AreAlikeIn : Network → Network → Plan → Plan → Type 0
 AreAlikeIn n m x y = kinds.AreAlikeIn site_of (transport n) (transport m) x y
@@ -33,7 +29,3 @@ IsSpread n m kind y x = kinds.IsSpread site_of (transport n) (transport m) kind 
 -- each row's price is its kind's
 abbrev pub ArePricesOfKinds : Network → (ℕ → ℕ) → List ℕ → List ℕ → Type 0
 ArePricesOfKinds n kind u of_kinds = kinds.ArePricesOfKinds (transport n) kind u of_kinds
-
--- a set of kinds is short exactly where its rows are; where some rows are short, some kinds are
-abbrev pub ShortSetsAreKept : Network → Network → (ℕ → ℕ) → Type 0
-ShortSetsAreKept n m kind = kinds.ShortSetsAreKept (transport n) (transport m) kind

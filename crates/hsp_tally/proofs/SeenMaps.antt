@@ -9,10 +9,9 @@ use Rattle.std.specs.Str.{bytes_eq}
 use Rattle.std.specs.Cmp.Lexicographic.{bytes_decides}
 use Rattle.std.proofs.lemmas.Bool.{and_parts}
 use Rattle.hsp_pair_map.specs.Pairs.{Pair}
-use Rattle.hsp_tally.specs.Seen.{Seen, is_left_out, number_of, of_row, put_in}
+use Rattle.hsp_tally.specs.Seen.{Seen, number_of, of_row}
 use Rattle.hsp_tally.specs.SeenPairs.{AreApart, seen_in}
 use Rattle.hsp_tables.proofs.Lookups.{is_named}
-use Rattle.hsp_text.proofs.Lists.{all_push}
 
 -- there are as many rows as numbers
 pub seen_length : (pairs : List Pair) (numbers : List ℕ) → length pairs ≡ length numbers
@@ -107,14 +106,6 @@ apart_more (p ∷ pairs) pair apart new = (
 )
 
 -- ---- what holds of each
-
-module _ (P : Seen → Type 0) where
-  -- what holds of each row that was seen, and of one that is put in
-  pub put_all : (rows : List Seen) (row : Seen) → AllByRecursion P rows → P row → AllByRecursion P (put_in rows row)
-  put_all rows row all p = elim (cases_Bool (is_left_out rows row.region row.handle)) [
-    | inl out ↦ rw out all
-    | inr taken ↦ rw taken (all_push P rows row all p)
-  ]
 
 -- a row that is found by a region and a handle is of these, and so is what holds of it
 pub found_has : (P : Seen → Type 0) (region handle : List ℕ) (rows : List Seen) (number : ℕ) → AllByRecursion P rows

@@ -1,4 +1,4 @@
--- Keys of kinds, without where they lie in memory.
+-- Keys, without where they lie in memory.
 use Rattle.hsp_tally.specs.Keys.{KeyEntry}
 use Rattle.hsp_tally.specs.declared.keys.KindKey.{KindKey}
 

@@ -1,8 +1,6 @@
-pub mod Finding
 pub mod FirstRows
 pub mod Keys
 pub mod KindKeys
-pub mod KindMaps
 pub mod LentKinds
 pub mod Seen
 pub mod SeenPairs
