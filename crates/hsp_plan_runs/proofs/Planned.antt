@@ -8,8 +8,8 @@ use Rattle.hsp_text.specs.declared.limits.TheConstants.{LARGEST_FILE}
 use Rattle.hsp_tables.specs.Costs.{CostEntry}
 use Rattle.hsp_instance.specs.Instance.{Instance, Row}
 use Rattle.hsp_check.specs.Instance.{capacities_in, limits_in, server_hosts_in}
-use Rattle.hsp_kinds.specs.Rows.{Service}
-use Rattle.hsp_groups.specs.Rows.{IsRow, KeptRow}
+use Rattle.hsp_prices.specs.Rows.{Service}
+use Rattle.hsp_prices.specs.KeptRows.{IsRow, KeptRow}
 use Rattle.hsp_price_plan.specs.Grouping.{asked_in}
 use Rattle.hsp_price_check.specs.Classes.{service_of}
 use Rattle.hsp_price_check.specs.Passed.{capped}

@@ -17,9 +17,9 @@ use Rattle.hsp_instance.specs.Instance.{Row, Site, regions_of}
 use Rattle.hsp_instance.specs.RowArcs.{ArcsInTurn, AreArcsOf, IsWithin, row_named, with_region as seen_region}
 use Rattle.hsp_instance.specs.declared.arc.Arc.{Arc}
 use Rattle.hsp_instance.proofs.ArcsWithin.{arcs_within}
-use Rattle.hsp_tally.proofs.KindCounts.{few_regions, region_added}
-use Rattle.hsp_kinds.specs.Rows.{Service}
-use Rattle.hsp_groups.specs.Rows.{IsRow, KeptRow}
+use Rattle.hsp_price_check.proofs.KindCounts.{few_regions, region_added}
+use Rattle.hsp_prices.specs.Rows.{Service}
+use Rattle.hsp_prices.specs.KeptRows.{IsRow, KeptRow}
 use Rattle.hsp_price_plan.specs.Entries.{AreServers}
 use Rattle.hsp_price_plan.specs.Held.{CanPush, HeldRows, loose_row, with_row}
 use Rattle.hsp_price_plan.specs.Regions.{RegionArcs, no_region, region_at, region_with, with_region, HasShape}

@@ -5,9 +5,9 @@ use Rattle.hsp_tables.specs.Costs.{AreCosts}
 use Rattle.hsp_text.specs.declared.limits.TheConstants.{MOST_REGIONS}
 use Rattle.hsp_instance.specs.Instance.{Row, regions_of}
 use Rattle.hsp_instance.specs.RowArcs.{ArcsInTurn}
-use Rattle.hsp_kinds.specs.Rows.{Service}
-use Rattle.hsp_classes.specs.Shown.{IsService}
-use Rattle.hsp_groups.specs.Solved.{AreRows}
+use Rattle.hsp_prices.specs.Rows.{Service}
+use Rattle.hsp_prices.specs.Shown.{IsService}
+use Rattle.hsp_prices.specs.Solved.{AreRows}
 use Rattle.hsp_price_plan.specs.Held.{HeldRows}
 use Rattle.hsp_price_plan.specs.Regions.{HasShape}
 use Rattle.hsp_price_plan.specs.Grouping.{asked_in}

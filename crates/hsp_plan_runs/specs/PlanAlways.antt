@@ -2,7 +2,7 @@
 use Rattle.std.specs.Prelude.{◌⊎◌, ⊤, ℕ, List, Option, Some, None, Result, Ok, Err}
 use Rattle.hsp_csv.specs.Records.{records_of}
 use Rattle.hsp_instance.specs.Instance.{Row}
-use Rattle.hsp_kinds.specs.Rows.{Service}
+use Rattle.hsp_prices.specs.Rows.{Service}
 use Rattle.hsp_runs.specs.declared.inputs.Inputs.{Inputs}
 use Rattle.hsp_price_check.specs.Classes.{service_of}
 use Rattle.hsp_price_runs.specs.PriceAlways.{HasRows}

@@ -13,7 +13,7 @@ ghost use Rattle.hsp_plan_runs.specs.Taken.{AreTakenOfSome, IsTakenFault, IsVali
 
 use crate::holder::RowHolder;
 use crate::text::{PricesText, text_of};
-use hsp_classes::laws::{plan_is_shown, shortage_is_shown};
+use hsp_prices::{plan_is_shown, shortage_is_shown};
 use hsp_price_plan::{KeptRows, PlanFault, Progress, keep_guessed, plan_rows};
 use hsp_runs::{Inputs, costs_in, instance_in};
 use hsp_runs::headline_laws::instances_are_defined;

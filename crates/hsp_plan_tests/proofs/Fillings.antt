@@ -14,9 +14,9 @@ use Rattle.hsp_instance.specs.Building.{arcs_from}
 use Rattle.hsp_instance.specs.Instance.{Row, Site}
 use Rattle.hsp_instance.specs.RowArcs.{ArcsInTurn, AreArcsOf, IsWithin, row_named}
 use Rattle.hsp_instance.specs.declared.arc.Arc.{Arc}
-use Rattle.hsp_kinds.specs.Rows.{Service}
-use Rattle.hsp_groups.specs.Groups.{Group}
-use Rattle.hsp_groups.specs.Rows.{IsRow, KeptRow}
+use Rattle.hsp_prices.specs.Rows.{Service}
+use Rattle.hsp_prices.specs.Groups.{Group}
+use Rattle.hsp_prices.specs.KeptRows.{IsRow, KeptRow}
 use Rattle.hsp_price_plan.specs.Held.{CanPush, HeldRows, loose_row, region_named, with_each, with_row}
 use Rattle.hsp_price_plan.specs.Regions.{RegionArcs, no_region, region_at, region_with, shape_of, with_region, HasShape}
 use Rattle.hsp_price_plan.proofs.StillRows.{LeavesRows}

@@ -3,8 +3,8 @@ use Rattle.std.specs.Prelude.{◌≡◌, ◌≤◌, ◌*◌, ℕ, List, length}
 use Rattle.std.specs.List.{AllByRecursion}
 use Rattle.hsp_instance.specs.Instance.{Row}
 use Rattle.hsp_instance.specs.RowArcs.{ArcsInTurn}
-use Rattle.hsp_kinds.specs.Rows.{Service}
-use Rattle.hsp_groups.specs.Solved.{AreRows}
+use Rattle.hsp_prices.specs.Rows.{Service}
+use Rattle.hsp_prices.specs.Solved.{AreRows}
 use Rattle.hsp_price_plan.specs.Held.{HeldRows}
 use Rattle.hsp_price_plan.specs.Regions.{HasShape}
 use Rattle.hsp_price_plan.specs.Grouping.{asked_in}

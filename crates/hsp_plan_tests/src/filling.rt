@@ -2,7 +2,7 @@
 
 ghost use Rattle.std.specs.Prelude.{◌≡◌, ◌≤◌, ◌<◌, ◌+◌, ◌==◌, All, IfOk, IsTrue, OnOk, length, if◌then◌else◌};
 ghost use Rattle.hsp_text.specs.declared.limits.TheConstants.{MOST_REGIONS, MOST_SERVERS};
-ghost use Rattle.hsp_kinds.specs.Rows.{Service};
+ghost use Rattle.hsp_prices.specs.Rows.{Service};
 ghost use Rattle.hsp_price_check.specs.Classes.{service_of};
 ghost use Rattle.hsp_price_plan.specs.Held.{region_named};
 ghost use Rattle.hsp_price_plan.specs.Planning.{AreOfSome};

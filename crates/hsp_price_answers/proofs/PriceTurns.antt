@@ -10,7 +10,7 @@ use Rattle.hsp_price_dispatch.specs.Holding.{Held}
 use Rattle.hsp_price_dispatch.specs.Laws.{answers_to}
 use Rattle.hsp_price_dispatch.specs.declared.answer.PriceAnswer.{PriceAnswer}
 use Rattle.hsp_price_dispatch.specs.declared.answer.PriceAnswer.TheVariants.{Assigned, Diverted, Full, Unknown}
-use Rattle.hsp_tally.specs.Tally.{capped}
+use Rattle.hsp_price_check.specs.Tally.{capped}
 use Rattle.hsp_stream.specs.Answering.{AreGiven, InTurn, lines_in}
 use Rattle.hsp_stream.specs.Asking.{queries_in}
 use Rattle.hsp_price_answers.specs.Lines.{line_by, price_line}

@@ -4,11 +4,11 @@ use Rattle.std.proofs.Common.{inr, refl, subst}
 use Rattle.std.specs.List.{Contains}
 use Rattle.hsp_tables.specs.Costs.{CostEntry}
 use Rattle.hsp_instance.specs.Instance.{Instance}
-use Rattle.hsp_kinds.specs.Rows.{Service}
+use Rattle.hsp_prices.specs.Rows.{Service}
 use Rattle.hsp_price_text.specs.Claim.{Best}
 use Rattle.hsp_price_text.specs.declared.certificate.PriceCertificate.{PriceCertificate}
 use Rattle.hsp_price_text.specs.declared.certificate.PriceCertificate.TheVariants.{Plan, Shortage}
-use Rattle.hsp_classes.specs.Least.{arcs_of, least_of}
+use Rattle.hsp_prices.specs.Least.{arcs_of, least_of}
 use Rattle.hsp_dispatch.specs.Dispatch.{Entry}
 use Rattle.hsp_dispatch.specs.declared.front_share.Front.{Front}
 use Rattle.hsp_price_dispatch.specs.Choosing.{left_by, row_of}

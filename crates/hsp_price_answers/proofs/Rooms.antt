@@ -1,10 +1,10 @@
 -- The room of one front is within what servers and hosts take.
 use Rattle.std.proofs.Common.{◌≡◌, ◌<◌, ◌≤◌, ◌-◌, ◌∙◌, ◌==◌, Bool, ℕ, [], ap, arith, length}
 use Rattle.hsp_check.specs.Plan.{is_on}
-use Rattle.hsp_kinds.specs.Rows.{Service}
+use Rattle.hsp_prices.specs.Rows.{Service}
 use Rattle.hsp_price_text.specs.Claim.{Best}
-use Rattle.hsp_classes.specs.Least.{host_at}
-use Rattle.hsp_classes.specs.Sums.{host_load_at, load_at}
+use Rattle.hsp_prices.specs.Least.{host_at}
+use Rattle.hsp_prices.specs.Sums.{host_load_at, load_at}
 use Rattle.hsp_dispatch.proofs.FrontShares.{share_le}
 use Rattle.hsp_price_dispatch.specs.Holding.{Held, host_room_at, left_where, room_at}
 use Rattle.hsp_price_dispatch.specs.Starting.{Fits, IsBegun, capacity_at, limit_at}

@@ -1,11 +1,11 @@
 -- What holds of the answers of all fronts together, and of a single front.
 use Rattle.std.specs.Prelude.{◌≡◌, ◌<◌, ◌≤◌, ◌+◌, ◌==◌, true, ℕ, List, [], All, length, sum}
 use Rattle.hsp_transport.specs.Sums.{sum_below}
-use Rattle.hsp_kinds.specs.Rows.{Service}
+use Rattle.hsp_prices.specs.Rows.{Service}
 use Rattle.hsp_price_text.specs.Certificate.{IsCertificate}
 use Rattle.hsp_price_text.specs.Claim.{Best}
 use Rattle.hsp_price_text.specs.declared.certificate.PriceCertificate.TheVariants as certificate
-use Rattle.hsp_classes.specs.Sums.{load_at}
+use Rattle.hsp_prices.specs.Sums.{load_at}
 use Rattle.hsp_price_check.specs.Passed.{class_at}
 use Rattle.hsp_price_dispatch.specs.Holding.{Held}
 use Rattle.hsp_price_dispatch.specs.Laws.{AreBegun, answers_to, count_at, count_on}

@@ -9,7 +9,7 @@ use Rattle.hsp_price_text.specs.Certificate.{IsCertificate}
 use Rattle.hsp_price_text.specs.Claim.{Best}
 use Rattle.hsp_price_text.specs.Text.{text_of}
 use Rattle.hsp_price_text.specs.declared.certificate.PriceCertificate.TheVariants as certificate
-use Rattle.hsp_classes.specs.Least.{arcs_of, least_of}
+use Rattle.hsp_prices.specs.Least.{arcs_of, least_of}
 use Rattle.hsp_dispatch.specs.Dispatch.{Entry}
 use Rattle.hsp_dispatch.specs.declared.front_share.Front.{Front}
 use Rattle.hsp_price_dispatch.specs.Choosing.{answer_by, row_of}

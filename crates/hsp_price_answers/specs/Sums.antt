@@ -2,7 +2,7 @@
 use Rattle.std.specs.Prelude.{◌+◌, Bool, true, false, ℕ, List, count_by}
 use Rattle.hsp_price_dispatch.specs.declared.answer.PriceAnswer.{PriceAnswer}
 use Rattle.hsp_price_dispatch.specs.declared.answer.PriceAnswer.TheVariants.{Assigned, Diverted, Full, Unknown}
-use Rattle.hsp_tally.specs.Tally.{capped}
+use Rattle.hsp_price_check.specs.Tally.{capped}
 use Rattle.hsp_price_answers.specs.declared.sums.PriceSums.{PriceSums}
 
 abbrev pub is_assigned : PriceAnswer → Bool

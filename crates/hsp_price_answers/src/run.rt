@@ -13,7 +13,7 @@ ghost use Rattle.hsp_price_answers.specs.PricesShown.{ShowsPricesBy};
 use crate::dispatcher::PriceAnswers;
 use crate::front_words::{FrontChoice, front_spelled};
 use crate::sums::PriceSums;
-use hsp_classes::PriceReason;
+use hsp_prices::PriceReason;
 use hsp_dispatch::front_share::Front;
 use hsp_runs::{Fault, Inputs, costs_in, instance_in};
 use hsp_instance::Instance;

@@ -7,8 +7,8 @@ use Rattle.std.proofs.lemmas.Cmp.{nat_list_eq_equiv}
 use Rattle.std.proofs.lemmas.List.{length-take, take_more}
 use Rattle.hsp_instance.specs.Building.{or_else}
 use Rattle.hsp_price_text.specs.Claim.{Class}
-use Rattle.hsp_tally.specs.FirstRows.{FirstRow, HasAdded}
-use Rattle.hsp_tally.proofs.FirstOfKinds.{place_next}
+use Rattle.hsp_price_check.specs.FirstRows.{FirstRow, HasAdded}
+use Rattle.hsp_price_check.proofs.FirstOfKinds.{place_next}
 use Rattle.hsp_price_check.specs.ClassNumbers.{HasClasses, is_named}
 
 -- a key is of a class exactly where the class is named by it

@@ -11,8 +11,8 @@ use Rattle.hsp_text.specs.declared.limits.TheConstants.{GREATEST_COST}
 use Rattle.hsp_instance.specs.Building.{cost_of, is_cost_of}
 use Rattle.hsp_instance.specs.Instance.{Server, Site}
 use Rattle.hsp_instance.proofs.Lists.{found_within}
-use Rattle.hsp_kinds.specs.Rows.{Service}
-use Rattle.hsp_classes.specs.Sums.{cost_at, cost_or_none, server_cost, site_cost}
+use Rattle.hsp_prices.specs.Rows.{Service}
+use Rattle.hsp_prices.specs.Sums.{cost_at, cost_or_none, server_cost, site_cost}
 use Rattle.hsp_price_check.specs.Passed.{capped}
 use Rattle.hsp_price_check.proofs.Capping.{term_added, term_skipped}
 

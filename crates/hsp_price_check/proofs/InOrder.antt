@@ -1,13 +1,13 @@
 -- Which conditions are met when a reason is reported.
 use Rattle.std.proofs.Common.{ℕ, ◌<◌, ◌≤◌, List, arith}
 use Rattle.hsp_instance.specs.Instance.{Row}
-use Rattle.hsp_kinds.specs.Rows.{Service}
+use Rattle.hsp_prices.specs.Rows.{Service}
 use Rattle.hsp_price_text.specs.Claim.{Best}
-use Rattle.hsp_classes.specs.Verdict.{PlanMeets, number}
-use Rattle.hsp_classes.specs.declared.verdict.PriceReason.{PriceReason}
-use Rattle.hsp_classes.specs.declared.verdict.PriceReason.TheVariants.{Shape, NoSuchServer, NotLeast, NoClass, ClassSum}
-use Rattle.hsp_classes.specs.declared.verdict.PriceReason.TheVariants.{Load, Cost, IdlePrice, DemandSum, CapacitySum}
-use Rattle.hsp_classes.specs.declared.verdict.PriceReason.TheVariants.{NotShort}
+use Rattle.hsp_prices.specs.Verdict.{PlanMeets, number}
+use Rattle.hsp_prices.specs.declared.verdict.PriceReason.{PriceReason}
+use Rattle.hsp_prices.specs.declared.verdict.PriceReason.TheVariants.{Shape, NoSuchServer, NotLeast, NoClass, ClassSum}
+use Rattle.hsp_prices.specs.declared.verdict.PriceReason.TheVariants.{Load, Cost, IdlePrice, DemandSum, CapacitySum}
+use Rattle.hsp_prices.specs.declared.verdict.PriceReason.TheVariants.{NotShort}
 use Rattle.hsp_price_check.specs.Verdicts.{MeetsClasses}
 
 module _ (at : Service) (rows : List Row) (plan : Best) (shape : PlanMeets at rows plan Shape)

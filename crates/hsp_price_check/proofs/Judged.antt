@@ -1,11 +1,11 @@
 -- The plan that a check judges, where its certificate is valid.
 use Rattle.std.proofs.Common.{◌≡◌, ◌∙◌, List, Some, ap, sym}
 use Rattle.hsp_instance.specs.Instance.{Row}
-use Rattle.hsp_kinds.specs.Rows.{Service}
+use Rattle.hsp_prices.specs.Rows.{Service}
 use Rattle.hsp_price_text.specs.Claim.{Best}
 use Rattle.hsp_price_text.specs.declared.certificate.PriceCertificate.TheVariants as certificate
-use Rattle.hsp_classes.specs.Verdict.{IsVerdict}
-use Rattle.hsp_classes.specs.declared.verdict.PriceVerdict.TheVariants.{Yes}
+use Rattle.hsp_prices.specs.Verdict.{IsVerdict}
+use Rattle.hsp_prices.specs.declared.verdict.PriceVerdict.TheVariants.{Yes}
 use Rattle.hsp_price_check.specs.Checking.{IsJudge, judged_plan}
 use Rattle.hsp_price_check.specs.declared.checking.Judge.{Judge}
 use Rattle.hsp_price_check.specs.declared.checking.Judge.TheVariants as judge

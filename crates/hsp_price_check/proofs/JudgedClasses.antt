@@ -5,17 +5,17 @@ use Rattle.std.proofs.lemmas.Bool.{and_parts}
 use Rattle.std.proofs.lemmas.List.{get_or_default}
 use Rattle.std.specs.List.{AllByRecursion, list_all, list_any}
 use Rattle.hsp_instance.specs.Instance.{Row}
-use Rattle.hsp_kinds.specs.Rows.{Service}
+use Rattle.hsp_prices.specs.Rows.{Service}
 use Rattle.hsp_price_text.specs.Claim.{Best, Class, is_class}
 use Rattle.hsp_price_text.proofs.DraftSteps.{best_parts}
-use Rattle.hsp_classes.proofs.GivenClasses.{IsGiven, given_classes}
+use Rattle.hsp_prices.proofs.GivenClasses.{IsGiven, given_classes}
 use Rattle.hsp_price_check.proofs.Capping.{kept_within}
 use Rattle.hsp_price_check.proofs.Judging.{exact}
 use Rattle.hsp_price_check.proofs.SmallAmounts.{amounts_small}
-use Rattle.hsp_classes.specs.Least.{is_of}
-use Rattle.hsp_classes.specs.Sums.{asked_of}
-use Rattle.hsp_classes.specs.Verdict.{PlanMeets}
-use Rattle.hsp_classes.specs.declared.verdict.PriceReason.TheVariants.{ClassSum, NotLeast}
+use Rattle.hsp_prices.specs.Least.{is_of}
+use Rattle.hsp_prices.specs.Sums.{asked_of}
+use Rattle.hsp_prices.specs.Verdict.{PlanMeets}
+use Rattle.hsp_prices.specs.declared.verdict.PriceReason.TheVariants.{ClassSum, NotLeast}
 use Rattle.hsp_price_check.specs.Passed.{capped, class_at, no_class}
 use Rattle.hsp_price_check.specs.PlanPass.{IsPlanPass}
 use Rattle.hsp_price_check.specs.Verdicts.{AreAskedFor}

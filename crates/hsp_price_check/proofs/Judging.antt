@@ -9,13 +9,13 @@ use Rattle.hsp_instance.specs.Instance.{Row, Server}
 use Rattle.hsp_check.specs.ArcFlows.{host_in}
 use Rattle.hsp_check.specs.Lists.{AreHosted, AreIdle, AreWithin}
 use Rattle.hsp_check.specs.Plan.{is_on}
-use Rattle.hsp_kinds.specs.Rows.{Service}
+use Rattle.hsp_prices.specs.Rows.{Service}
 use Rattle.hsp_price_text.specs.Claim.{Best}
 use Rattle.hsp_transport.proofs.Summing.{sum_below_same}
-use Rattle.hsp_classes.specs.Sums.{cost_in_all, host_load_at, load_at}
-use Rattle.hsp_classes.specs.Verdict.{PlanMeets}
-use Rattle.hsp_classes.specs.declared.verdict.PriceReason.TheVariants.{Load, Cost, IdlePrice}
-use Rattle.hsp_classes.proofs.Bounds.{capacity_low}
+use Rattle.hsp_prices.specs.Sums.{cost_in_all, host_load_at, load_at}
+use Rattle.hsp_prices.specs.Verdict.{PlanMeets}
+use Rattle.hsp_prices.specs.declared.verdict.PriceReason.TheVariants.{Load, Cost, IdlePrice}
+use Rattle.hsp_prices.proofs.Bounds.{capacity_low}
 use Rattle.hsp_price_check.specs.Passed.{capped}
 use Rattle.hsp_price_check.specs.PlanPass.{IsPlanPass}
 use Rattle.hsp_price_check.specs.declared.plan_pass.PlanPass.{PlanPass}

@@ -10,8 +10,8 @@ use Rattle.std.proofs.lemmas.List.Folds.{list_any_more}
 use Rattle.hsp_text.proofs.Lists.{all_push}
 use Rattle.hsp_instance.proofs.Lists.{all_so}
 use Rattle.hsp_instance.specs.declared.arc.Arc.{Arc}
-use Rattle.hsp_classes.specs.Least.{is_least, least_arcs}
-use Rattle.hsp_classes.proofs.Lists.{same_kept}
+use Rattle.hsp_prices.specs.Least.{is_least, least_arcs}
+use Rattle.hsp_prices.proofs.Lists.{same_kept}
 
 -- what stands past the end of arcs
 abbrev pub no_arc : Arc

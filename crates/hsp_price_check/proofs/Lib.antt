@@ -19,3 +19,6 @@ pub mod Starting
 pub mod RegionPlaces
 mod RegionSteps
 mod Judged
+pub mod KindCounts
+pub mod SeenMaps
+pub mod FirstOfKinds

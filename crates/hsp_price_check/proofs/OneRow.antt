@@ -8,12 +8,12 @@ use Rattle.std.proofs.lemmas.List.Folds.{list_any_at}
 use Rattle.std.proofs.lemmas.List.Quantifiers.{position-Some}
 use Rattle.hsp_instance.specs.Instance.{Row}
 use Rattle.hsp_instance.specs.declared.arc.Arc.{Arc}
-use Rattle.hsp_kinds.specs.Rows.{Service}
+use Rattle.hsp_prices.specs.Rows.{Service}
 use Rattle.hsp_price_text.specs.Claim.{Best, Class, is_best}
-use Rattle.hsp_classes.specs.Least.{is_of, least_of, only_arc, servers_of}
-use Rattle.hsp_classes.specs.Sums.{brings, costs, row_cost, row_load}
-use Rattle.hsp_classes.specs.Verdict.{IsPlaced}
-use Rattle.hsp_classes.proofs.ByRow.{no_class as of_no_class, one_of}
+use Rattle.hsp_prices.specs.Least.{is_of, least_of, only_arc, servers_of}
+use Rattle.hsp_prices.specs.Sums.{brings, costs, row_cost, row_load}
+use Rattle.hsp_prices.specs.Verdict.{IsPlaced}
+use Rattle.hsp_prices.proofs.ByRow.{no_class as of_no_class, one_of}
 use Rattle.hsp_price_check.specs.Passed.{IsPlaceOf, class_at, no_class, placed_with, spent}
 use Rattle.hsp_price_check.specs.declared.sums.RowPlace.{RowPlace}
 use Rattle.hsp_price_check.specs.declared.sums.RowPlace.TheVariants.{Nowhere, Over, OfClass, Unlisted}

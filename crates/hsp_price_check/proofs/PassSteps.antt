@@ -8,11 +8,11 @@ use Rattle.std.proofs.lemmas.List.Elements.{All-push}
 use Rattle.std.proofs.lemmas.List.Folds.{list_any-append}
 use Rattle.std.proofs.lemmas.List.Sums.{sum_by_push}
 use Rattle.hsp_instance.specs.Instance.{Row}
-use Rattle.hsp_kinds.specs.Rows.{Service}
+use Rattle.hsp_prices.specs.Rows.{Service}
 use Rattle.hsp_price_text.specs.Claim.{Best, is_best}
-use Rattle.hsp_classes.specs.Least.{is_of, least_of}
-use Rattle.hsp_classes.specs.Sums.{asked_of, cost_in_all, load_at, row_cost, row_load}
-use Rattle.hsp_classes.specs.Verdict.{IsPlaced}
+use Rattle.hsp_prices.specs.Least.{is_of, least_of}
+use Rattle.hsp_prices.specs.Sums.{asked_of, cost_in_all, load_at, row_cost, row_load}
+use Rattle.hsp_prices.specs.Verdict.{IsPlaced}
 use Rattle.hsp_price_check.specs.Passed.{AreSums, IsAdded, IsPlaceOf, capped, class_at, spent}
 use Rattle.hsp_price_check.specs.declared.sums.PassSums.{PassSums}
 use Rattle.hsp_price_check.specs.declared.sums.RowPlace.{RowPlace}

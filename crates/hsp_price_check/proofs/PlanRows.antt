@@ -7,11 +7,11 @@ use Rattle.std.proofs.lemmas.List.Quantifiers.{position-Some}
 use Rattle.hsp_instance.specs.Instance.{Row, Server}
 use Rattle.hsp_instance.specs.RowArcs.{IsWithin}
 use Rattle.hsp_instance.specs.declared.arc.Arc.{Arc}
-use Rattle.hsp_kinds.specs.Rows.{Service}
+use Rattle.hsp_prices.specs.Rows.{Service}
 use Rattle.hsp_price_text.specs.Claim.{Best}
-use Rattle.hsp_classes.specs.Least.{arcs_of, is_least, least_arcs, least_of, servers_of}
-use Rattle.hsp_classes.proofs.Lists.{all_kept}
-use Rattle.hsp_tally.specs.FirstRows.{FirstRow}
+use Rattle.hsp_prices.specs.Least.{arcs_of, is_least, least_arcs, least_of, servers_of}
+use Rattle.hsp_prices.proofs.Lists.{all_kept}
+use Rattle.hsp_price_check.specs.FirstRows.{FirstRow}
 use Rattle.hsp_price_check.specs.ClassNumbers.{HasClasses, is_named}
 use Rattle.hsp_price_check.specs.Extras.{pay_by}
 use Rattle.hsp_price_check.specs.Passed.{IsInside, IsPlaceOf, no_class}

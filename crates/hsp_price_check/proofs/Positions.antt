@@ -5,7 +5,7 @@ use Rattle.std.specs.List.{list_any, position_or_len}
 use Rattle.std.proofs.lemmas.Bool.{both_ways, cases_lt, false_from_ne_true, lt-ltb}
 use Rattle.std.proofs.lemmas.List.Folds.{list_any_at, list_any_none}
 use Rattle.std.proofs.lemmas.List.Sums.{fails_before_first}
-use Rattle.hsp_classes.proofs.Once.{AtMostOnce}
+use Rattle.hsp_prices.proofs.Once.{AtMostOnce}
 
 module _ {A : Type 0} (test : A → Bool) where
   -- where none passes, the one at a place doesn't

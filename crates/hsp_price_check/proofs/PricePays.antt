@@ -7,9 +7,9 @@ use Rattle.std.proofs.lemmas.List.{get_or_past, length-map}
 use Rattle.hsp_check.specs.Prices.{at_host}
 use Rattle.hsp_instance.specs.Instance.{Server}
 use Rattle.hsp_instance.specs.declared.arc.Arc.{Arc}
-use Rattle.hsp_kinds.specs.Rows.{Service}
+use Rattle.hsp_prices.specs.Rows.{Service}
 use Rattle.hsp_price_text.specs.Claim.{Best}
-use Rattle.hsp_classes.specs.Least.{host_at, price_at, pay_over}
+use Rattle.hsp_prices.specs.Least.{host_at, price_at, pay_over}
 use Rattle.hsp_price_check.specs.Extras.{pay_by, AreExtras}
 use Rattle.hsp_price_check.specs.PlanPass.{AreNumbersOf}
 use Rattle.hsp_price_check.specs.declared.numbers.ServiceNumbers.{ServiceNumbers}

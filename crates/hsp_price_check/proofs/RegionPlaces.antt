@@ -12,7 +12,7 @@ use Rattle.hsp_tables.proofs.SeenNames.{seen_among, seen_apart}
 use Rattle.hsp_instance.specs.Instance.{Row, regions_of}
 use Rattle.hsp_instance.specs.RowArcs.{with_region}
 use Rattle.hsp_instance.proofs.Lists.{one_place, pushed_at}
-use Rattle.hsp_tally.proofs.KindCounts.{region_added}
+use Rattle.hsp_price_check.proofs.KindCounts.{region_added}
 use Rattle.hsp_price_check.specs.Passed.{capped}
 use Rattle.hsp_price_check.specs.Regions.{rows_sum}
 use Rattle.hsp_price_check.proofs.SumSteps.{capped_where}

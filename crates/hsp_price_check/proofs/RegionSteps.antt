@@ -5,7 +5,7 @@ use Rattle.std.specs.Str.{bytes_eq}
 use Rattle.std.specs.Prelude.{◌==◌, if◌then◌else◌}
 use Rattle.std.proofs.lemmas.List.{get_or_past}
 use Rattle.hsp_instance.specs.Instance.{Row, regions_of}
-use Rattle.hsp_tally.proofs.KindCounts.{region_added}
+use Rattle.hsp_price_check.proofs.KindCounts.{region_added}
 use Rattle.hsp_price_check.specs.Passed.{capped}
 use Rattle.hsp_price_check.specs.Regions.{AreRegionSums, IsRegionAdded, no_sums, sums_at}
 use Rattle.hsp_price_check.specs.declared.regions.RegionSums.{RegionSums}

@@ -9,10 +9,10 @@ use Rattle.hsp_instance.specs.declared.arc.Arc.{Arc}
 use Rattle.hsp_check.specs.ArcFlows.{flag_at}
 use Rattle.hsp_check.specs.Lists.{AreFlagsOf}
 use Rattle.hsp_check.specs.Verdict.{is_one_of}
-use Rattle.hsp_kinds.specs.Rows.{Service}
+use Rattle.hsp_prices.specs.Rows.{Service}
 use Rattle.hsp_price_text.specs.Claim.{Short}
-use Rattle.hsp_classes.specs.Least.{arcs_of}
-use Rattle.hsp_classes.specs.Sums.{caught_count, caught_in_all}
+use Rattle.hsp_prices.specs.Least.{arcs_of}
+use Rattle.hsp_prices.specs.Sums.{caught_count, caught_in_all}
 use Rattle.hsp_price_check.specs.Passed.{capped}
 use Rattle.hsp_price_check.specs.PlanPass.{IsOfRow}
 use Rattle.hsp_price_check.specs.SetPass.{IsSetPass}

@@ -8,8 +8,8 @@ use Rattle.std.specs.List.{AllByRecursion, list_all}
 use Rattle.hsp_text.specs.Name.{is_name}
 use Rattle.hsp_cert.specs.Certificate.{ascends}
 use Rattle.hsp_price_text.specs.Claim.{Class, are_servers, is_amount, is_class, is_server}
-use Rattle.hsp_classes.proofs.GivenClasses.{IsGiven}
-use Rattle.hsp_classes.proofs.Once.{Ordered}
+use Rattle.hsp_prices.proofs.GivenClasses.{IsGiven}
+use Rattle.hsp_prices.proofs.Once.{Ordered}
 
 -- numbers in strict order from one on, below another, are no more than there are between them
 few_ordered : (most low : ℕ) (xs : List ℕ) → low ≤ most → Ordered nat_lt xs → list_all is_server xs ≡ true

@@ -7,8 +7,8 @@ use Rattle.std.proofs.Math.ListN.{replicate}
 use Rattle.std.proofs.lemmas.Bool.{and_parts}
 use Rattle.std.specs.List.{list_all}
 use Rattle.hsp_check.specs.ArcFlows.{flag_at}
-use Rattle.hsp_kinds.specs.Rows.{Service}
-use Rattle.hsp_classes.specs.Sums.{class_cost, class_load}
+use Rattle.hsp_prices.specs.Rows.{Service}
+use Rattle.hsp_prices.specs.Sums.{class_cost, class_load}
 use Rattle.hsp_price_check.specs.Classes.{AreClassLoads}
 use Rattle.hsp_price_check.specs.Passed.{AreSums, capped}
 use Rattle.hsp_price_check.specs.declared.sums.PassSums.{PassSums}

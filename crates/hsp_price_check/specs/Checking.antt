@@ -3,13 +3,13 @@ use Rattle.std.specs.Prelude.{◌≡◌, ◌<◌, ◌≤◌, List, Option, Some,
 use Rattle.hsp_tables.specs.Costs.{AreCosts}
 use Rattle.hsp_text.specs.declared.limits.TheConstants.{MOST_REGIONS}
 use Rattle.hsp_instance.specs.Instance.{Row, regions_of}
-use Rattle.hsp_kinds.specs.Rows.{Service}
+use Rattle.hsp_prices.specs.Rows.{Service}
 use Rattle.hsp_price_text.specs.Claim.{Best, Short}
 use Rattle.hsp_price_text.specs.declared.certificate.PriceCertificate.{PriceCertificate}
 use Rattle.hsp_price_text.specs.declared.certificate.PriceCertificate.TheVariants as certificate
-use Rattle.hsp_classes.specs.Shown.{IsService}
-use Rattle.hsp_classes.specs.Verdict.{IsVerdict}
-use Rattle.hsp_classes.specs.declared.verdict.PriceVerdict.TheVariants.{No}
+use Rattle.hsp_prices.specs.Shown.{IsService}
+use Rattle.hsp_prices.specs.Verdict.{IsVerdict}
+use Rattle.hsp_prices.specs.declared.verdict.PriceVerdict.TheVariants.{No}
 use Rattle.hsp_price_check.specs.Classes.{service_of}
 use Rattle.hsp_price_check.specs.PlanPass.{IsPlanPass}
 use Rattle.hsp_price_check.specs.Regions.{AreRegionSums, cost_by}

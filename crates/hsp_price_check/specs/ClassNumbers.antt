@@ -3,7 +3,7 @@ use Rattle.std.specs.Prelude.{◌≡◌, ◌&&◌, Bool, ℕ, List, position}
 use Rattle.std.specs.Map.{lookup}
 use Rattle.std.specs.Str.{bytes_eq}
 use Rattle.hsp_price_text.specs.Claim.{Class}
-use Rattle.hsp_tally.specs.FirstRows.{FirstRow, is_key_of}
+use Rattle.hsp_price_check.specs.FirstRows.{FirstRow, is_key_of}
 
 -- a class is of the region and the servers
 abbrev pub is_named : List ℕ → List ℕ → Class → Bool

@@ -2,9 +2,9 @@
 use Rattle.std.specs.Prelude.{◌≡◌, ◌<◌, ◌+◌, ℕ, List, length, slice_index, sum_by}
 use Rattle.hsp_tables.specs.Costs.{CostEntry}
 use Rattle.hsp_instance.specs.Instance.{Instance}
-use Rattle.hsp_kinds.specs.Rows.{Service}
+use Rattle.hsp_prices.specs.Rows.{Service}
 use Rattle.hsp_price_text.specs.Claim.{Class}
-use Rattle.hsp_classes.specs.Sums.{class_load}
+use Rattle.hsp_prices.specs.Sums.{class_load}
 use Rattle.hsp_price_check.specs.Passed.{capped}
 
 -- an instance without its rows, and the costs

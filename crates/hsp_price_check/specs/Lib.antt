@@ -8,3 +8,10 @@ pub mod SetPass
 pub mod Regions
 pub mod Verdicts
 pub mod Checking
+pub mod FirstRows
+pub mod Keys
+pub mod KindKeys
+pub mod LentKinds
+pub mod Seen
+pub mod SeenPairs
+pub mod Tally

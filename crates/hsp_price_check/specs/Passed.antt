@@ -6,11 +6,11 @@ use Rattle.std.specs.List.{list_any}
 use Rattle.hsp_text.specs.declared.limits.TheConstants.{GREATEST_COST}
 use Rattle.hsp_instance.specs.Instance.{Row}
 use Rattle.hsp_check.specs.ArcFlows.{flag_at}
-use Rattle.hsp_kinds.specs.Rows.{Service}
+use Rattle.hsp_prices.specs.Rows.{Service}
 use Rattle.hsp_price_text.specs.Claim.{Best, Class}
-use Rattle.hsp_classes.specs.Least.{is_of, least_of}
-use Rattle.hsp_classes.specs.Sums.{asked_of, cost_in_all, load_at}
-use Rattle.hsp_classes.specs.Verdict.{IsPlaced}
+use Rattle.hsp_prices.specs.Least.{is_of, least_of}
+use Rattle.hsp_prices.specs.Sums.{asked_of, cost_in_all, load_at}
+use Rattle.hsp_prices.specs.Verdict.{IsPlaced}
 use Rattle.hsp_price_check.specs.declared.sums.PassSums.{PassSums}
 use Rattle.hsp_price_check.specs.declared.sums.RowPlace.{RowPlace}
 use Rattle.hsp_price_check.specs.declared.sums.RowPlace.TheVariants.{Nowhere, Over, OfClass, Unlisted}

@@ -2,15 +2,15 @@
 use Rattle.std.specs.Prelude.{◌≡◌, ◌≤◌, ℕ, List, [], ◌∷◌, length, map, position, Some, None}
 use Rattle.hsp_instance.specs.Instance.{Row}
 use Rattle.hsp_instance.specs.declared.arc.Arc.{Arc}
-use Rattle.hsp_kinds.specs.Rows.{Service}
+use Rattle.hsp_prices.specs.Rows.{Service}
 use Rattle.hsp_price_text.specs.Certificate.{IsCertificate}
 use Rattle.hsp_price_text.specs.Claim.{Best}
 use Rattle.hsp_price_text.specs.declared.certificate.PriceCertificate.TheVariants as certificate
-use Rattle.hsp_classes.specs.Least.{arcs_of, servers_of}
-use Rattle.hsp_classes.specs.Shown.{IsService}
-use Rattle.hsp_classes.specs.Verdict.{PlanMeets}
-use Rattle.hsp_classes.specs.declared.verdict.PriceReason.TheVariants.{Shape, NoSuchServer}
-use Rattle.hsp_tally.specs.FirstRows.{FirstRow}
+use Rattle.hsp_prices.specs.Least.{arcs_of, servers_of}
+use Rattle.hsp_prices.specs.Shown.{IsService}
+use Rattle.hsp_prices.specs.Verdict.{PlanMeets}
+use Rattle.hsp_prices.specs.declared.verdict.PriceReason.TheVariants.{Shape, NoSuchServer}
+use Rattle.hsp_price_check.specs.FirstRows.{FirstRow}
 use Rattle.hsp_price_check.specs.ClassNumbers.{HasClasses, is_named}
 use Rattle.hsp_price_check.specs.Extras.{AreExtras}
 use Rattle.hsp_price_check.specs.Passed.{AreSums}

@@ -3,9 +3,9 @@ use Rattle.std.specs.Prelude.{◌≡◌, ◌<◌, ◌+◌, ◌==◌, ℕ, List, 
 use Rattle.std.specs.Prelude.{slice_get, slice_index_or, if◌then◌else◌}
 use Rattle.std.specs.Str.{bytes_eq}
 use Rattle.hsp_instance.specs.Instance.{Row, regions_of}
-use Rattle.hsp_kinds.specs.Rows.{Service}
+use Rattle.hsp_prices.specs.Rows.{Service}
 use Rattle.hsp_price_text.specs.Claim.{Best, Class}
-use Rattle.hsp_classes.specs.Sums.{class_cost, row_cost}
+use Rattle.hsp_prices.specs.Sums.{class_cost, row_cost}
 use Rattle.hsp_price_check.specs.Passed.{capped}
 use Rattle.hsp_price_check.specs.declared.regions.RegionSums.{RegionSums}
 

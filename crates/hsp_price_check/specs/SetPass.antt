@@ -5,11 +5,11 @@ use Rattle.hsp_check.specs.ArcFlows.{host_in}
 use Rattle.hsp_check.specs.Lists.{AreFlagsOf}
 use Rattle.hsp_check.specs.Network.{Network}
 use Rattle.hsp_check.specs.Verdict.{is_one_of}
-use Rattle.hsp_kinds.specs.Rows.{Service, network_for}
+use Rattle.hsp_prices.specs.Rows.{Service, network_for}
 use Rattle.hsp_price_text.specs.Claim.{Short}
 use Rattle.hsp_prices.specs.ServerSets.{capacity_of_servers}
-use Rattle.hsp_classes.specs.Sums.{caught_in_all}
-use Rattle.hsp_classes.specs.Verdict.{AreThere}
+use Rattle.hsp_prices.specs.Sums.{caught_in_all}
+use Rattle.hsp_prices.specs.Verdict.{AreThere}
 use Rattle.hsp_price_check.specs.Passed.{capped}
 use Rattle.hsp_price_check.specs.declared.numbers.ServiceNumbers.{ServiceNumbers}
 use Rattle.hsp_price_check.specs.declared.set_pass.SetPass.{SetPass}

@@ -1,13 +1,13 @@
 -- What a pass tests at its end.
 use Rattle.std.specs.Prelude.{◌≡◌, ◌<◌, ℕ, List, length, slice_index, slice_index_or, sum, Option, Some, None}
 use Rattle.hsp_instance.specs.Instance.{Row}
-use Rattle.hsp_kinds.specs.Rows.{Service}
+use Rattle.hsp_prices.specs.Rows.{Service}
 use Rattle.hsp_price_text.specs.Claim.{Best, Class}
 use Rattle.hsp_price_text.specs.declared.certificate.PriceCertificate.TheVariants.{Plan}
-use Rattle.hsp_classes.specs.Verdict.{IsVerdict, PlanMeets}
-use Rattle.hsp_classes.specs.declared.verdict.PriceReason.{PriceReason}
-use Rattle.hsp_classes.specs.declared.verdict.PriceReason.TheVariants.{ClassSum, NoClass, NotLeast}
-use Rattle.hsp_classes.specs.declared.verdict.PriceVerdict.TheVariants.{No}
+use Rattle.hsp_prices.specs.Verdict.{IsVerdict, PlanMeets}
+use Rattle.hsp_prices.specs.declared.verdict.PriceReason.{PriceReason}
+use Rattle.hsp_prices.specs.declared.verdict.PriceReason.TheVariants.{ClassSum, NoClass, NotLeast}
+use Rattle.hsp_prices.specs.declared.verdict.PriceVerdict.TheVariants.{No}
 use Rattle.hsp_price_check.specs.Passed.{capped, no_class}
 
 -- each class sends what its rows ask for, as far as sums are kept

@@ -4,8 +4,8 @@ ghost use Rattle.std.specs.Prelude.{◌≡◌, ◌≤◌, ◌<◌, ◌+◌, All,
 ghost use Rattle.hsp_text.specs.declared.limits.TheConstants.{GREATEST_COST};
 ghost use Rattle.hsp_tables.specs.Costs.{AreCosts};
 ghost use Rattle.hsp_instance.specs.Instance.{IsInstance};
-ghost use Rattle.hsp_classes.specs.Sums.{class_cost, cost_at};
-ghost use Rattle.hsp_classes.specs.Verdict.{AreThere};
+ghost use Rattle.hsp_prices.specs.Sums.{class_cost, cost_at};
+ghost use Rattle.hsp_prices.specs.Verdict.{AreThere};
 ghost use Rattle.hsp_price_check.specs.Classes.{AreClassLoads, IsLoadedBy, service_of};
 ghost use Rattle.hsp_price_check.specs.Passed.{capped};
 

@@ -4,8 +4,9 @@ ghost use Rattle.std.specs.Prelude.{◌≡◌, ◌≤◌, ◌<◌, IfOk, length,
 ghost use Rattle.hsp_price_text.specs.Claim.{Class};
 ghost use Rattle.hsp_price_check.specs.ClassNumbers.{HasClasses, is_named};
 
+use crate::keys::LentKind;
+use crate::kind_rows::{FirstNumbers, add_first};
 use hsp_price_text::Class;
-use hsp_tally::{FirstNumbers, LentKind, add_first};
 use std::alloc::{AllocError, Global};
 
 /// The number of the first class of each region and servers, from 0, in the order of the classes.

@@ -3,7 +3,7 @@
 ghost use Rattle.std.specs.Prelude.{◌≡◌, ◌≤◌, ◌<◌, ◌⊎◌, [], true, OnOk, length, map, nat_le};
 ghost use Rattle.std.specs.List.{AllByRecursion, list_any};
 ghost use Rattle.hsp_instance.specs.RowArcs.{IsWithin};
-ghost use Rattle.hsp_classes.specs.Least.{least_arcs, servers_of};
+ghost use Rattle.hsp_prices.specs.Least.{least_arcs, servers_of};
 ghost use Rattle.hsp_price_check.specs.Extras.{pay_by};
 ghost use Rattle.hsp_price_check.specs.LeastPay.{AreLow, IsLeastPay};
 

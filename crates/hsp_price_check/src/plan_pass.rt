@@ -4,18 +4,18 @@ ghost use Rattle.std.specs.Prelude.{◌≡◌, ◌++◌, ◌∷◌, [], IfOk, Li
 ghost use Rattle.std.specs.List.{AllByRecursion};
 ghost use Rattle.hsp_instance.specs.Instance.{Row};
 ghost use Rattle.hsp_instance.specs.RowArcs.{IsWithin};
-ghost use Rattle.hsp_kinds.specs.Rows.{Service};
+ghost use Rattle.hsp_prices.specs.Rows.{Service};
 ghost use Rattle.hsp_price_text.specs.Claim.{Best};
-ghost use Rattle.hsp_classes.specs.Sums.{row_cost};
+ghost use Rattle.hsp_prices.specs.Sums.{row_cost};
 ghost use Rattle.hsp_price_check.specs.PlanPass.{IsOfRow, IsOfRows, IsPlaceBy, IsPlanPass};
 
 use crate::finding::find_class;
+use crate::kind_rows::FirstNumbers;
 use crate::least::{fill_least, fill_servers};
 use crate::numbers::ServiceNumbers;
 use crate::sums::{PassSums, RowPlace};
 use hsp_instance::Arc;
 use hsp_price_text::PricedPlan;
-use hsp_tally::FirstNumbers;
 use std::alloc::AllocError;
 
 /// A plan, and what the rows bring that were passed over.

@@ -2,19 +2,19 @@
 
 ghost use Rattle.std.specs.Prelude.{◌≡◌, ◌↔◌, All, IfOk, IsTrue, List, length, sum, true};
 ghost use Rattle.hsp_instance.specs.Instance.{Row};
-ghost use Rattle.hsp_kinds.specs.Rows.{Service};
+ghost use Rattle.hsp_prices.specs.Rows.{Service};
 ghost use Rattle.hsp_price_text.specs.Claim.{Best};
 ghost use Rattle.hsp_price_text.specs.declared.certificate.PriceCertificate.TheVariants.{Plan};
 ghost use Rattle.hsp_check.specs.Lists.{AreHosted, AreWithin};
-ghost use Rattle.hsp_classes.specs.Verdict.{IsVerdict};
+ghost use Rattle.hsp_prices.specs.Verdict.{IsVerdict};
 ghost use Rattle.hsp_price_check.specs.Passed.{capped};
 ghost use Rattle.hsp_price_check.specs.PlanPass.{IsOfRows, IsPlanPass};
 ghost use Rattle.hsp_price_check.specs.Verdicts.{AreAskedFor, IsFirstOfClasses, MeetsClasses};
 
 use crate::plan_pass::PlanPass;
 use hsp_check::{add_hosts, are_within, idle_are_free};
-use hsp_classes::{PriceReason, PriceVerdict};
 use hsp_price_text::Class;
+use hsp_prices::{PriceReason, PriceVerdict};
 use std::alloc::{AllocError, Global};
 
 // Whether each flag is set.

@@ -1,7 +1,7 @@
 // What the rows and the classes of a region ask for and cost.
 
 ghost use Rattle.std.specs.Prelude.{◌≡◌, ◌≤◌, ◌<◌, ◌+◌, All, OnOk, length};
-ghost use Rattle.hsp_classes.specs.Verdict.{AreThere};
+ghost use Rattle.hsp_prices.specs.Verdict.{AreThere};
 ghost use Rattle.hsp_price_check.specs.Classes.{service_of};
 ghost use Rattle.hsp_price_check.specs.Passed.{capped};
 ghost use Rattle.hsp_price_check.specs.Regions.{HasRoom, IsRegionAdded, classes_sum, cost_in};

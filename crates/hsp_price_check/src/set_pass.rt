@@ -5,16 +5,16 @@ ghost use Rattle.std.specs.List.{AllByRecursion, list_all};
 ghost use Rattle.hsp_instance.specs.Instance.{Row};
 ghost use Rattle.hsp_instance.specs.RowArcs.{IsWithin};
 ghost use Rattle.hsp_check.specs.ArcFlows.{flag_at};
-ghost use Rattle.hsp_kinds.specs.Rows.{Service};
+ghost use Rattle.hsp_prices.specs.Rows.{Service};
 ghost use Rattle.hsp_price_text.specs.Claim.{Short};
 ghost use Rattle.hsp_price_text.specs.declared.certificate.PriceCertificate.TheVariants.{Shortage};
-ghost use Rattle.hsp_classes.specs.Verdict.{IsVerdict};
+ghost use Rattle.hsp_prices.specs.Verdict.{IsVerdict};
 ghost use Rattle.hsp_price_check.specs.PlanPass.{IsOfRow};
 ghost use Rattle.hsp_price_check.specs.SetPass.{IsSetPass};
 
-use hsp_classes::{PriceReason, PriceVerdict};
 use hsp_instance::Arc;
 use hsp_price_text::ShortServers;
+use hsp_prices::{PriceReason, PriceVerdict};
 
 /// A set of servers, what it takes, and what the rows ask for that can go nowhere else.
 #[derive(Drop)]

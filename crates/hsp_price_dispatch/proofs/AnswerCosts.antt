@@ -16,17 +16,17 @@ use Rattle.hsp_check.specs.Plan.{Feasible, Plan, is_on, total}
 use Rattle.hsp_check.specs.Prices.{at_host}
 use Rattle.hsp_instance.specs.Instance.{Host, Row, Server}
 use Rattle.hsp_instance.specs.declared.arc.Arc.{Arc}
-use Rattle.hsp_kinds.specs.Rows.{Service, network_for}
+use Rattle.hsp_prices.specs.Rows.{Service, network_for}
 use Rattle.hsp_price_text.specs.Certificate.{IsCertificate}
 use Rattle.hsp_price_text.specs.Claim.{Best}
 use Rattle.hsp_price_text.specs.declared.certificate.PriceCertificate.TheVariants as certificate
-use Rattle.hsp_classes.specs.Least.{arcs_of, host_at, least_of, only_arc, pay_over, price_at}
-use Rattle.hsp_classes.specs.Shown.{IsShownBy}
-use Rattle.hsp_classes.specs.Sums.{brings, first_pay, host_load_at, least_pay, load_at, paid_in_all, row_load}
-use Rattle.hsp_classes.specs.Verdict.{IsVerdict}
-use Rattle.hsp_classes.specs.declared.verdict.PriceReason.TheVariants as reason
-use Rattle.hsp_classes.specs.declared.verdict.PriceVerdict.TheVariants.{Yes}
-use Rattle.hsp_classes.proofs.LeastPay.{all_pay}
+use Rattle.hsp_prices.specs.Least.{arcs_of, host_at, least_of, only_arc, pay_over, price_at}
+use Rattle.hsp_prices.specs.Shown.{IsShownBy}
+use Rattle.hsp_prices.specs.Sums.{brings, first_pay, host_load_at, least_pay, load_at, paid_in_all, row_load}
+use Rattle.hsp_prices.specs.Verdict.{IsVerdict}
+use Rattle.hsp_prices.specs.declared.verdict.PriceReason.TheVariants as reason
+use Rattle.hsp_prices.specs.declared.verdict.PriceVerdict.TheVariants.{Yes}
+use Rattle.hsp_prices.proofs.LeastPay.{all_pay}
 use Rattle.hsp_dispatch.specs.Dispatch.{Entry}
 use Rattle.hsp_price_check.specs.Passed.{class_at}
 use Rattle.hsp_price_dispatch.specs.Choosing.{answer_by, choice_for, left_by, row_of}

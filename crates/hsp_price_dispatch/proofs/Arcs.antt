@@ -8,7 +8,7 @@ use Rattle.std.proofs.lemmas.List.Elements.{All-contains_itself, All-filter}
 use Rattle.std.proofs.lemmas.List.Sums.{list_all-from_AllPass}
 use Rattle.hsp_instance.specs.Building.{or_else}
 use Rattle.hsp_instance.specs.declared.arc.Arc.{Arc}
-use Rattle.hsp_classes.specs.Least.{arcs_of, host_at, is_least, least_arcs, least_of, pay_over}
+use Rattle.hsp_prices.specs.Least.{arcs_of, host_at, is_least, least_arcs, least_of, pay_over}
 use Rattle.hsp_price_dispatch.specs.Choosing.{answer_of, assigned, at_first, choice_among, choice_for}
 use Rattle.hsp_price_dispatch.specs.Choosing.{diverted, elsewhere, or_full, row_of}
 use Rattle.hsp_price_dispatch.specs.Holding.{Held, has_room, host_passes, host_room_at, is_free, room_at}

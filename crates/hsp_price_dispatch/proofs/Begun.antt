@@ -8,13 +8,13 @@ use Rattle.std.proofs.lemmas.List.Elements.{All-from_recursion}
 use Rattle.std.proofs.lemmas.List.Folds.{length-flat_map-take}
 use Rattle.std.proofs.lemmas.List.Sums.{AllPass-from_list_all}
 use Rattle.hsp_text.specs.Name.{is_name}
-use Rattle.hsp_kinds.specs.Rows.{Service}
+use Rattle.hsp_prices.specs.Rows.{Service}
 use Rattle.hsp_price_text.specs.Claim.{Best, Class, are_servers, is_best, is_class, is_server}
 use Rattle.hsp_price_text.proofs.DraftSteps.{best_parts}
 use Rattle.hsp_cert.specs.Certificate.{ascends}
-use Rattle.hsp_classes.specs.Sums.{sends}
-use Rattle.hsp_classes.proofs.GivenClasses.{IsGiven, given_classes}
-use Rattle.hsp_classes.proofs.Once.{Ordered}
+use Rattle.hsp_prices.specs.Sums.{sends}
+use Rattle.hsp_prices.proofs.GivenClasses.{IsGiven, given_classes}
+use Rattle.hsp_prices.proofs.Once.{Ordered}
 use Rattle.hsp_price_check.specs.ClassNumbers.{HasClasses}
 use Rattle.hsp_price_check.specs.Extras.{AreExtras}
 use Rattle.hsp_price_check.specs.Passed.{class_at, no_class}

@@ -8,7 +8,7 @@ use Rattle.std.proofs.lemmas.List.{drop_all, drop_more}
 use Rattle.std.proofs.lemmas.List.Elements.{All-filter, All-head, All-tail, filter_passes}
 use Rattle.hsp_instance.specs.Building.{or_else}
 use Rattle.hsp_instance.specs.declared.arc.Arc.{Arc}
-use Rattle.hsp_classes.specs.Least.{host_at, is_least, least_arcs, pay_over}
+use Rattle.hsp_prices.specs.Least.{host_at, is_least, least_arcs, pay_over}
 use Rattle.hsp_price_dispatch.specs.Choosing.{assigned, at_first, by_class, by_place, by_room, can_give, choice_among}
 use Rattle.hsp_price_dispatch.specs.Choosing.{class_number, diverted, elsewhere, first_cell, fuller, fullest, is_fuller}
 use Rattle.hsp_price_dispatch.specs.Choosing.{or_full, places_from, places_of}

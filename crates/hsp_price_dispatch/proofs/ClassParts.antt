@@ -8,7 +8,7 @@ use Rattle.std.proofs.lemmas.List.Folds.{length-flat_map-take}
 use Rattle.hsp_transport.specs.Sums.{sum_below}
 use Rattle.hsp_transport.proofs.Summing.{sum_below_same}
 use Rattle.hsp_price_text.specs.Claim.{Class}
-use Rattle.hsp_classes.specs.Sums.{sends}
+use Rattle.hsp_prices.specs.Sums.{sends}
 use Rattle.hsp_price_check.specs.Passed.{no_class}
 use Rattle.hsp_price_dispatch.specs.Choosing.{first_cell}
 use Rattle.hsp_price_dispatch.specs.Holding.{cell_at, no_cell, one_given}

@@ -7,7 +7,7 @@ use Rattle.std.proofs.lemmas.List.Elements.{All-contains, All-contains_itself, A
 use Rattle.std.proofs.lemmas.List.Elements.{filter_passes, recursion_from_All}
 use Rattle.std.proofs.lemmas.List.Sums.{AllPass-from_list_all}
 use Rattle.hsp_instance.specs.declared.arc.Arc.{Arc}
-use Rattle.hsp_classes.specs.Least.{arcs_of, is_least, least_arcs, least_of, pay_over}
+use Rattle.hsp_prices.specs.Least.{arcs_of, is_least, least_arcs, least_of, pay_over}
 use Rattle.hsp_price_dispatch.specs.Choosing.{by_class, by_room, can_give, choice_for, class_number}
 use Rattle.hsp_price_dispatch.specs.Choosing.{diverted, fullest, places_of, row_of}
 use Rattle.hsp_price_dispatch.specs.Holding.{Held, has_room, is_free}

@@ -6,7 +6,7 @@ use Rattle.std.proofs.lemmas.Bool.{cases_lt}
 use Rattle.std.proofs.lemmas.List.{append-nil, get_or_append_left, get_or_push, length-append, take_more}
 use Rattle.std.proofs.lemmas.List.Concat.{flat_map-append}
 use Rattle.hsp_price_text.specs.Claim.{Class}
-use Rattle.hsp_classes.specs.Sums.{sends}
+use Rattle.hsp_prices.specs.Sums.{sends}
 use Rattle.hsp_price_dispatch.specs.Choosing.{first_cell}
 
 -- as many pairs as both lists have

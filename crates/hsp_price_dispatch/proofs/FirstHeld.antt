@@ -13,10 +13,10 @@ use Rattle.hsp_instance.specs.Instance.{Host, Server}
 use Rattle.hsp_check.specs.ArcFlows.{host_in}
 use Rattle.hsp_check.specs.Lists.{AreHosted, AreWithin}
 use Rattle.hsp_check.specs.Plan.{is_on}
-use Rattle.hsp_kinds.specs.Rows.{Service}
+use Rattle.hsp_prices.specs.Rows.{Service}
 use Rattle.hsp_price_text.specs.Claim.{Best}
-use Rattle.hsp_classes.specs.Least.{host_at}
-use Rattle.hsp_classes.specs.Sums.{host_load_at, load_at}
+use Rattle.hsp_prices.specs.Least.{host_at}
+use Rattle.hsp_prices.specs.Sums.{host_load_at, load_at}
 use Rattle.hsp_dispatch.specs.Fronts.{share}
 use Rattle.hsp_price_check.specs.Passed.{capped}
 use Rattle.hsp_price_dispatch.specs.Holding.{Held, left_where}

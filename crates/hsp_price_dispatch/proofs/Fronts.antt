@@ -7,10 +7,10 @@ use Rattle.std.proofs.lemmas.List.Elements.{All-append, All-head, All-tail}
 use Rattle.hsp_transport.specs.Sums.{sum_below}
 use Rattle.hsp_transport.proofs.Summing.{sum_below_add, sum_below_le, sum_below_same}
 use Rattle.hsp_check.specs.Plan.{is_on}
-use Rattle.hsp_kinds.specs.Rows.{Service}
+use Rattle.hsp_prices.specs.Rows.{Service}
 use Rattle.hsp_price_text.specs.Claim.{Best, Class}
-use Rattle.hsp_classes.specs.Least.{host_at}
-use Rattle.hsp_classes.specs.Sums.{host_load_at, load_at, sends}
+use Rattle.hsp_prices.specs.Least.{host_at}
+use Rattle.hsp_prices.specs.Sums.{host_load_at, load_at, sends}
 use Rattle.hsp_dispatch.specs.Dispatch.{Entry, each_after}
 use Rattle.hsp_dispatch.specs.Fronts.{Event, entries_at, share}
 use Rattle.hsp_dispatch.proofs.FrontCounts.{more_elsewhere, more_here}

@@ -8,9 +8,9 @@ use Rattle.std.proofs.lemmas.List.{get_or_past}
 use Rattle.std.proofs.lemmas.List.Elements.{All-contains_itself, All-drop, All-from_recursion, All-map, All-set}
 use Rattle.std.proofs.lemmas.List.Elements.{recursion_from_All}
 use Rattle.hsp_instance.specs.declared.arc.Arc.{Arc}
-use Rattle.hsp_kinds.specs.Rows.{Service}
+use Rattle.hsp_prices.specs.Rows.{Service}
 use Rattle.hsp_price_text.specs.Claim.{Best}
-use Rattle.hsp_classes.specs.Least.{arcs_of, least_of}
+use Rattle.hsp_prices.specs.Least.{arcs_of, least_of}
 use Rattle.hsp_dispatch.specs.Dispatch.{Entry}
 use Rattle.hsp_price_dispatch.specs.Choosing.{can_give, choice_for, class_number, first_cell, fuller, fullest}
 use Rattle.hsp_price_dispatch.specs.Choosing.{is_fuller, left_by, left_with, places_from, places_of, row_of}

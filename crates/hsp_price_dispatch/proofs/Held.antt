@@ -7,7 +7,7 @@ use Rattle.std.specs.Prelude.{IfSome}
 use Rattle.std.proofs.lemmas.List.Elements.{All-set}
 use Rattle.std.proofs.lemmas.List.Sums.{get_or-le-sum_by, sum_by-set}
 use Rattle.hsp_check.specs.Plan.{is_on}
-use Rattle.hsp_classes.specs.Least.{host_at}
+use Rattle.hsp_prices.specs.Least.{host_at}
 use Rattle.hsp_price_dispatch.specs.Holding.{Held, cell_at, left_where, no_cell, one_given, one_less, one_less_on}
 use Rattle.hsp_price_dispatch.specs.Holding.{host_held_at, host_room_at, held_at, is_free_at}
 use Rattle.hsp_price_dispatch.specs.Holding.{room_at, with_given, with_query_at}

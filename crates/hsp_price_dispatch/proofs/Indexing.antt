@@ -14,10 +14,10 @@ use Rattle.hsp_instance.specs.Instance.{Row, Site}
 use Rattle.hsp_instance.specs.RowArcs.{AreArcsOf, ArcsInTurn, IsWithin, row_named}
 use Rattle.hsp_instance.specs.declared.arc.Arc.{Arc}
 use Rattle.hsp_instance.proofs.ArcsWithin.{arcs_within}
-use Rattle.hsp_kinds.specs.Rows.{Service}
+use Rattle.hsp_prices.specs.Rows.{Service}
 use Rattle.hsp_price_text.specs.Claim.{Best}
-use Rattle.hsp_classes.specs.Least.{arcs_of, is_least, least_arcs, least_of, pay_over, servers_of}
-use Rattle.hsp_classes.proofs.Lists.{all_kept}
+use Rattle.hsp_prices.specs.Least.{arcs_of, is_least, least_arcs, least_of, pay_over, servers_of}
+use Rattle.hsp_prices.proofs.Lists.{all_kept}
 use Rattle.hsp_dispatch.specs.Dispatch.{Entry}
 use Rattle.hsp_price_check.specs.ClassNumbers.{HasClasses, is_named}
 use Rattle.hsp_price_check.specs.Extras.{pay_by}

@@ -12,8 +12,8 @@ use Rattle.hsp_instance.specs.Building.{arc_to, arcs_from, cost_of}
 use Rattle.hsp_instance.specs.Instance.{Row, Site}
 use Rattle.hsp_instance.specs.RowArcs.{with_region}
 use Rattle.hsp_instance.proofs.Lists.{drop_at}
-use Rattle.hsp_kinds.specs.Rows.{Service}
-use Rattle.hsp_classes.specs.Least.{arcs_of}
+use Rattle.hsp_prices.specs.Rows.{Service}
+use Rattle.hsp_prices.specs.Least.{arcs_of}
 use Rattle.hsp_price_dispatch.specs.Regions.{has_cost, has_cost_at}
 
 -- ---- sites in turn

@@ -18,10 +18,10 @@ use Rattle.hsp_check.specs.Plan.{is_on}
 use Rattle.hsp_instance.specs.declared.arc.Arc.{Arc}
 use Rattle.hsp_price_text.specs.Claim.{Best, Class, is_best}
 use Rattle.hsp_instance.specs.Instance.{Host, Server}
-use Rattle.hsp_classes.specs.Least.{arcs_of, host_at, least_arcs, least_of, only_arc, pay_over, servers_of}
-use Rattle.hsp_classes.specs.Sums.{sends}
-use Rattle.hsp_classes.proofs.GivenClasses.{IsGiven, given_classes}
-use Rattle.hsp_classes.specs.Sums.{host_load_at, load_at}
+use Rattle.hsp_prices.specs.Least.{arcs_of, host_at, least_arcs, least_of, only_arc, pay_over, servers_of}
+use Rattle.hsp_prices.specs.Sums.{sends}
+use Rattle.hsp_prices.proofs.GivenClasses.{IsGiven, given_classes}
+use Rattle.hsp_prices.specs.Sums.{host_load_at, load_at}
 use Rattle.hsp_dispatch.specs.Dispatch.{Entry}
 use Rattle.hsp_dispatch.specs.Fronts.{share}
 use Rattle.hsp_dispatch.proofs.FrontShares.{shares_add_up}

@@ -9,7 +9,7 @@ use Rattle.std.proofs.lemmas.List.{get_or_past}
 use Rattle.std.proofs.lemmas.List.Sums.{sum_by-cons}
 use Rattle.hsp_check.specs.Plan.{is_on}
 use Rattle.hsp_instance.specs.declared.arc.Arc.{Arc}
-use Rattle.hsp_classes.specs.Least.{arcs_of, host_at, least_of}
+use Rattle.hsp_prices.specs.Least.{arcs_of, host_at, least_of}
 use Rattle.hsp_dispatch.specs.Dispatch.{Entry}
 use Rattle.hsp_price_dispatch.specs.Choosing.{answer_by, answer_of, choice_for, left_by, left_with, row_of}
 use Rattle.hsp_price_dispatch.specs.Holding.{Held, has_room_at, host_passes, host_room_at, one_less, one_less_on}

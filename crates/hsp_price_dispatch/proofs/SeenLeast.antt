@@ -5,10 +5,10 @@ use Rattle.std.specs.Prelude.{slice_get}
 use Rattle.std.specs.List.{AllByRecursion, find}
 use Rattle.std.proofs.lemmas.Bool.{cases_Bool}
 use Rattle.hsp_text.proofs.Lists.{all_push}
-use Rattle.hsp_kinds.specs.Rows.{Service}
+use Rattle.hsp_prices.specs.Rows.{Service}
 use Rattle.hsp_price_text.specs.Claim.{Best}
-use Rattle.hsp_tally.specs.Seen.{Seen, is_left_out, number_of, of_row}
-use Rattle.hsp_tally.proofs.SeenMaps.{found_has}
+use Rattle.hsp_price_check.specs.Seen.{Seen, is_left_out, number_of, of_row}
+use Rattle.hsp_price_check.proofs.SeenMaps.{found_has}
 use Rattle.hsp_price_dispatch.specs.Choosing.{Least, least_for}
 use Rattle.hsp_price_dispatch.specs.SeenLeast.{HasItsLeast, HaveTheirLeast, SeenLists, least_seen, list_at, with_least}
 

@@ -11,14 +11,14 @@ use Rattle.hsp_instance.specs.Instance.{Host, Server}
 use Rattle.hsp_check.specs.ArcFlows.{host_in}
 use Rattle.hsp_check.specs.Lists.{AreHosted, AreWithin}
 use Rattle.hsp_check.specs.Plan.{is_on}
-use Rattle.hsp_kinds.specs.Rows.{Service}
+use Rattle.hsp_prices.specs.Rows.{Service}
 use Rattle.hsp_price_text.specs.Claim.{Best}
-use Rattle.hsp_classes.specs.Least.{host_at}
-use Rattle.hsp_classes.specs.Shown.{IsService}
-use Rattle.hsp_classes.specs.Sums.{class_load, host_load_at, load_at}
-use Rattle.hsp_classes.specs.Verdict.{PlanMeets}
-use Rattle.hsp_classes.specs.declared.verdict.PriceReason.TheVariants.{Load}
-use Rattle.hsp_classes.proofs.Bounds.{capacity_low}
+use Rattle.hsp_prices.specs.Least.{host_at}
+use Rattle.hsp_prices.specs.Shown.{IsService}
+use Rattle.hsp_prices.specs.Sums.{class_load, host_load_at, load_at}
+use Rattle.hsp_prices.specs.Verdict.{PlanMeets}
+use Rattle.hsp_prices.specs.declared.verdict.PriceReason.TheVariants.{Load}
+use Rattle.hsp_prices.proofs.Bounds.{capacity_low}
 use Rattle.hsp_price_check.specs.Classes.{AreClassLoads}
 use Rattle.hsp_price_check.specs.Passed.{capped}
 use Rattle.hsp_price_check.specs.PlanPass.{AreNumbersOf}

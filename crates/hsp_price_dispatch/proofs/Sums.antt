@@ -8,10 +8,10 @@ use Rattle.hsp_transport.specs.Sums.{sum_below}
 use Rattle.hsp_transport.proofs.Summing.{by_key, sum_below_same, sum_below_zero, sum_by_le_all, sum_by_map}
 use Rattle.hsp_transport.proofs.Rowwise.{same_by, turned}
 use Rattle.hsp_check.specs.Plan.{is_on}
-use Rattle.hsp_kinds.specs.Rows.{Service}
+use Rattle.hsp_prices.specs.Rows.{Service}
 use Rattle.hsp_price_text.specs.Claim.{Best, Class}
-use Rattle.hsp_classes.specs.Least.{host_at}
-use Rattle.hsp_classes.specs.Sums.{class_load, host_load_at, load_at, sends}
+use Rattle.hsp_prices.specs.Least.{host_at}
+use Rattle.hsp_prices.specs.Sums.{class_load, host_load_at, load_at, sends}
 use Rattle.hsp_dispatch.specs.Fronts.{share}
 use Rattle.hsp_dispatch.proofs.FrontShares.{share_le, shares_add_up}
 use Rattle.hsp_price_dispatch.specs.Holding.{left_where}

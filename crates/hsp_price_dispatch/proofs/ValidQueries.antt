@@ -14,19 +14,19 @@ use Rattle.hsp_check.specs.ArcFlows.{host_in}
 use Rattle.hsp_check.specs.Plan.{is_on}
 use Rattle.hsp_instance.specs.Instance.{IsHostOf, IsServer, Row, Server, Site}
 use Rattle.hsp_instance.specs.declared.arc.Arc.{Arc}
-use Rattle.hsp_kinds.specs.Rows.{Service}
+use Rattle.hsp_prices.specs.Rows.{Service}
 use Rattle.hsp_price_text.specs.Certificate.{IsCertificate}
 use Rattle.hsp_price_text.specs.Claim.{Best, Class}
 use Rattle.hsp_price_text.specs.declared.certificate.PriceCertificate.TheVariants as certificate
-use Rattle.hsp_classes.specs.Least.{host_at, is_of, least_of, only_arc, servers_of}
-use Rattle.hsp_classes.specs.Shown.{IsService, PlanIsShown}
-use Rattle.hsp_classes.specs.Sums.{host_load_at, load_at}
-use Rattle.hsp_classes.specs.Verdict.{IsPlaced, IsVerdict}
-use Rattle.hsp_classes.specs.declared.verdict.PriceReason.TheVariants as reason
-use Rattle.hsp_classes.specs.declared.verdict.PriceVerdict.TheVariants.{Yes}
-use Rattle.hsp_classes.proofs.ByRow.{no_class as of_no_class, one_of}
-use Rattle.hsp_classes.proofs.ClassKinds.{least_servers, own_least}
-use Rattle.hsp_classes.proofs.Once.{AtMostOnce}
+use Rattle.hsp_prices.specs.Least.{host_at, is_of, least_of, only_arc, servers_of}
+use Rattle.hsp_prices.specs.Shown.{IsService, PlanIsShown}
+use Rattle.hsp_prices.specs.Sums.{host_load_at, load_at}
+use Rattle.hsp_prices.specs.Verdict.{IsPlaced, IsVerdict}
+use Rattle.hsp_prices.specs.declared.verdict.PriceReason.TheVariants as reason
+use Rattle.hsp_prices.specs.declared.verdict.PriceVerdict.TheVariants.{Yes}
+use Rattle.hsp_prices.proofs.ByRow.{no_class as of_no_class, one_of}
+use Rattle.hsp_prices.proofs.ClassKinds.{least_servers, own_least}
+use Rattle.hsp_prices.proofs.Once.{AtMostOnce}
 use Rattle.hsp_dispatch.specs.Dispatch.{Entry}
 use Rattle.hsp_price_check.specs.ClassNumbers.{is_named}
 use Rattle.hsp_price_check.specs.Passed.{class_at, no_class}

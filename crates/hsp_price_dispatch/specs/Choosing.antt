@@ -6,10 +6,10 @@ use Rattle.hsp_instance.specs.Building.{or_else}
 use Rattle.hsp_instance.specs.Instance.{Row}
 use Rattle.hsp_instance.specs.RowArcs.{row_named}
 use Rattle.hsp_instance.specs.declared.arc.Arc.{Arc}
-use Rattle.hsp_kinds.specs.Rows.{Service}
+use Rattle.hsp_prices.specs.Rows.{Service}
 use Rattle.hsp_price_text.specs.Claim.{Best, Class}
-use Rattle.hsp_classes.specs.Least.{arcs_of, least_arcs, least_of, pay_over, servers_of}
-use Rattle.hsp_classes.specs.Sums.{sends}
+use Rattle.hsp_prices.specs.Least.{arcs_of, least_arcs, least_of, pay_over, servers_of}
+use Rattle.hsp_prices.specs.Sums.{sends}
 use Rattle.hsp_dispatch.specs.Dispatch.{Entry}
 use Rattle.hsp_price_check.specs.ClassNumbers.{is_named}
 use Rattle.hsp_price_dispatch.specs.Holding.{Held, cell_at, has_room, has_room_at, is_free, is_free_at, with_given}

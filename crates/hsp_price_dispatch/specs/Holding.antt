@@ -3,9 +3,9 @@
 use Rattle.std.specs.Prelude.{ℕ, ◌-◌, ◌==◌, ◌&&◌, Bool, true, List, Option, None, Some, nat_lt, slice_index, slice_set}
 use Rattle.std.specs.Prelude.{slice_index_or, sum_by, if◌then◌else◌}
 use Rattle.hsp_check.specs.Plan.{is_on}
-use Rattle.hsp_kinds.specs.Rows.{Service}
+use Rattle.hsp_prices.specs.Rows.{Service}
 use Rattle.hsp_price_text.specs.Claim.{Best}
-use Rattle.hsp_classes.specs.Least.{host_at}
+use Rattle.hsp_prices.specs.Least.{host_at}
 use Rattle.hsp_instance.specs.declared.arc.Arc.{Arc}
 use Rattle.hsp_price_dispatch.specs.declared.cells.Cell.{Cell}
 

@@ -6,9 +6,9 @@ use Rattle.std.specs.List.{Contains}
 use Rattle.hsp_instance.specs.declared.arc.Arc.{Arc}
 use Rattle.hsp_check.specs.Plan.{is_on}
 use Rattle.hsp_transport.specs.Sums.{sum_below}
-use Rattle.hsp_kinds.specs.Rows.{Service}
+use Rattle.hsp_prices.specs.Rows.{Service}
 use Rattle.hsp_price_text.specs.Claim.{Best}
-use Rattle.hsp_classes.specs.Least.{arcs_of, host_at, least_of, pay_over}
+use Rattle.hsp_prices.specs.Least.{arcs_of, host_at, least_of, pay_over}
 use Rattle.hsp_dispatch.specs.Dispatch.{Entry, each_after}
 use Rattle.hsp_dispatch.specs.Fronts.{Event, entries_at}
 use Rattle.hsp_price_dispatch.specs.Choosing.{answer_by, can_give, choice_for, class_number, fullest, left_by}

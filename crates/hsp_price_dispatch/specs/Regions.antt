@@ -4,7 +4,7 @@ use Rattle.std.specs.List.{list_any}
 use Rattle.hsp_tables.specs.Costs.{CostEntry}
 use Rattle.hsp_instance.specs.Building.{cost_of}
 use Rattle.hsp_instance.specs.Instance.{Site}
-use Rattle.hsp_kinds.specs.Rows.{Service}
+use Rattle.hsp_prices.specs.Rows.{Service}
 
 -- a query from a region has a cost at a site
 abbrev pub has_cost_at : List CostEntry → List ℕ → Site → Bool

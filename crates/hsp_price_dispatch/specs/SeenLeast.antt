@@ -2,9 +2,9 @@
 use Rattle.std.specs.Prelude.{◌≡◌, ◌++◌, ℕ, List, [], ◌∷◌, Option, None, Some, if◌then◌else◌, length, option_map}
 use Rattle.std.specs.Prelude.{slice_get}
 use Rattle.std.specs.List.{AllByRecursion, find}
-use Rattle.hsp_kinds.specs.Rows.{Service}
+use Rattle.hsp_prices.specs.Rows.{Service}
 use Rattle.hsp_price_text.specs.Claim.{Best}
-use Rattle.hsp_tally.specs.Seen.{Seen, is_left_out, number_of, of_row}
+use Rattle.hsp_price_check.specs.Seen.{Seen, is_left_out, number_of, of_row}
 use Rattle.hsp_price_dispatch.specs.Choosing.{Least, least_for}
 use Rattle.hsp_price_dispatch.specs.declared.seen_least.LentLeast.{LentLeast}
 

@@ -5,13 +5,13 @@ use Rattle.std.specs.List.{AllByRecursion}
 use Rattle.hsp_tables.specs.Costs.{AreCosts}
 use Rattle.hsp_instance.specs.RowArcs.{ArcsInTurn}
 use Rattle.hsp_instance.specs.declared.arc.Arc.{Arc}
-use Rattle.hsp_kinds.specs.Rows.{Service}
+use Rattle.hsp_prices.specs.Rows.{Service}
 use Rattle.hsp_price_text.specs.Claim.{Best}
 use Rattle.hsp_price_text.specs.Certificate.{IsCertificate}
 use Rattle.hsp_price_text.specs.declared.certificate.PriceCertificate.TheVariants as certificate
 use Rattle.hsp_check.specs.Lists.{HostsAreBelow}
-use Rattle.hsp_classes.specs.Shown.{IsService}
-use Rattle.hsp_classes.specs.Sums.{host_load_at, load_at}
+use Rattle.hsp_prices.specs.Shown.{IsService}
+use Rattle.hsp_prices.specs.Sums.{host_load_at, load_at}
 use Rattle.hsp_price_check.specs.ClassNumbers.{HasClasses}
 use Rattle.hsp_price_check.specs.Extras.{AreExtras}
 use Rattle.hsp_price_check.specs.Passed.{class_at}

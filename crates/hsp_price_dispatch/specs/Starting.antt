@@ -2,11 +2,11 @@
 use Rattle.std.specs.Prelude.{◌≡◌, ◌<◌, ◌+◌, ◌-◌, ⊤, ℕ, List, [], length, map, slice_index}
 use Rattle.std.specs.List.{flat_map}
 use Rattle.hsp_instance.specs.Instance.{Host}
-use Rattle.hsp_kinds.specs.Rows.{Service}
+use Rattle.hsp_prices.specs.Rows.{Service}
 use Rattle.hsp_price_text.specs.Claim.{Best, Class}
-use Rattle.hsp_classes.specs.Sums.{host_load_at, load_at, sends}
-use Rattle.hsp_classes.specs.Verdict.{PlanMeets}
-use Rattle.hsp_classes.specs.declared.verdict.PriceReason.TheVariants as reason
+use Rattle.hsp_prices.specs.Sums.{host_load_at, load_at, sends}
+use Rattle.hsp_prices.specs.Verdict.{PlanMeets}
+use Rattle.hsp_prices.specs.declared.verdict.PriceReason.TheVariants as reason
 use Rattle.hsp_dispatch.specs.Fronts.{share}
 use Rattle.hsp_price_dispatch.specs.Holding.{Held, held_at, host_held_at, host_room_at, room_at}
 use Rattle.hsp_price_dispatch.specs.declared.cells.Cell.{Cell}

@@ -2,7 +2,7 @@
 
 ghost use Rattle.std.specs.Prelude.{◌≡◌, ◌++◌, ◌≤◌, ◌<◌, ℕ, All, IfOk, OnOk, length, min, slice_index, slice_set};
 ghost use Rattle.std.specs.List.{flat_map};
-ghost use Rattle.hsp_classes.specs.Sums.{sends};
+ghost use Rattle.hsp_prices.specs.Sums.{sends};
 ghost use Rattle.hsp_price_dispatch.specs.Choosing.{first_cell};
 ghost use Rattle.hsp_price_dispatch.specs.Holding.{cell_at, one_given};
 ghost use Rattle.hsp_price_dispatch.specs.Starting.{cells_of};

@@ -3,7 +3,7 @@
 ghost use Rattle.std.specs.Prelude.{◌≡◌, ◌≤◌, ◌<◌, ◌+◌, IfOk, OnOk, drop, filter, length};
 ghost use Rattle.std.specs.List.{AllByRecursion};
 ghost use Rattle.hsp_instance.specs.RowArcs.{IsWithin};
-ghost use Rattle.hsp_classes.specs.Least.{least_arcs};
+ghost use Rattle.hsp_prices.specs.Least.{least_arcs};
 ghost use Rattle.hsp_price_check.specs.Extras.{pay_by};
 ghost use Rattle.hsp_price_check.specs.LeastPay.{AreLow};
 ghost use Rattle.hsp_price_text.specs.Claim.{Best};
@@ -21,8 +21,7 @@ use crate::cells::Cell;
 use crate::holding::Holding;
 use crate::seen_least::LentLeast;
 use hsp_instance::Arc;
-use hsp_price_check::{fill_least, fill_servers, find_class};
-use hsp_tally::FirstNumbers;
+use hsp_price_check::{FirstNumbers, fill_least, fill_servers, find_class};
 use std::alloc::AllocError;
 
 /// An arc of a class's row, with the cell of its server and the number of this cell.

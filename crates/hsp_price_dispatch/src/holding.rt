@@ -2,7 +2,7 @@
 
 ghost use Rattle.std.specs.Prelude.{◌≡◌, ◌<◌, IfSome, true, length};
 ghost use Rattle.hsp_check.specs.ArcFlows.{host_in};
-ghost use Rattle.hsp_classes.specs.Least.{host_at};
+ghost use Rattle.hsp_prices.specs.Least.{host_at};
 ghost use Rattle.hsp_price_dispatch.specs.Choosing.{left_with};
 ghost use Rattle.hsp_price_dispatch.specs.Holding.{cell_at, has_room_at, is_free_at, with_given, with_query_at};
 ghost use Rattle.hsp_price_dispatch.specs.Regions.{has_cost};

@@ -8,7 +8,7 @@ ghost use Rattle.hsp_price_dispatch.specs.Laws.{NeverExceeds, NeverExceedsTogeth
 ghost use Rattle.hsp_price_dispatch.specs.Laws.{TakesRoom};
 ghost use Rattle.hsp_price_dispatch.specs.Planned.{CostsWhatThePlanDoes, IsServedByPlan, ValidIsWithinPlan};
 
-use hsp_classes::laws::plan_is_shown;
+use hsp_prices::plan_is_shown;
 
 /// Each query that goes to a server takes one of its room and of its host's. So no server and no host gets more than
 /// its room at the beginning, whatever is asked.

@@ -1,11 +1,11 @@
 // The least arcs of rows that were seen, so that no handle is hashed again.
 
 ghost use Rattle.std.specs.Prelude.{◌≡◌, ◌++◌, ◌∷◌, [], IfNone, IfOk, IfSome, None, OnErr, OnOk, Some, true};
-ghost use Rattle.hsp_tally.specs.Seen.{is_left_out};
+ghost use Rattle.hsp_price_check.specs.Seen.{is_left_out};
 ghost use Rattle.hsp_price_dispatch.specs.SeenLeast.{least_seen, lent_least, with_least};
 
 use hsp_instance::Arc;
-use hsp_tally::SeenRows;
+use hsp_price_check::SeenRows;
 use std::alloc::{AllocError, Global};
 use std::marker::Model;
 

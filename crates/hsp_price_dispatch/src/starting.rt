@@ -4,9 +4,9 @@ ghost use Rattle.std.specs.Prelude.{◌≡◌, ◌≤◌, ◌<◌, ◌+◌, ◌-
 ghost use Rattle.std.specs.Prelude.{◌==◌};
 ghost use Rattle.hsp_tables.specs.Costs.{CostEntry};
 ghost use Rattle.hsp_check.specs.Lists.{AreWithin};
-ghost use Rattle.hsp_classes.specs.Verdict.{PlanMeets};
-ghost use Rattle.hsp_classes.specs.declared.verdict.PriceReason.TheVariants.{NoSuchServer as MissingServer};
-ghost use Rattle.hsp_classes.specs.declared.verdict.PriceReason.TheVariants.{Shape as Shaped};
+ghost use Rattle.hsp_prices.specs.Verdict.{PlanMeets};
+ghost use Rattle.hsp_prices.specs.declared.verdict.PriceReason.TheVariants.{NoSuchServer as MissingServer};
+ghost use Rattle.hsp_prices.specs.declared.verdict.PriceReason.TheVariants.{Shape as Shaped};
 ghost use Rattle.hsp_dispatch.specs.Fronts.{share};
 ghost use Rattle.hsp_price_check.specs.ClassNumbers.{HasClasses};
 ghost use Rattle.hsp_price_check.specs.Classes.{service_of};

@@ -5,7 +5,7 @@ use Rattle.std.proofs.lemmas.List.{length-map}
 use Rattle.std.specs.List.{AllByRecursion}
 use Rattle.hsp_text.specs.declared.limits.TheConstants.{MOST_SERVERS}
 use Rattle.hsp_instance.specs.declared.arc.Arc.{Arc}
-use Rattle.hsp_groups.specs.Rows.{KeptArc}
+use Rattle.hsp_prices.specs.KeptRows.{KeptArc}
 use Rattle.hsp_price_plan.specs.Entries.{AreServers, arcs_by, bare_arcs, entry_arc, kept_arc, loose_arc}
 use Rattle.hsp_price_plan.specs.Regions.{shape_of}
 use Rattle.hsp_price_plan.specs.declared.entries.TheConstants.{KEPT}

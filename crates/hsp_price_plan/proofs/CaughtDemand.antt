@@ -11,15 +11,15 @@ use Rattle.hsp_instance.specs.Instance.{Row}
 use Rattle.hsp_instance.specs.declared.arc.Arc.{Arc}
 use Rattle.hsp_instance.proofs.Lists.{all_so}
 use Rattle.hsp_check.specs.Verdict.{is_one_of}
-use Rattle.hsp_kinds.specs.Rows.{Service}
+use Rattle.hsp_prices.specs.Rows.{Service}
 use Rattle.hsp_price_text.specs.Claim.{Best}
-use Rattle.hsp_classes.specs.Sums.{caught_in_all}
-use Rattle.hsp_classes.proofs.Lists.{same_sum}
-use Rattle.hsp_groups.specs.Groups.{AreGroupsOf, Group, asked_by, is_in}
-use Rattle.hsp_groups.specs.Rows.{KeptArc, KeptRow, arcs_in, kept_in, with_leaving}
-use Rattle.hsp_groups.specs.Solved.{AreRows}
-use Rattle.hsp_groups.proofs.GroupRows.{by_group}
-use Rattle.hsp_groups.proofs.ShortRows.{caught_same, count_in, leads_in, row_stays}
+use Rattle.hsp_prices.specs.Sums.{caught_in_all}
+use Rattle.hsp_prices.proofs.Lists.{same_sum}
+use Rattle.hsp_prices.specs.Groups.{AreGroupsOf, Group, asked_by, is_in}
+use Rattle.hsp_prices.specs.KeptRows.{KeptArc, KeptRow, arcs_in, kept_in, with_leaving}
+use Rattle.hsp_prices.specs.Solved.{AreRows}
+use Rattle.hsp_prices.proofs.GroupRows.{by_group}
+use Rattle.hsp_prices.proofs.ShortRows.{caught_same, count_in, leads_in, row_stays}
 use Rattle.hsp_price_plan.specs.Shortage.{caught_demand, is_caught}
 use Rattle.hsp_price_plan.specs.Solving.{demand_in}
 

@@ -14,9 +14,9 @@ use Rattle.std.specs.Str.{bytes_eq}
 use Rattle.std.proofs.lemmas.Bool.{both_ways, cases_Bool, false_from_ne_true}
 use Rattle.std.proofs.lemmas.Cmp.{nat_list_cmp_total, tied_itself}
 use Rattle.std.proofs.lemmas.Map.Lookups.{exact_bytes}
-use Rattle.hsp_kinds.proofs.Tabling.{both_equal}
-use Rattle.hsp_groups.specs.Groups.{Group}
-use Rattle.hsp_groups.proofs.RowLeast.{same_test}
+use Rattle.hsp_prices.proofs.Tabling.{both_equal}
+use Rattle.hsp_prices.specs.Groups.{Group}
+use Rattle.hsp_prices.proofs.RowLeast.{same_test}
 use Rattle.hsp_price_plan.specs.ClassSums.{AddsFlow, Entries, added, amounts_at, amounts_with, is_key_of, key_cmp}
 use Rattle.hsp_price_plan.specs.declared.classes.ClassKey.{ClassKey}
 

@@ -10,9 +10,9 @@ use Rattle.std.proofs.lemmas.List.Elements.{All-from_recursion}
 use Rattle.std.specs.List.{AllByRecursion}
 use Rattle.std.proofs.lemmas.List.Folds.{list_any-append}
 use Rattle.hsp_instance.specs.declared.arc.Arc.{Arc}
-use Rattle.hsp_kinds.proofs.Tabling.{both_equal}
-use Rattle.hsp_groups.specs.Groups.{Group}
-use Rattle.hsp_groups.specs.Solved.{flow_to, least_servers_by}
+use Rattle.hsp_prices.proofs.Tabling.{both_equal}
+use Rattle.hsp_prices.specs.Groups.{Group}
+use Rattle.hsp_prices.specs.Solved.{flow_to, least_servers_by}
 use Rattle.hsp_price_plan.specs.ClassSums.{AddsFlow, AreSums, Entries, HasRoom, IsAbsent, IsSum, added, amounts_at}
 use Rattle.hsp_price_plan.specs.ClassSums.{amounts_with, is_key_of, is_of_class, sent_where, total_of}
 use Rattle.hsp_price_plan.specs.declared.classes.ClassKey.{ClassKey}

@@ -19,10 +19,10 @@ use Rattle.std.proofs.lemmas.Map.Entries.{lookup_from_place}
 use Rattle.std.proofs.lemmas.Map.Keys.{IsDistinct-from_sorted, sorted_head, sorted_tail}
 use Rattle.hsp_cert.specs.Certificate.{ascends, ascends_from}
 use Rattle.hsp_instance.specs.declared.arc.Arc.{Arc}
-use Rattle.hsp_kinds.proofs.Tabling.{both_equal}
+use Rattle.hsp_prices.proofs.Tabling.{both_equal}
 use Rattle.hsp_price_text.specs.Claim.{Class, is_before}
-use Rattle.hsp_groups.specs.Groups.{Group}
-use Rattle.hsp_groups.specs.Solved.{AreClassesBy, HasClassBy, is_part_by, is_same, least_servers_by, sent_to}
+use Rattle.hsp_prices.specs.Groups.{Group}
+use Rattle.hsp_prices.specs.Solved.{AreClassesBy, HasClassBy, is_part_by, is_same, least_servers_by, sent_to}
 use Rattle.hsp_price_plan.specs.ClassSums.{AreSums, Entries, IsAbsent, IsSum, class_of, is_key_of, is_of_class}
 use Rattle.hsp_price_plan.specs.ClassSums.{has_group, key_cmp, sent_of}
 use Rattle.hsp_price_plan.specs.declared.classes.ClassKey.{ClassKey}

@@ -9,10 +9,10 @@ use Rattle.std.proofs.lemmas.Cmp.{nat_list_eq_equiv}
 use Rattle.std.proofs.lemmas.Iterator.Adapters.{position_from-zero}
 use Rattle.std.proofs.lemmas.List.Quantifiers.{position-Some}
 use Rattle.hsp_instance.specs.Building.{or_else}
-use Rattle.hsp_classes.specs.Least.{servers_of}
-use Rattle.hsp_tally.specs.FirstRows.{FirstRow, HasAdded}
-use Rattle.hsp_tally.proofs.FirstOfKinds.{place_next}
-use Rattle.hsp_groups.specs.Groups.{Group, is_same}
+use Rattle.hsp_prices.specs.Least.{servers_of}
+use Rattle.hsp_price_check.specs.FirstRows.{FirstRow, HasAdded}
+use Rattle.hsp_price_check.proofs.FirstOfKinds.{place_next}
+use Rattle.hsp_prices.specs.Groups.{Group, is_same}
 use Rattle.hsp_price_plan.specs.Grouping.{HasGroups, is_keyed, no_group, with_count_at}
 use Rattle.hsp_price_plan.proofs.Joining.{with_group}
 

@@ -4,8 +4,8 @@ use Rattle.std.proofs.Common.{drop, sum_by, refl, ap, sym, arith}
 use Rattle.std.specs.List.{flat_map, zip}
 use Rattle.std.proofs.lemmas.List.Sums.{sum_by-append, sum_by-cons}
 use Rattle.hsp_instance.specs.declared.arc.Arc.{Arc}
-use Rattle.hsp_groups.specs.Groups.{Group}
-use Rattle.hsp_groups.specs.Solved.{cost_of}
+use Rattle.hsp_prices.specs.Groups.{Group}
+use Rattle.hsp_prices.specs.Solved.{cost_of}
 use Rattle.hsp_price_check.specs.Passed.{capped}
 use Rattle.hsp_price_plan.specs.ClassSums.{sent_of}
 use Rattle.hsp_price_plan.specs.PlanOfGroups.{arcs_cost}

@@ -10,7 +10,7 @@ use Rattle.hsp_transport.proofs.Places.{sum_numbers}
 use Rattle.hsp_transport.proofs.Summing.{by_key, by_place, sum_below_same}
 use Rattle.hsp_network.specs.Answer.{IsMet}
 use Rattle.hsp_network.specs.declared.network.PricedFlow.{PricedFlow}
-use Rattle.hsp_groups.specs.Groups.{Group}
+use Rattle.hsp_prices.specs.Groups.{Group}
 use Rattle.hsp_price_check.specs.declared.numbers.ServiceNumbers.{ServiceNumbers}
 use Rattle.hsp_price_plan.specs.Solving.{HasArcsWithin, demand_in, group_network}
 use Rattle.hsp_price_plan.proofs.GroupNetwork.{is_network}

@@ -16,7 +16,7 @@ use Rattle.hsp_network.specs.Layout.{IsSmall}
 use Rattle.hsp_check.specs.declared.arc.NetworkArc.{NetworkArc}
 use Rattle.hsp_check.specs.Instance.{arc_of, arcs_from}
 use Rattle.hsp_flow.proofs.Ordering.{each_at, no_arc, rows_between}
-use Rattle.hsp_groups.specs.Groups.{Group}
+use Rattle.hsp_prices.specs.Groups.{Group}
 use Rattle.hsp_price_check.specs.declared.numbers.ServiceNumbers.{ServiceNumbers}
 use Rattle.hsp_price_plan.specs.Columns.{AreColumns, arcs_of_groups}
 use Rattle.hsp_price_plan.specs.declared.columns.GroupColumns.{GroupColumns}

@@ -13,11 +13,11 @@ use Rattle.hsp_instance.specs.RowArcs.{IsWithin}
 use Rattle.hsp_instance.specs.declared.arc.Arc.{Arc}
 use Rattle.hsp_instance.proofs.ArcLists.{arcs_few}
 use Rattle.hsp_instance.proofs.ArcsWithin.{arcs_within}
-use Rattle.hsp_kinds.specs.Rows.{Service}
-use Rattle.hsp_classes.specs.Least.{arcs_of}
-use Rattle.hsp_classes.specs.Shown.{IsService}
-use Rattle.hsp_groups.specs.Groups.{AreGroupsOf, Group, is_in}
-use Rattle.hsp_groups.specs.Rows.{IsRow, KeptArc, KeptRow, arcs_in}
+use Rattle.hsp_prices.specs.Rows.{Service}
+use Rattle.hsp_prices.specs.Least.{arcs_of}
+use Rattle.hsp_prices.specs.Shown.{IsService}
+use Rattle.hsp_prices.specs.Groups.{AreGroupsOf, Group, is_in}
+use Rattle.hsp_prices.specs.KeptRows.{IsRow, KeptArc, KeptRow, arcs_in}
 use Rattle.hsp_price_check.specs.PlanPass.{AreNumbersOf}
 use Rattle.hsp_price_check.specs.declared.numbers.ServiceNumbers.{ServiceNumbers}
 use Rattle.hsp_price_plan.specs.Held.{AreWithin}

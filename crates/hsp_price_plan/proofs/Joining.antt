@@ -12,11 +12,11 @@ use Rattle.std.proofs.lemmas.List.Sums.{sum_by-cons, sum_by_push}
 use Rattle.hsp_text.proofs.Lists.{all_push}
 use Rattle.hsp_instance.specs.declared.arc.Arc.{Arc}
 use Rattle.hsp_instance.proofs.Lists.{all_so}
-use Rattle.hsp_kinds.proofs.Tabling.{both_equal}
-use Rattle.hsp_classes.specs.Least.{servers_of}
-use Rattle.hsp_classes.proofs.Lists.{all_both}
-use Rattle.hsp_groups.specs.Groups.{Group, asked_by, is_in, is_same}
-use Rattle.hsp_groups.specs.Rows.{KeptRow, kept_in}
+use Rattle.hsp_prices.proofs.Tabling.{both_equal}
+use Rattle.hsp_prices.specs.Least.{servers_of}
+use Rattle.hsp_prices.proofs.Lists.{all_both}
+use Rattle.hsp_prices.specs.Groups.{Group, asked_by, is_in, is_same}
+use Rattle.hsp_prices.specs.KeptRows.{KeptRow, kept_in}
 use Rattle.hsp_price_plan.specs.Grouping.{AreArcsBy, IsGrouping, IsOfRow, with_count}
 
 -- the group of a row alone

@@ -1,6 +1,6 @@
 -- Rows of a service that keep more of their arcs.
 use Rattle.std.proofs.Common.{◌≡◌, ℕ, List, length, subst, sym}
-use Rattle.hsp_groups.specs.Rows.{KeptRow}
+use Rattle.hsp_prices.specs.KeptRows.{KeptRow}
 use Rattle.hsp_price_plan.specs.Held.{AreWithin, HeldRows, with_each}
 use Rattle.hsp_price_plan.proofs.StillRows.{LeavesRows}
 use Rattle.hsp_price_check.specs.declared.numbers.ServiceNumbers.{ServiceNumbers}

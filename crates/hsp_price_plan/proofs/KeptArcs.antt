@@ -7,7 +7,7 @@ use Rattle.std.proofs.lemmas.List.Edits.{map_over_more}
 use Rattle.std.specs.Prelude.{◌&&◌, nat_le, not, if◌then◌else◌}
 use Rattle.std.specs.List.{AllByRecursion, list_all}
 use Rattle.hsp_instance.specs.declared.arc.Arc.{Arc}
-use Rattle.hsp_groups.specs.Rows.{KeptArc, kept_if}
+use Rattle.hsp_prices.specs.KeptRows.{KeptArc, kept_if}
 use Rattle.hsp_price_plan.specs.Entries.{AreKept, IsKeptEntry, arcs_by, bare_arcs, entry_arc, kept_arc, loose_count}
 use Rattle.hsp_price_plan.specs.declared.entries.TheConstants.{KEPT}
 use Rattle.hsp_price_plan.specs.declared.region.SiteCost.{SiteCost}

@@ -1,7 +1,7 @@
 -- What holds of rows after a round held of them before.
 use Rattle.std.proofs.Common.{List}
 use Rattle.hsp_price_text.specs.declared.certificate.PriceCertificate.{PriceCertificate}
-use Rattle.hsp_groups.specs.Rows.{KeptRow}
+use Rattle.hsp_prices.specs.KeptRows.{KeptRow}
 use Rattle.hsp_price_check.specs.declared.numbers.ServiceNumbers.{ServiceNumbers}
 use Rattle.hsp_price_plan.specs.Planning.{AreOfSome, IsFaultOf, IsValidFor, Outlasts}
 use Rattle.hsp_price_plan.specs.declared.fault.PlanFault.{PlanFault}

@@ -7,8 +7,8 @@ use Rattle.std.proofs.lemmas.List.{drop_all, drop_more}
 use Rattle.std.specs.Prelude.{◌&&◌, nat_le}
 use Rattle.std.specs.List.{AllByRecursion, list_all}
 use Rattle.hsp_instance.specs.declared.arc.Arc.{Arc}
-use Rattle.hsp_classes.specs.Least.{is_least}
-use Rattle.hsp_groups.specs.Rows.{KeptArc, kept_if}
+use Rattle.hsp_prices.specs.Least.{is_least}
+use Rattle.hsp_prices.specs.KeptRows.{KeptArc, kept_if}
 use Rattle.hsp_price_plan.specs.Entries.{bare_arcs, entry_arc}
 use Rattle.hsp_price_plan.specs.Keeping.{is_near, least_from}
 use Rattle.hsp_price_plan.specs.declared.region.SiteCost.{SiteCost}

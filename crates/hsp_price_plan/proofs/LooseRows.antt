@@ -6,8 +6,8 @@ use Rattle.hsp_text.proofs.Lists.{all_push}
 use Rattle.hsp_instance.specs.Building.{arcs_from}
 use Rattle.hsp_instance.specs.RowArcs.{row_named}
 use Rattle.hsp_instance.specs.declared.arc.Arc.{Arc}
-use Rattle.hsp_kinds.specs.Rows.{Service}
-use Rattle.hsp_groups.specs.Rows.{KeptArc}
+use Rattle.hsp_prices.specs.Rows.{Service}
+use Rattle.hsp_prices.specs.KeptRows.{KeptArc}
 use Rattle.hsp_price_plan.specs.Entries.{loose_arc}
 use Rattle.hsp_price_plan.specs.Regions.{HasShape, RegionArcs, region_with, shape_of, with_region}
 use Rattle.hsp_price_plan.specs.declared.region.SiteCost.{SiteCost}

@@ -5,13 +5,13 @@ use Rattle.std.proofs.lemmas.List.Elements.{All-from_recursion}
 use Rattle.hsp_instance.specs.Instance.{Row}
 use Rattle.hsp_instance.specs.declared.arc.Arc.{Arc}
 use Rattle.hsp_instance.proofs.Lists.{all_map, all_so}
-use Rattle.hsp_kinds.specs.Rows.{Service}
-use Rattle.hsp_classes.specs.Shown.{IsService}
-use Rattle.hsp_classes.proofs.Lists.{all_kept}
-use Rattle.hsp_classes.proofs.ServerArcs.{IsOwn, arc_for, by_servers, own_arcs}
-use Rattle.hsp_groups.specs.Rows.{IsRow, KeptArc, KeptRow, arcs_in, kept_in}
-use Rattle.hsp_groups.specs.Solved.{AreRows}
-use Rattle.hsp_groups.proofs.RowPairs.{with_first}
+use Rattle.hsp_prices.specs.Rows.{Service}
+use Rattle.hsp_prices.specs.Shown.{IsService}
+use Rattle.hsp_prices.proofs.Lists.{all_kept}
+use Rattle.hsp_prices.proofs.ServerArcs.{IsOwn, arc_for, by_servers, own_arcs}
+use Rattle.hsp_prices.specs.KeptRows.{IsRow, KeptArc, KeptRow, arcs_in, kept_in}
+use Rattle.hsp_prices.specs.Solved.{AreRows}
+use Rattle.hsp_prices.proofs.RowPairs.{with_first}
 use Rattle.hsp_price_plan.specs.Grouping.{AreArcsBy, ServicesGiveArcs}
 
 -- what holds of all arcs holds of those that are kept

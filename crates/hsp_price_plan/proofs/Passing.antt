@@ -9,7 +9,7 @@ use Rattle.std.proofs.lemmas.List.Sums.{sum_by-set}
 use Rattle.std.specs.List.{AllByRecursion}
 use borrow.Rule.Slice.PartMut.{put_mid}
 use Rattle.hsp_instance.specs.RowArcs.{IsWithin}
-use Rattle.hsp_groups.specs.Rows.{KeptRow, arcs_in, loose_in, loose_of}
+use Rattle.hsp_prices.specs.KeptRows.{KeptRow, arcs_in, loose_in, loose_of}
 use Rattle.hsp_price_plan.specs.Entries.{arcs_by, bare_arcs, loose_count}
 use Rattle.hsp_price_plan.specs.Held.{AreInPlace, AreWithin, HeldRows, no_row, rows_by}
 use Rattle.hsp_price_plan.specs.Keeping.{IsKeptBy, row_by}

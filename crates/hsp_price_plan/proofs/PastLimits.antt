@@ -16,16 +16,16 @@ use Rattle.hsp_cert.specs.Certificate.{are_prices_within, ascends, is_price}
 use Rattle.hsp_check.specs.Prices.{ArePrices}
 use Rattle.hsp_instance.specs.Instance.{IsServer, Row, Server}
 use Rattle.hsp_instance.specs.declared.arc.Arc.{Arc}
-use Rattle.hsp_kinds.specs.Rows.{Service}
-use Rattle.hsp_kinds.proofs.Tabling.{both_equal}
+use Rattle.hsp_prices.specs.Rows.{Service}
+use Rattle.hsp_prices.proofs.Tabling.{both_equal}
 use Rattle.hsp_price_text.specs.Claim.{Best, Class, are_servers, is_amount, is_before, is_best, is_class, is_server}
 use Rattle.hsp_price_text.specs.declared.certificate.PriceCertificate.TheVariants.{Plan}
-use Rattle.hsp_classes.specs.Least.{arcs_of, is_least, is_of, least_of, pay_over, servers_of}
-use Rattle.hsp_classes.specs.Shown.{IsService}
-use Rattle.hsp_classes.specs.Sums.{class_load, sends}
-use Rattle.hsp_classes.specs.Verdict.{IsVerdict}
-use Rattle.hsp_classes.specs.declared.verdict.PriceReason.TheVariants.{Shape, NoSuchServer, NotLeast, Load}
-use Rattle.hsp_classes.specs.declared.verdict.PriceVerdict.TheVariants.{Yes}
+use Rattle.hsp_prices.specs.Least.{arcs_of, is_least, is_of, least_of, pay_over, servers_of}
+use Rattle.hsp_prices.specs.Shown.{IsService}
+use Rattle.hsp_prices.specs.Sums.{class_load, sends}
+use Rattle.hsp_prices.specs.Verdict.{IsVerdict}
+use Rattle.hsp_prices.specs.declared.verdict.PriceReason.TheVariants.{Shape, NoSuchServer, NotLeast, Load}
+use Rattle.hsp_prices.specs.declared.verdict.PriceVerdict.TheVariants.{Yes}
 use Rattle.hsp_price_plan.specs.Limits.{IsPlanPast, most_classes}
 use Rattle.hsp_price_plan.proofs.RowRanges.{row_named, servers_up}
 

@@ -6,17 +6,17 @@ use Rattle.std.proofs.lemmas.List.{get_or-map, get_or_default, length-map}
 use Rattle.hsp_cert.specs.Certificate.{ascends}
 use Rattle.hsp_check.specs.Prices.{ArePrices}
 use Rattle.hsp_instance.specs.declared.arc.Arc.{Arc}
-use Rattle.hsp_kinds.specs.Rows.{Service}
+use Rattle.hsp_prices.specs.Rows.{Service}
 use Rattle.hsp_network.specs.Answer.{IsMet}
 use Rattle.hsp_network.specs.Network.{Transport}
 use Rattle.hsp_network.specs.declared.network.PricedFlow.{PricedFlow}
 use Rattle.hsp_price_text.specs.Claim.{Best, Class, is_before, is_best}
 use Rattle.hsp_price_text.specs.declared.certificate.PriceCertificate.TheVariants as certificate
-use Rattle.hsp_classes.specs.Least.{pay_over}
-use Rattle.hsp_groups.specs.Groups.{AreGroupsOf, Group, network_of_groups}
-use Rattle.hsp_groups.specs.Rows.{KeptRow, with_least}
-use Rattle.hsp_groups.specs.Solved.{flows_by, sent_to}
-use Rattle.hsp_groups.proofs.GroupsBest.{groups_show_best}
+use Rattle.hsp_prices.specs.Least.{pay_over}
+use Rattle.hsp_prices.specs.Groups.{AreGroupsOf, Group, network_of_groups}
+use Rattle.hsp_prices.specs.KeptRows.{KeptRow, with_least}
+use Rattle.hsp_prices.specs.Solved.{flows_by, sent_to}
+use Rattle.hsp_prices.proofs.GroupsBest.{groups_show_best}
 use Rattle.hsp_price_check.specs.Extras.{AreExtras, pay_by}
 use Rattle.hsp_price_check.specs.PlanPass.{AreNumbersOf}
 use Rattle.hsp_price_check.specs.declared.numbers.ServiceNumbers.{ServiceNumbers}

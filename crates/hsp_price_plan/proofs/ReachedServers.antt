@@ -6,8 +6,8 @@ use Rattle.std.proofs.Math.Bool.{or-false}
 use Rattle.std.proofs.lemmas.List.Folds.{list_any-append}
 use Rattle.hsp_instance.specs.declared.arc.Arc.{Arc}
 use Rattle.hsp_check.specs.Instance.{arc_of}
-use Rattle.hsp_groups.specs.Groups.{Group}
-use Rattle.hsp_groups.proofs.ShortArcs.{leads}
+use Rattle.hsp_prices.specs.Groups.{Group}
+use Rattle.hsp_prices.proofs.ShortArcs.{leads}
 use Rattle.hsp_price_plan.specs.Columns.{arcs_of_groups}
 use Rattle.hsp_price_plan.proofs.ColumnSteps.{grown}
 

@@ -6,10 +6,10 @@ use Rattle.std.specs.List.{AllByRecursion}
 use Rattle.hsp_instance.specs.RowArcs.{IsWithin}
 use Rattle.hsp_instance.specs.declared.arc.Arc.{Arc}
 use Rattle.hsp_instance.proofs.Lists.{all_so}
-use Rattle.hsp_classes.specs.Least.{is_least}
+use Rattle.hsp_prices.specs.Least.{is_least}
 use Rattle.hsp_price_check.specs.Extras.{pay_by}
 use Rattle.hsp_price_check.specs.LeastPay.{AreLow}
-use Rattle.hsp_groups.specs.Rows.{KeptArc, KeptRow, kept_if, with_least, with_leaving}
+use Rattle.hsp_prices.specs.KeptRows.{KeptArc, KeptRow, kept_if, with_least, with_leaving}
 use Rattle.hsp_price_plan.specs.Entries.{AreKept, arcs_by, bare_arcs}
 use Rattle.hsp_price_plan.specs.Keeping.{IsKeptBy, is_near, least_from, with_near}
 use Rattle.hsp_price_plan.specs.declared.region.SiteCost.{SiteCost}

@@ -5,7 +5,7 @@ use Rattle.std.proofs.Math.Nat.{mul-le-mul_right, suc-mul, zero-mul}
 use Rattle.std.proofs.lemmas.List.{drop-append-le, drop-drop, drop-take, drop_at, length-append, length-drop}
 use Rattle.std.proofs.lemmas.List.{length-take, take-append-le}
 use Rattle.std.proofs.lemmas.List.{take-take, take_at}
-use Rattle.hsp_groups.specs.Rows.{KeptRow}
+use Rattle.hsp_prices.specs.KeptRows.{KeptRow}
 use Rattle.hsp_price_plan.specs.Held.{rows_by}
 use Rattle.hsp_price_plan.specs.Keeping.{row_by}
 use Rattle.hsp_price_plan.specs.Regions.{RegionArcs, region_at}

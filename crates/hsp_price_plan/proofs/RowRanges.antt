@@ -12,8 +12,8 @@ use Rattle.hsp_cert.specs.Certificate.{ascends_from, goes_on_from}
 use Rattle.hsp_instance.specs.Building.{arc_to, arcs_from, cost_of, is_cost_of}
 use Rattle.hsp_instance.specs.Instance.{HasServer, Row, Site}
 use Rattle.hsp_instance.specs.declared.arc.Arc.{Arc}
-use Rattle.hsp_kinds.proofs.Tabling.{both_equal}
-use Rattle.hsp_classes.specs.Least.{servers_of}
+use Rattle.hsp_prices.proofs.Tabling.{both_equal}
+use Rattle.hsp_prices.specs.Least.{servers_of}
 
 -- a region that has a cost has a name
 region_named : (costs : List CostEntry) → AllByRecursion IsCostEntry costs → (region name : List ℕ) (c : ℕ)

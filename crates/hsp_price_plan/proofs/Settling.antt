@@ -4,9 +4,9 @@ use Rattle.std.proofs.lemmas.List.Sums.{sum_by-cons}
 use Rattle.std.specs.Prelude.{◌||◌, not, if◌then◌else◌}
 use Rattle.std.specs.List.{list_all}
 use Rattle.hsp_instance.specs.declared.arc.Arc.{Arc}
-use Rattle.hsp_groups.specs.Rows.{KeptArc, KeptRow, arcs_in, kept_if, kept_in, keeping, loose_in, loose_of, with_least}
-use Rattle.hsp_groups.specs.Rows.{with_leaving}
-use Rattle.hsp_classes.specs.Least.{is_least}
+use Rattle.hsp_prices.specs.KeptRows.{KeptArc, KeptRow, arcs_in, kept_if, kept_in, keeping, loose_in, loose_of, with_least}
+use Rattle.hsp_prices.specs.KeptRows.{with_leaving}
+use Rattle.hsp_prices.specs.Least.{is_least}
 use Rattle.hsp_price_plan.specs.Entries.{loose_count}
 use Rattle.hsp_price_plan.proofs.KeptArcs.{one_loose}
 

@@ -5,9 +5,9 @@ use Rattle.hsp_network.specs.Answer.{IsShortSet}
 use Rattle.hsp_network.specs.Network.{Transport}
 use Rattle.hsp_price_text.specs.Claim.{Short}
 use Rattle.hsp_price_text.specs.declared.certificate.PriceCertificate.TheVariants as certificate
-use Rattle.hsp_groups.specs.Groups.{AreGroupsOf, Group}
-use Rattle.hsp_groups.specs.Rows.{KeptRow, with_leaving}
-use Rattle.hsp_groups.proofs.ShortShown.{groups_show_short}
+use Rattle.hsp_prices.specs.Groups.{AreGroupsOf, Group}
+use Rattle.hsp_prices.specs.KeptRows.{KeptRow, with_leaving}
+use Rattle.hsp_prices.proofs.ShortShown.{groups_show_short}
 use Rattle.hsp_price_check.specs.declared.numbers.ServiceNumbers.{ServiceNumbers}
 use Rattle.hsp_price_plan.specs.Shortage.{AreReachedBy, IsShortageFor, IsShortagePast}
 use Rattle.hsp_price_plan.specs.Solving.{group_network}

@@ -16,11 +16,11 @@ use Rattle.hsp_check.specs.Verdict.{is_one_of}
 use Rattle.hsp_flow.specs.Planning.{flagged_from}
 use Rattle.hsp_flow.proofs.Ranges.{flags_ascend}
 use Rattle.hsp_flow.proofs.ShortRows.{flagged_is, flags_within}
-use Rattle.hsp_kinds.specs.Rows.{Service, network_for}
+use Rattle.hsp_prices.specs.Rows.{Service, network_for}
 use Rattle.hsp_price_text.specs.Claim.{Short, are_servers, if_short, is_server, is_short}
 use Rattle.hsp_prices.specs.ServerSets.{capacity_of_servers}
-use Rattle.hsp_groups.specs.Groups.{Group}
-use Rattle.hsp_groups.specs.Rows.{KeptRow, with_leaving}
+use Rattle.hsp_prices.specs.Groups.{Group}
+use Rattle.hsp_prices.specs.KeptRows.{KeptRow, with_leaving}
 use Rattle.hsp_price_check.specs.PlanPass.{AreNumbersOf}
 use Rattle.hsp_price_check.specs.SetPass.{capacity_by}
 use Rattle.hsp_price_check.specs.declared.numbers.ServiceNumbers.{ServiceNumbers}

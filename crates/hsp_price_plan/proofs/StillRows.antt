@@ -5,9 +5,9 @@ use Rattle.std.specs.List.{AllByRecursion, AllZip, list_all}
 use Rattle.hsp_instance.specs.Instance.{Row}
 use Rattle.hsp_instance.specs.RowArcs.{IsWithin}
 use Rattle.hsp_instance.specs.declared.arc.Arc.{Arc}
-use Rattle.hsp_kinds.specs.Rows.{Service}
-use Rattle.hsp_classes.specs.Least.{is_least}
-use Rattle.hsp_groups.specs.Rows.{IsRow, KeptArc, KeptRow, arcs_in, kept_if, kept_in, keeping, with_least, with_leaving}
+use Rattle.hsp_prices.specs.Rows.{Service}
+use Rattle.hsp_prices.specs.Least.{is_least}
+use Rattle.hsp_prices.specs.KeptRows.{IsRow, KeptArc, KeptRow, arcs_in, kept_if, kept_in, keeping, with_least, with_leaving}
 use Rattle.hsp_price_plan.specs.Held.{AreWithin}
 use Rattle.hsp_price_plan.specs.Keeping.{is_near, with_near}
 

@@ -12,9 +12,9 @@ use Rattle.std.specs.declared.cmp.Ordering.{Ordering}
 use Rattle.std.specs.Str.{bytes_eq}
 use Rattle.hsp_instance.specs.declared.arc.Arc.{Arc}
 use Rattle.hsp_price_text.specs.Claim.{Class}
-use Rattle.hsp_classes.specs.Least.{least_arcs}
-use Rattle.hsp_groups.specs.Groups.{Group}
-use Rattle.hsp_groups.specs.Solved.{flow_to, flows_by, least_servers_by}
+use Rattle.hsp_prices.specs.Least.{least_arcs}
+use Rattle.hsp_prices.specs.Groups.{Group}
+use Rattle.hsp_prices.specs.Solved.{flow_to, flows_by, least_servers_by}
 use Rattle.hsp_price_plan.specs.declared.classes.ClassKey.{ClassKey}
 
 -- keys with their amounts

@@ -5,7 +5,7 @@ use Rattle.std.specs.List.{AllByRecursion}
 use Rattle.hsp_text.specs.declared.limits.TheConstants.{MOST_SERVERS}
 use Rattle.hsp_instance.specs.RowArcs.{IsWithin}
 use Rattle.hsp_instance.specs.declared.arc.Arc.{Arc}
-use Rattle.hsp_groups.specs.Rows.{KeptArc, kept_if}
+use Rattle.hsp_prices.specs.KeptRows.{KeptArc, kept_if}
 use Rattle.hsp_price_plan.specs.Regions.{shape_of}
 use Rattle.hsp_price_plan.specs.declared.entries.TheConstants.{KEPT}
 use Rattle.hsp_price_plan.specs.declared.region.SiteCost.{SiteCost}

@@ -5,13 +5,13 @@ use Rattle.std.specs.Map.{lookup}
 use Rattle.std.specs.Str.{bytes_eq}
 use Rattle.hsp_instance.specs.Instance.{Row}
 use Rattle.hsp_instance.specs.declared.arc.Arc.{Arc}
-use Rattle.hsp_kinds.specs.Rows.{Service}
-use Rattle.hsp_classes.specs.Least.{servers_of}
-use Rattle.hsp_classes.specs.Shown.{IsService}
-use Rattle.hsp_tally.specs.FirstRows.{FirstRow, is_key_of}
-use Rattle.hsp_groups.specs.Groups.{AreGroupsOf, Group}
-use Rattle.hsp_groups.specs.Rows.{KeptRow, kept_in}
-use Rattle.hsp_groups.specs.Solved.{AreRows}
+use Rattle.hsp_prices.specs.Rows.{Service}
+use Rattle.hsp_prices.specs.Least.{servers_of}
+use Rattle.hsp_prices.specs.Shown.{IsService}
+use Rattle.hsp_price_check.specs.FirstRows.{FirstRow, is_key_of}
+use Rattle.hsp_prices.specs.Groups.{AreGroupsOf, Group}
+use Rattle.hsp_prices.specs.KeptRows.{KeptRow, kept_in}
+use Rattle.hsp_prices.specs.Solved.{AreRows}
 
 -- ---- rows and their groups
 

@@ -4,7 +4,7 @@ use Rattle.std.specs.List.{AllByRecursion}
 use Rattle.hsp_text.specs.declared.limits.TheConstants.{MOST_REGIONS, MOST_SITES}
 use Rattle.hsp_instance.specs.RowArcs.{IsWithin}
 use Rattle.hsp_instance.specs.declared.arc.Arc.{Arc}
-use Rattle.hsp_groups.specs.Rows.{KeptRow, arcs_in}
+use Rattle.hsp_prices.specs.KeptRows.{KeptRow, arcs_in}
 use Rattle.hsp_price_plan.specs.Entries.{AreServers, loose_arc}
 use Rattle.hsp_price_plan.specs.Keeping.{row_by}
 use Rattle.hsp_price_plan.specs.Regions.{RegionArcs, region_at, region_with, with_region}

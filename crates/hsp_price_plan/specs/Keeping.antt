@@ -2,7 +2,7 @@
 use Rattle.std.specs.Prelude.{◌≡◌, ◌≤◌, ◌+◌, ℕ, Bool, List, [], ◌∷◌, length, min, nat_le}
 use Rattle.std.specs.List.{list_all}
 use Rattle.hsp_instance.specs.declared.arc.Arc.{Arc}
-use Rattle.hsp_groups.specs.Rows.{KeptRow, arcs_in, keeping}
+use Rattle.hsp_prices.specs.KeptRows.{KeptRow, arcs_in, keeping}
 use Rattle.hsp_price_plan.specs.Entries.{arcs_by, loose_count}
 use Rattle.hsp_price_plan.specs.Regions.{RegionArcs}
 use Rattle.hsp_price_plan.specs.declared.region.SiteCost.{SiteCost}

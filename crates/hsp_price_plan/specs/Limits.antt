@@ -4,12 +4,12 @@ use Rattle.std.specs.List.{list_all}
 use Rattle.hsp_text.specs.declared.limits.TheConstants.{GREATEST_SUM, MOST_HOSTS, MOST_SERVERS}
 use Rattle.hsp_cert.specs.Certificate.{are_prices_within, ascends}
 use Rattle.hsp_instance.specs.Instance.{Row}
-use Rattle.hsp_kinds.specs.Rows.{Service}
+use Rattle.hsp_prices.specs.Rows.{Service}
 use Rattle.hsp_price_text.specs.Claim.{Best, Short, are_servers, is_before, is_class}
 use Rattle.hsp_price_text.specs.declared.certificate.PriceCertificate.{PriceCertificate}
 use Rattle.hsp_price_text.specs.declared.certificate.PriceCertificate.TheVariants.{Plan, Shortage}
-use Rattle.hsp_classes.specs.Verdict.{IsVerdict}
-use Rattle.hsp_classes.specs.declared.verdict.PriceVerdict.TheVariants.{Yes}
+use Rattle.hsp_prices.specs.Verdict.{IsVerdict}
+use Rattle.hsp_prices.specs.declared.verdict.PriceVerdict.TheVariants.{Yes}
 use Rattle.hsp_price_plan.specs.declared.network.TheConstants.{MOST_GROUPS}
 
 -- the most classes of a text

@@ -4,10 +4,10 @@ use Rattle.std.specs.List.{zip}
 use Rattle.hsp_cert.specs.Certificate.{ascends}
 use Rattle.hsp_instance.specs.declared.arc.Arc.{Arc}
 use Rattle.hsp_network.specs.declared.network.PricedFlow.{PricedFlow}
-use Rattle.hsp_kinds.specs.Rows.{Service}
+use Rattle.hsp_prices.specs.Rows.{Service}
 use Rattle.hsp_price_text.specs.Claim.{Best, is_before, is_best}
-use Rattle.hsp_groups.specs.Groups.{Group}
-use Rattle.hsp_groups.specs.Solved.{AreClassesOf, cost_of}
+use Rattle.hsp_prices.specs.Groups.{Group}
+use Rattle.hsp_prices.specs.Solved.{AreClassesOf, cost_of}
 use Rattle.hsp_price_check.specs.PlanPass.{AreNumbersOf}
 use Rattle.hsp_price_check.specs.declared.numbers.ServiceNumbers.{ServiceNumbers}
 

@@ -2,13 +2,13 @@
 use Rattle.std.specs.Prelude.{◌<◌, ◌^◌, ⊤, List}
 use Rattle.hsp_tables.specs.Costs.{AreCosts}
 use Rattle.hsp_instance.specs.Instance.{Row}
-use Rattle.hsp_kinds.specs.Rows.{Service}
+use Rattle.hsp_prices.specs.Rows.{Service}
 use Rattle.hsp_price_text.specs.declared.certificate.PriceCertificate.{PriceCertificate}
-use Rattle.hsp_classes.specs.Shown.{IsService}
-use Rattle.hsp_classes.specs.Verdict.{IsVerdict}
-use Rattle.hsp_classes.specs.declared.verdict.PriceVerdict.TheVariants.{Yes}
-use Rattle.hsp_groups.specs.Rows.{KeptRow, loose_of}
-use Rattle.hsp_groups.specs.Solved.{AreRows}
+use Rattle.hsp_prices.specs.Shown.{IsService}
+use Rattle.hsp_prices.specs.Verdict.{IsVerdict}
+use Rattle.hsp_prices.specs.declared.verdict.PriceVerdict.TheVariants.{Yes}
+use Rattle.hsp_prices.specs.KeptRows.{KeptRow, loose_of}
+use Rattle.hsp_prices.specs.Solved.{AreRows}
 use Rattle.hsp_price_check.specs.PlanPass.{AreNumbersOf}
 use Rattle.hsp_price_check.specs.declared.numbers.ServiceNumbers.{ServiceNumbers}
 use Rattle.hsp_price_plan.specs.Grouping.{asked_in}

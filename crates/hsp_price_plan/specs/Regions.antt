@@ -3,7 +3,7 @@ use Rattle.std.specs.Prelude.{◌≡◌, ◌++◌, ◌==◌, ℕ, List, [], ◌�
 use Rattle.hsp_instance.specs.Building.{arcs_from}
 use Rattle.hsp_instance.specs.RowArcs.{row_named}
 use Rattle.hsp_instance.specs.declared.arc.Arc.{Arc}
-use Rattle.hsp_kinds.specs.Rows.{Service}
+use Rattle.hsp_prices.specs.Rows.{Service}
 use Rattle.hsp_price_plan.specs.declared.region.SiteCost.{SiteCost}
 
 -- a region's name, and the site and the cost of each arc of its rows

@@ -7,13 +7,13 @@ use Rattle.hsp_transport.specs.Lists.{flag_at}
 use Rattle.hsp_network.specs.Network.{numbered}
 use Rattle.hsp_instance.specs.Instance.{Row}
 use Rattle.hsp_check.specs.Verdict.{is_one_of}
-use Rattle.hsp_kinds.specs.Rows.{Service, network_for}
+use Rattle.hsp_prices.specs.Rows.{Service, network_for}
 use Rattle.hsp_price_text.specs.Claim.{Short, are_servers}
 use Rattle.hsp_prices.specs.ServerSets.{capacity_of_servers}
-use Rattle.hsp_classes.specs.Sums.{caught_in_all}
-use Rattle.hsp_groups.specs.Groups.{AreGroupsOf, Group, network_of_groups}
-use Rattle.hsp_groups.specs.Rows.{KeptRow, with_leaving}
-use Rattle.hsp_groups.specs.Solved.{AreRows}
+use Rattle.hsp_prices.specs.Sums.{caught_in_all}
+use Rattle.hsp_prices.specs.Groups.{AreGroupsOf, Group, network_of_groups}
+use Rattle.hsp_prices.specs.KeptRows.{KeptRow, with_leaving}
+use Rattle.hsp_prices.specs.Solved.{AreRows}
 use Rattle.hsp_price_check.specs.PlanPass.{AreNumbersOf}
 use Rattle.hsp_price_check.specs.declared.numbers.ServiceNumbers.{ServiceNumbers}
 

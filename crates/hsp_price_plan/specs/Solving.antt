@@ -6,8 +6,8 @@ use Rattle.hsp_instance.specs.RowArcs.{IsWithin}
 use Rattle.hsp_network.specs.Network.{Transport}
 use Rattle.hsp_network.specs.Answer.{Answers}
 use Rattle.hsp_network.specs.declared.network.Outcome.{Outcome}
-use Rattle.hsp_kinds.specs.Rows.{Service}
-use Rattle.hsp_groups.specs.Groups.{Group, network_of_groups}
+use Rattle.hsp_prices.specs.Rows.{Service}
+use Rattle.hsp_prices.specs.Groups.{Group, network_of_groups}
 use Rattle.hsp_price_check.specs.PlanPass.{AreNumbersOf}
 use Rattle.hsp_price_check.specs.declared.numbers.ServiceNumbers.{ServiceNumbers}
 use Rattle.hsp_price_plan.specs.Columns.{arcs_of_groups}

@@ -1,7 +1,7 @@
 // What a flow over groups costs.
 
 ghost use Rattle.std.specs.Prelude.{◌≡◌, length};
-ghost use Rattle.hsp_groups.specs.Solved.{cost_of};
+ghost use Rattle.hsp_prices.specs.Solved.{cost_of};
 ghost use Rattle.hsp_price_check.specs.Passed.{capped};
 ghost use Rattle.hsp_price_plan.specs.PlanOfGroups.{arcs_cost};
 ghost use Rattle.hsp_price_plan.specs.Solving.{arcs_in};

@@ -16,7 +16,7 @@ pub struct RowGroup {
 }
 
 impl Model for RowGroup {
-    ghost use Rattle.hsp_groups.specs.Groups.{Group};
+    ghost use Rattle.hsp_prices.specs.Groups.{Group};
 
     ghost Value = { Group };
 

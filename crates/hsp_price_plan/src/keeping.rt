@@ -5,7 +5,7 @@ ghost use Rattle.std.specs.List.{list_all};
 ghost use Rattle.hsp_transport.specs.Lists.{flag_at};
 ghost use Rattle.hsp_price_check.specs.Extras.{pay_by};
 ghost use Rattle.hsp_price_check.specs.LeastPay.{AreLow};
-ghost use Rattle.hsp_groups.specs.Rows.{with_least, with_leaving};
+ghost use Rattle.hsp_prices.specs.KeptRows.{with_least, with_leaving};
 ghost use Rattle.hsp_price_plan.specs.Entries.{AreKept, LeadWithin, arcs_by, bare_arcs};
 ghost use Rattle.hsp_price_plan.specs.Keeping.{IsKeptBy, least_from, with_near};
 

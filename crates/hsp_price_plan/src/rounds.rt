@@ -3,7 +3,7 @@
 ghost use Rattle.std.specs.Prelude.{◌≡◌, ◌<◌, ◌^◌, IfErr, IfOk, length};
 ghost use Rattle.std.specs.List.{AllByRecursion};
 ghost use Rattle.hsp_network.specs.Answer.{IsMet, IsShortSet};
-ghost use Rattle.hsp_groups.specs.Groups.{AreGroupsOf};
+ghost use Rattle.hsp_prices.specs.Groups.{AreGroupsOf};
 ghost use Rattle.hsp_price_plan.specs.Pressing.{HasTextPrices};
 ghost use Rattle.hsp_price_plan.specs.Solving.{HasArcsWithin, demand_in, group_network};
 ghost use Rattle.hsp_price_plan.specs.Planning.{AreOfSome, IsFaultOf, IsRoundEnd, IsValidFor, Outlasts};

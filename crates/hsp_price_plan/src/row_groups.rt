@@ -2,10 +2,10 @@
 
 ghost use Rattle.std.specs.Prelude.{◌≡◌, ◌≤◌, ◌<◌, ◌^◌, IfOk, List, length};
 ghost use Rattle.hsp_instance.specs.Instance.{Row};
-ghost use Rattle.hsp_kinds.specs.Rows.{Service};
-ghost use Rattle.hsp_classes.specs.Shown.{IsService};
-ghost use Rattle.hsp_groups.specs.Groups.{AreGroupsOf};
-ghost use Rattle.hsp_groups.specs.Solved.{AreRows};
+ghost use Rattle.hsp_prices.specs.Rows.{Service};
+ghost use Rattle.hsp_prices.specs.Shown.{IsService};
+ghost use Rattle.hsp_prices.specs.Groups.{AreGroupsOf};
+ghost use Rattle.hsp_prices.specs.Solved.{AreRows};
 ghost use Rattle.hsp_price_plan.specs.Grouping.{asked_in, demand_of};
 
 use crate::group::RowGroup;

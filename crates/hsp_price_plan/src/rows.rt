@@ -5,7 +5,7 @@ ghost use Rattle.hsp_text.specs.declared.limits.TheConstants.{MOST_REGIONS, MOST
 ghost use Rattle.hsp_transport.specs.Lists.{flag_at};
 ghost use Rattle.hsp_price_check.specs.Extras.{pay_by};
 ghost use Rattle.hsp_price_check.specs.LeastPay.{AreLow};
-ghost use Rattle.hsp_groups.specs.Rows.{arcs_in, kept_in, loose_of, with_least, with_leaving};
+ghost use Rattle.hsp_prices.specs.KeptRows.{arcs_in, kept_in, loose_of, with_least, with_leaving};
 ghost use Rattle.hsp_price_plan.specs.Keeping.{with_near};
 ghost use Rattle.hsp_price_plan.specs.Held.{AreWithin, CanPush, no_rows, region_named, row_at, with_each, with_row};
 ghost use Rattle.hsp_price_plan.specs.Regions.{with_region};

@@ -3,17 +3,16 @@
 ghost use Rattle.std.specs.Prelude.{◌≡◌, ◌+◌, ◌++◌, ◌∷◌, ◌<◌, ◌≤◌, ◌^◌, ℕ, List, [], None, OnErr, OnOk, length};
 ghost use Rattle.std.specs.Prelude.{position};
 ghost use Rattle.hsp_instance.specs.declared.arc.Arc.{Arc as SpecArc};
-ghost use Rattle.hsp_classes.specs.Least.{servers_of};
-ghost use Rattle.hsp_tally.specs.KindKeys.{key_in};
-ghost use Rattle.hsp_groups.specs.Groups.{Group, is_same};
-ghost use Rattle.hsp_groups.specs.Rows.{KeptRow};
+ghost use Rattle.hsp_prices.specs.Least.{servers_of};
+ghost use Rattle.hsp_price_check.specs.KindKeys.{key_in};
+ghost use Rattle.hsp_prices.specs.Groups.{Group, is_same};
+ghost use Rattle.hsp_prices.specs.KeptRows.{KeptRow};
 ghost use Rattle.hsp_price_plan.specs.Grouping.{AreArcsBy, HasGroups, IsGrouping, IsOfRow, demand_of, is_keyed};
 ghost use Rattle.hsp_price_plan.specs.Grouping.{with_count_at};
 
 use crate::group::RowGroup;
 use hsp_instance::Arc;
-use hsp_price_check::fill_servers;
-use hsp_tally::{KindKey, LentKind};
+use hsp_price_check::{KindKey, LentKind, fill_servers};
 use indexmap::IndexMap;
 use std::alloc::{AllocError, Global};
 use std::marker::Model;
@@ -70,7 +69,7 @@ pub struct GroupTable {
 
 impl Model for GroupTable {
     ghost use Rattle.std.specs.Prelude.{List};
-    ghost use Rattle.hsp_groups.specs.Groups.{Group};
+    ghost use Rattle.hsp_prices.specs.Groups.{Group};
     ghost use Rattle.hsp_price_plan.specs.Grouping.{HasGroups};
 
     ghost Value = { List Group };

@@ -6,11 +6,11 @@ use Rattle.std.proofs.lemmas.Bool.{and_parts}
 use Rattle.std.proofs.lemmas.List.Elements.{All-head, All-tail}
 use Rattle.std.proofs.lemmas.Slice.Eq.{bytes_eq-Decides}
 use Rattle.hsp_instance.specs.Instance.{Row, regions_of}
-use Rattle.hsp_kinds.specs.Rows.{Service}
+use Rattle.hsp_prices.specs.Rows.{Service}
 use Rattle.hsp_price_text.specs.Claim.{Best, Class}
-use Rattle.hsp_classes.specs.Least.{is_of}
-use Rattle.hsp_classes.specs.Sums.{class_cost, row_cost}
-use Rattle.hsp_classes.specs.declared.verdict.PriceReason.TheVariants.{Cost, NotLeast}
+use Rattle.hsp_prices.specs.Least.{is_of}
+use Rattle.hsp_prices.specs.Sums.{class_cost, row_cost}
+use Rattle.hsp_prices.specs.declared.verdict.PriceReason.TheVariants.{Cost, NotLeast}
 use Rattle.hsp_price_check.specs.Regions.{classes_sum, rows_sum}
 use Rattle.hsp_report.proofs.RegionTotals.{among, between, regions_once, row_there}
 use Rattle.hsp_transport.proofs.Summing.{sum_by_add}

@@ -2,10 +2,10 @@
 use Rattle.std.specs.Prelude.{◌+◌, ◌++◌, ℕ, List, codes, length, map, slice_index}
 use Rattle.std.specs.List.{flat_map, range_with_len}
 use Rattle.hsp_instance.specs.Instance.{Host, Instance, Row}
-use Rattle.hsp_kinds.specs.Rows.{Service}
+use Rattle.hsp_prices.specs.Rows.{Service}
 use Rattle.hsp_price_text.specs.Claim.{Best}
 use Rattle.hsp_transport.specs.Sums.{times}
-use Rattle.hsp_classes.specs.Sums.{load_at, paid_in_all}
+use Rattle.hsp_prices.specs.Sums.{load_at, paid_in_all}
 use Rattle.hsp_report.specs.Columns.{difference_line}
 use Rattle.hsp_report.specs.LoadReport.{load_header, server_line}
 

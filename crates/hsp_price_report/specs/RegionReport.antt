@@ -2,7 +2,7 @@
 use Rattle.std.specs.Prelude.{◌++◌, ◌∷◌, [], ℕ, List, codes, decimal, slice_index_or, sum_by}
 use Rattle.std.specs.List.{flat_map}
 use Rattle.hsp_instance.specs.Instance.{Row, regions_of}
-use Rattle.hsp_kinds.specs.Rows.{Service}
+use Rattle.hsp_prices.specs.Rows.{Service}
 use Rattle.hsp_price_text.specs.Claim.{Best}
 use Rattle.hsp_price_check.specs.Regions.{region_cost, region_demand}
 use Rattle.hsp_report.specs.Columns.{aligned, column_line}

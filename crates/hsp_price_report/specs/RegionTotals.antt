@@ -1,11 +1,11 @@
 -- What the regions of a report say together.
 use Rattle.std.specs.Prelude.{◌≡◌, List, sum_by}
 use Rattle.hsp_instance.specs.Instance.{Row, regions_of}
-use Rattle.hsp_kinds.specs.Rows.{Service}
+use Rattle.hsp_prices.specs.Rows.{Service}
 use Rattle.hsp_price_text.specs.Claim.{Best}
 use Rattle.hsp_price_text.specs.declared.certificate.PriceCertificate.TheVariants.{Plan}
-use Rattle.hsp_classes.specs.Verdict.{IsVerdict}
-use Rattle.hsp_classes.specs.declared.verdict.PriceVerdict.TheVariants.{Yes}
+use Rattle.hsp_prices.specs.Verdict.{IsVerdict}
+use Rattle.hsp_prices.specs.declared.verdict.PriceVerdict.TheVariants.{Yes}
 use Rattle.hsp_price_check.specs.Regions.{region_cost, region_demand}
 
 -- the regions ask together for what all rows ask for

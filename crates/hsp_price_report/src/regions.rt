@@ -2,7 +2,7 @@
 
 ghost use Rattle.std.specs.Prelude.{◌≡◌, ◌<◌, ◌++◌, IfOk, List, OnOk, length, sum_by};
 ghost use Rattle.hsp_instance.specs.Instance.{Row, regions_of};
-ghost use Rattle.hsp_kinds.specs.Rows.{Service};
+ghost use Rattle.hsp_prices.specs.Rows.{Service};
 ghost use Rattle.hsp_price_text.specs.Claim.{Best};
 ghost use Rattle.hsp_price_report.specs.RegionReport.{region_line_at, region_lines, region_report, total_line};
 ghost use Rattle.hsp_price_report.specs.ValidPass.{IsOfSome, IsValidPass};

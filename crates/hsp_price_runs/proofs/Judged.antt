@@ -2,7 +2,7 @@
 use Rattle.std.proofs.Common.{◌≡◌, ℕ, List, [], Option, Result, Ok, Err, refl, sym}
 use Rattle.hsp_csv.specs.Records.{Fields}
 use Rattle.hsp_instance.specs.Instance.{Instance, Row}
-use Rattle.hsp_kinds.specs.Rows.{Service}
+use Rattle.hsp_prices.specs.Rows.{Service}
 use Rattle.hsp_price_text.specs.declared.certificate.PriceCertificate.{PriceCertificate}
 use Rattle.hsp_runs.specs.declared.fault.Fault.{Fault}
 use Rattle.hsp_runs.specs.Instance.{IsInstanceOf}

@@ -5,8 +5,8 @@ use Rattle.hsp_tables.specs.Costs.{CostEntry}
 use Rattle.hsp_instance.specs.Instance.{Instance, IsAscending, Row}
 use Rattle.hsp_instance.specs.declared.arc.Arc.{Arc}
 use Rattle.hsp_check.specs.Instance.{network_of}
-use Rattle.hsp_kinds.specs.Rows.{network_for}
-use Rattle.hsp_classes.specs.Least.{arcs_of}
+use Rattle.hsp_prices.specs.Rows.{network_for}
+use Rattle.hsp_prices.specs.Least.{arcs_of}
 use Rattle.hsp_runs.specs.Headline.{AreCosts, Defines, IsArc}
 use Rattle.hsp_runs.specs.declared.inputs.Inputs.{Inputs}
 use Rattle.hsp_price_check.specs.Classes.{service_of}

@@ -2,12 +2,12 @@
 use Rattle.std.specs.Prelude.{◌≡◌, ℕ, List, Result, Ok, Err}
 use Rattle.hsp_csv.specs.Records.{Fields}
 use Rattle.hsp_instance.specs.Instance.{Instance, Row}
-use Rattle.hsp_kinds.specs.Rows.{Service}
+use Rattle.hsp_prices.specs.Rows.{Service}
 use Rattle.hsp_price_text.specs.Claim.{Best}
 use Rattle.hsp_price_text.specs.declared.certificate.PriceCertificate.{PriceCertificate}
 use Rattle.hsp_price_text.specs.declared.certificate.PriceCertificate.TheVariants.{Plan, Shortage}
-use Rattle.hsp_classes.specs.Verdict.{IsVerdict}
-use Rattle.hsp_classes.specs.declared.verdict.PriceVerdict.TheVariants.{No, Yes}
+use Rattle.hsp_prices.specs.Verdict.{IsVerdict}
+use Rattle.hsp_prices.specs.declared.verdict.PriceVerdict.TheVariants.{No, Yes}
 use Rattle.hsp_runs.specs.declared.fault.Fault.TheVariants.{WrongKind}
 use Rattle.hsp_runs.specs.declared.inputs.Inputs.{Inputs}
 use Rattle.hsp_price_report.specs.LoadReport.{load_report}

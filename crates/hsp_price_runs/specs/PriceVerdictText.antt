@@ -1,8 +1,8 @@
 -- The line that states a verdict on a certificate by prices.
 use Rattle.std.specs.Prelude.{◌++◌, ◌∷◌, [], ℕ, List, codes, decimal}
-use Rattle.hsp_classes.specs.Verdict.{number}
-use Rattle.hsp_classes.specs.declared.verdict.PriceVerdict.{PriceVerdict}
-use Rattle.hsp_classes.specs.declared.verdict.PriceVerdict.TheVariants.{Yes, No}
+use Rattle.hsp_prices.specs.Verdict.{number}
+use Rattle.hsp_prices.specs.declared.verdict.PriceVerdict.{PriceVerdict}
+use Rattle.hsp_prices.specs.declared.verdict.PriceVerdict.TheVariants.{Yes, No}
 use Rattle.hsp_stream.specs.PriceReasons.{reason_word}
 
 -- yes, or no with the reason's number and name

@@ -5,13 +5,13 @@ use Rattle.hsp_tables.specs.Costs.{CostEntry}
 use Rattle.hsp_instance.specs.Instance.{Instance, Row}
 use Rattle.hsp_check.specs.Plan.{Feasible, Plan}
 use Rattle.hsp_check.specs.Verdict.{is_one_of}
-use Rattle.hsp_kinds.specs.Rows.{Service, network_for}
+use Rattle.hsp_prices.specs.Rows.{Service, network_for}
 use Rattle.hsp_prices.specs.ServerSets.{AreShort}
 use Rattle.hsp_price_text.specs.Certificate.{IsCertificate}
 use Rattle.hsp_price_text.specs.Text.{text_of}
 use Rattle.hsp_price_text.specs.declared.certificate.PriceCertificate.{PriceCertificate}
 use Rattle.hsp_price_text.specs.declared.certificate.PriceCertificate.TheVariants as certificates
-use Rattle.hsp_classes.specs.Shown.{IsShownBy}
+use Rattle.hsp_prices.specs.Shown.{IsShownBy}
 use Rattle.hsp_runs.specs.Headline.{AreCosts, Defines}
 use Rattle.hsp_runs.specs.declared.inputs.Inputs.{Inputs}
 use Rattle.hsp_price_check.specs.Classes.{service_of}

@@ -2,7 +2,7 @@
 
 ghost use Rattle.std.specs.Prelude.{◌≡◌, ◌⊎◌, IfErr, IfOk, List, Result, Ok, Err};
 ghost use Rattle.hsp_instance.specs.Instance.{Instance as Built, Row};
-ghost use Rattle.hsp_kinds.specs.Rows.{Service};
+ghost use Rattle.hsp_prices.specs.Rows.{Service};
 ghost use Rattle.hsp_price_text.specs.declared.certificate.PriceCertificate.{PriceCertificate};
 ghost use Rattle.hsp_stream.specs.declared.fault.StreamFault.{StreamFault};
 ghost use Rattle.hsp_stream.specs.declared.fault.StreamFault.TheVariants.{OutOfMemory};
@@ -12,7 +12,7 @@ ghost use Rattle.hsp_price_check.specs.Classes.{service_of};
 ghost use Rattle.hsp_price_runs.specs.Asking.{HasPassed};
 ghost use Rattle.hsp_price_runs.specs.PriceRun.{IsVerdictBy};
 
-use hsp_classes::PriceVerdict;
+use hsp_prices::PriceVerdict;
 use hsp_instance::Instance;
 use hsp_price_check::PriceCheck;
 use hsp_price_text::PriceCertificate;

@@ -11,7 +11,7 @@ ghost use Rattle.hsp_price_runs.specs.PriceReport.{IsPriceReport, IsReportBy, re
 
 use crate::asked::Asked;
 use crate::run::ask_inputs;
-use hsp_classes::{PriceReason, PriceVerdict};
+use hsp_prices::{PriceReason, PriceVerdict};
 use hsp_runs::{Fault, Inputs};
 use hsp_instance::Instance;
 use hsp_price_check::PriceCheck;

@@ -2,7 +2,7 @@
 
 ghost use Rattle.std.specs.Prelude.{◌≡◌, ◌⊎◌, Err, IfErr, IfOk, Ok};
 ghost use Rattle.hsp_runs.specs.Memory.{OrNoMemory};
-ghost use Rattle.hsp_classes.specs.declared.verdict.PriceVerdict.TheVariants.{Yes};
+ghost use Rattle.hsp_prices.specs.declared.verdict.PriceVerdict.TheVariants.{Yes};
 ghost use Rattle.hsp_price_check.specs.Classes.{service_of};
 ghost use Rattle.hsp_stream.specs.KindsLog.{OfLog};
 ghost use Rattle.hsp_stream.specs.Watching.{MayStopReading};
@@ -14,8 +14,8 @@ ghost use Rattle.hsp_price_runs.specs.PricesShown.{ShowsLog};
 use crate::asked::{Asked, AskedVerdict};
 use crate::log_pass::pass_log;
 use hsp_cert::CertFault;
-use hsp_classes::PriceVerdict;
-use hsp_classes::laws::{plan_is_shown, shortage_is_shown};
+use hsp_prices::PriceVerdict;
+use hsp_prices::{plan_is_shown, shortage_is_shown};
 use hsp_runs::{Fault, Inputs, costs_in, instance_in};
 use hsp_runs::headline_laws::instances_are_defined;
 use hsp_instance::Instance;

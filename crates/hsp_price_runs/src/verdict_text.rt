@@ -1,10 +1,10 @@
 // Verdicts on certificates by prices, as the program prints them.
 
 ghost use Rattle.std.specs.Prelude.{◌≡◌, ◌++◌, IfOk, OnOk};
-ghost use Rattle.hsp_classes.specs.Verdict.{number};
+ghost use Rattle.hsp_prices.specs.Verdict.{number};
 ghost use Rattle.hsp_price_runs.specs.PriceVerdictText.{verdict_status, verdict_text, verdict_words};
 
-use hsp_classes::{PriceReason, PriceVerdict};
+use hsp_prices::{PriceReason, PriceVerdict};
 use hsp_stream::price_reason_word;
 use hsp_text::push_whole;
 use std::alloc::{AllocError, Global};

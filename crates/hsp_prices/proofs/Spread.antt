@@ -7,8 +7,8 @@ use Rattle.hsp_transport.specs.Kinds.{together}
 use Rattle.hsp_check.specs.Network.{Network, IsNetwork, transport}
 use Rattle.hsp_check.specs.Plan.{Plan, Feasible, total}
 use Rattle.hsp_check.proofs.Duality.{prices_show_best}
-use Rattle.hsp_kinds.specs.Kinds.{AreAlikeIn}
-use Rattle.hsp_kinds.proofs.Keeping.{kinds_spread_plans}
+use Rattle.hsp_prices.specs.Kinds.{AreAlikeIn}
+use Rattle.hsp_prices.proofs.KindPlans.{kinds_spread_plans}
 use Rattle.hsp_prices.specs.Kept.{kept}
 use Rattle.hsp_prices.specs.Classes.{ClassesShowBest, IsPlanByClasses, Keep}
 use Rattle.hsp_prices.proofs.Keeping.{cost_kept, feasible_kept, host_kept, least, load_kept, network_kept}

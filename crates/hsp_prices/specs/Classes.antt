@@ -4,7 +4,7 @@ use Rattle.std.specs.Prelude.{ℕ, Bool, List}
 use Rattle.hsp_check.specs.Network.{Network, IsNetwork}
 use Rattle.hsp_check.specs.Plan.{Plan, Best, Feasible}
 use Rattle.hsp_check.specs.Prices.{Prices}
-use Rattle.hsp_kinds.specs.Kinds.{AreAlikeIn, AreKinds, ArePricesOfKinds, HasOneArcASite}
+use Rattle.hsp_prices.specs.Kinds.{AreAlikeIn, AreKinds, ArePricesOfKinds, HasOneArcASite}
 use Rattle.hsp_prices.specs.Bounds.{HasNoNegativeReducedCost}
 use Rattle.hsp_prices.specs.Kept.{kept}
 

@@ -2,3 +2,13 @@ pub mod Bounds
 pub mod ServerSets
 pub mod Kept
 pub mod Classes
+pub mod Kinds
+pub mod Keeping
+pub mod Rows
+pub mod Least
+pub mod Sums
+pub mod Verdict
+pub mod Shown
+pub mod KeptRows
+pub mod Groups
+pub mod Solved

@@ -1,9 +1,11 @@
-// What one pass over rows of demand shows.
+// What prices, sets of servers, certificates by prices and groups show of rows of demand of any number.
 
 ghost use Rattle.hsp_prices.specs.Bounds.{GapsBoundPlans, PricesBoundPlans, SmallGapsShowBest};
 ghost use Rattle.hsp_prices.specs.Classes.{ClassesShowBest};
 ghost use Rattle.hsp_prices.specs.Kept.{KeptPlansAreBest, KeptShortSetsAreShort};
 ghost use Rattle.hsp_prices.specs.ServerSets.{ServersShowShortages, ShortServersShowNone};
+ghost use Rattle.hsp_prices.specs.Shown.{PlanIsShown, ShortageIsShown};
+ghost use Rattle.hsp_prices.specs.Solved.{GroupsShowBest, GroupsShowShort};
 
 /// Where no reduced cost is negative, what the rows pay is at most what any plan costs and what full servers and hosts
 /// take.
@@ -47,4 +49,28 @@ pub fn kept_short_sets_are_short()
 /// rows, in whole numbers, with the same cost and the same loads, and no plan of the rows costs less.
 pub fn classes_show_best()
     ensures { ClassesShowBest }
+{}
+
+/// The certificate of a plan that meets all its conditions shows a plan of the rows, in whole numbers, that costs what
+/// is stated, brings to each server and each host what the rows and the classes bring, and is best. What the rows pay
+/// by the stated prices is what the plan costs and what full servers and hosts take.
+pub fn plan_is_shown()
+    ensures { PlanIsShown }
+{}
+
+/// The certificate of a short set of servers that meets all its conditions shows that no plan of the rows is feasible.
+pub fn shortage_is_shown()
+    ensures { ShortageIsShown }
+{}
+
+/// A flow that meets the groups' network, with prices, gives the certificate of a plan that meets all its conditions
+/// for the rows, where each row keeps the arcs over which it pays least by these prices.
+pub fn groups_show_best()
+    ensures { GroupsShowBest }
+{}
+
+/// A short set of groups gives the certificate of a short set of servers that meets all its conditions for the rows,
+/// where no row that only keeps arcs into the set has another arc.
+pub fn groups_show_short()
+    ensures { GroupsShowShort }
 {}

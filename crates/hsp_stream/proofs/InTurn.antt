@@ -3,7 +3,7 @@ use Rattle.std.proofs.Common.{◌≡◌, ◌+◌, ◌∙◌, ℕ, List, [], ◌�
 use Rattle.std.proofs.Common.{subst, sym}
 use Rattle.std.proofs.lemmas.List.Sums.{sum_by-cons}
 use Rattle.hsp_dispatch.specs.declared.form.Form.{Form}
-use Rattle.hsp_tally.specs.Tally.{capped}
+use Rattle.hsp_price_check.specs.Tally.{capped}
 use Rattle.hsp_talk.specs.Talk.{AreTaken}
 use Rattle.hsp_stream.specs.Answering.{Answering, AreGiven, AreInTurn, GivesLine, TakesQuery, TakesRow, lines_in}
 use Rattle.hsp_stream.specs.Asking.{AreAsked, Asked, AsksAt, is_refused, queries_in}

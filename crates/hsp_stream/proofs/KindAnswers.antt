@@ -13,7 +13,7 @@ use Rattle.std.specs.Cmp.Lexicographic.{bytes_decides}
 use Rattle.hsp_tables.specs.Costs.{CostEntry}
 use Rattle.hsp_instance.specs.Instance.{Instance, IsInstance, Row, has_keys, same_keys}
 use Rattle.hsp_instance.proofs.Lists.{all_at, there}
-use Rattle.hsp_tally.specs.Finding.{Finding, is_of_kind, row_for, row_found}
+use Rattle.hsp_price_check.specs.Finding.{Finding, is_of_kind, row_for, row_found}
 use Rattle.hsp_dispatch.specs.Dispatch.{Entry, answer_in, row_of}
 use Rattle.hsp_dispatch.specs.Shares.{Held, IsRestOf, first_answer, left_of, taken_answer}
 use Rattle.hsp_dispatch.proofs.Resting.{rest_unknown}

@@ -14,14 +14,14 @@ use Rattle.csv.specs.declared.parser.State.TheVariants as st
 use Rattle.hsp_csv.specs.Records.{Fields, records_of}
 use Rattle.hsp_instance.specs.Instance.{IsNamed, Row, Site}
 use Rattle.hsp_instance.proofs.Lists.{map_twice}
-use Rattle.hsp_kinds.specs.Rows.{is_same_kind, places_at, sites_for}
+use Rattle.hsp_prices.specs.Rows.{is_same_kind, places_at, sites_for}
 use Rattle.hsp_tables.specs.Costs.{CostEntry}
 use Rattle.hsp_tables.specs.Demand.{DemandEntry, demand_in, demand_table, same_demand}
 use Rattle.hsp_tables.specs.Table as tables
 use Rattle.hsp_tables.specs.Table.{IsTable, ReadsAsItsRelation, SpellRows}
 use Rattle.hsp_text.specs.Whole.{DigitsSpellTheirNumber, whole_within}
 use Rattle.hsp_text.specs.declared.limits.TheConstants.{GREATEST_COUNT}
-use Rattle.hsp_tally.proofs.KindTables.{IsKindTable}
+use Rattle.hsp_price_check.proofs.KindTables.{IsKindTable}
 use Rattle.hsp_stream.specs.KindsLaws.{entry_of}
 use Rattle.hsp_stream.specs.KindsTable.{fields_of_row, lines_of, records_of_rows, table_text}
 

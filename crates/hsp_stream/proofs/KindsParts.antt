@@ -6,18 +6,18 @@ use Rattle.std.specs.List.{AllByRecursion}
 use Rattle.std.specs.Prelude.{Result}
 use Rattle.hsp_csv.specs.Records.{Fields}
 use Rattle.hsp_instance.specs.Instance.{IsNamed, Row, Site, regions_of}
-use Rattle.hsp_kinds.specs.Tables.{LogInParts, counted, counted_all}
+use Rattle.hsp_prices.specs.Tables.{LogInParts, counted, counted_all}
 use Rattle.hsp_tables.specs.Costs.{CostEntry}
 use Rattle.hsp_text.specs.Answers.{◌>>=◌, or_fault, fault_as}
 use Rattle.hsp_text.specs.Whole.{DigitsSpellTheirNumber}
 use Rattle.hsp_text.specs.declared.limits.TheConstants.{MOST_DEMAND_ROWS, MOST_REGIONS}
 use Rattle.hsp_names.specs.Handle as names
 use Rattle.hsp_names.specs.declared.fault.HandleFault.{HandleFault}
-use Rattle.hsp_tally.specs.Keys.{with_region}
-use Rattle.hsp_tally.specs.Tally.{IsKept, by_capped, with_counted}
-use Rattle.hsp_tally.proofs.Capped.{capped_kinds_are_classes, tables_are_capped}
-use Rattle.hsp_tally.proofs.KindCounts.{counted_regions, counted_well, longer}
-use Rattle.hsp_tally.proofs.KindTables.{counted_is, no_kinds}
+use Rattle.hsp_price_check.specs.Keys.{with_region}
+use Rattle.hsp_price_check.specs.Tally.{IsKept, by_capped, with_counted}
+use Rattle.hsp_price_check.proofs.Capped.{capped_kinds_are_classes, tables_are_capped}
+use Rattle.hsp_price_check.proofs.KindCounts.{counted_regions, counted_well, longer}
+use Rattle.hsp_price_check.proofs.KindTables.{counted_is, no_kinds}
 use Rattle.hsp_stream.specs.KindsLaws.{IsLogCount, PartsMakeTheTable, SpellRows, Spells, TableIsOfKinds}
 use Rattle.hsp_stream.specs.KindsLog.{Parts, count_in, handle_or, fault_of_kinds, name_in, parts_in, row_of, rows_from}
 use Rattle.hsp_stream.specs.KindsLog.{with_parts, with_record}

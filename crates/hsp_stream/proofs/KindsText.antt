@@ -11,7 +11,7 @@ use Rattle.hsp_csv.specs.Records.{Fields}
 use Rattle.hsp_text.specs.Answers.{◌>>=◌}
 use Rattle.hsp_instance.specs.Instance.{Row}
 use Rattle.hsp_instance.proofs.Lists.{drop_at}
-use Rattle.hsp_kinds.specs.Units.{rounded_up}
+use Rattle.hsp_prices.specs.Units.{rounded_up}
 use Rattle.hsp_stream.specs.KindsTable.{IsPushed, fields_of_row, in_unit, lines_of, records_of_rows, rows_in_units}
 use Rattle.hsp_stream.specs.KindsTable.{table_text, with_count}
 use Rattle.hsp_stream.specs.declared.fault.StreamFault.{StreamFault}

@@ -7,15 +7,15 @@ use Rattle.std.specs.Prelude.{Result}
 use Rattle.hsp_csv.specs.Records.{Fields, records_of}
 use Rattle.hsp_instance.specs.Instance.{IsNamed, Row, Site, regions_of}
 use Rattle.hsp_instance.proofs.Lists.{map_twice}
-use Rattle.hsp_kinds.specs.Rows.{is_same_kind}
+use Rattle.hsp_prices.specs.Rows.{is_same_kind}
 use Rattle.hsp_names.specs.Handle as names
 use Rattle.hsp_tables.specs.Costs.{CostEntry}
 use Rattle.hsp_tables.specs.Table.{first_seen}
 use Rattle.hsp_text.specs.Answers.{◌>>=◌, or_fault, fault_as}
 use Rattle.hsp_text.specs.Name.{is_name}
 use Rattle.hsp_text.specs.declared.limits.TheConstants.{GREATEST_COUNT}
-use Rattle.hsp_tally.specs.Tally.{with_counted}
-use Rattle.hsp_tally.proofs.KindTables.{IsKindTable, kinds_more, no_kinds}
+use Rattle.hsp_price_check.specs.Tally.{with_counted}
+use Rattle.hsp_price_check.proofs.KindTables.{IsKindTable, kinds_more, no_kinds}
 use Rattle.hsp_stream.specs.KindsLog.{Parts, count_in, form_of, handle_or, fault_of_kinds, name_in, parts_in, row_of}
 use Rattle.hsp_stream.specs.KindsLog.{rows_from, table_of, with_parts, with_record}
 use Rattle.hsp_stream.specs.KindsTable.{in_unit, rows_in_units, table_in_units, table_text, with_count}

@@ -7,7 +7,7 @@ use Rattle.std.specs.Prelude.{Result, nat_lt}
 use Rattle.std.specs.List.{slice_get}
 use Rattle.hsp_instance.specs.Instance.{Row}
 use Rattle.hsp_instance.proofs.Lists.{drop_at}
-use Rattle.hsp_kinds.specs.Units.{rounded_up}
+use Rattle.hsp_prices.specs.Units.{rounded_up}
 use Rattle.hsp_text.specs.declared.limits.TheConstants.{GREATEST_COUNT}
 use Rattle.hsp_stream.specs.KindsLaws.{IsLeastUnit, ReportedUnitIsTheLeast}
 use Rattle.hsp_stream.specs.KindsTable.{in_unit, least_unit, rows_in_units, table_in_units, with_count}

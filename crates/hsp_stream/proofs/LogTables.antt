@@ -33,10 +33,10 @@ use Rattle.hsp_check.specs.Instance.{network_of}
 use Rattle.hsp_check.specs.Network.{IsNetwork, Network}
 use Rattle.hsp_check.specs.Plan.{Feasible}
 use Rattle.hsp_check.proofs.InstanceNetwork.{is_network}
-use Rattle.hsp_kinds.specs.Keeping.{PricesOfKinds}
-use Rattle.hsp_kinds.specs.Rows.{TablesAreOfKinds, kinds_of, network_for}
-use Rattle.hsp_kinds.specs.Same.{PlanIsTheSame}
-use Rattle.hsp_kinds.specs.Units.{UnitsServeRows, in_units, rounded_up}
+use Rattle.hsp_prices.specs.Keeping.{PricesOfKinds}
+use Rattle.hsp_prices.specs.Rows.{TablesAreOfKinds, kinds_of, network_for}
+use Rattle.hsp_prices.specs.Same.{PlanIsTheSame}
+use Rattle.hsp_prices.specs.Units.{UnitsServeRows, in_units, rounded_up}
 use Rattle.hsp_runs.specs.declared.fault.Fault.{Fault}
 use Rattle.hsp_runs.specs.declared.fault.Fault.TheVariants.{Build, Costs}
 use Rattle.hsp_runs.specs.Headline.{AreCosts, Defines}
@@ -46,7 +46,7 @@ use Rattle.hsp_runs.specs.Readings.{AreSites, ReadsSettings, ReadsValues}
 use Rattle.hsp_runs.specs.declared.inputs.Inputs.{Inputs}
 use Rattle.hsp_runs.proofs.PageRead.{hold, is_instance, stated_well}
 use Rattle.hsp_runs.proofs.Steps.{went_on}
-use Rattle.hsp_tally.specs.Tally.{capped, capped_row}
+use Rattle.hsp_price_check.specs.Tally.{capped, capped_row}
 use Rattle.hsp_stream.specs.Faults.{fault_of_input}
 use Rattle.hsp_stream.specs.KindsFiles.{AreFilesIn, are_checked}
 use Rattle.hsp_stream.specs.KindsLaws.{entry_of}

@@ -16,8 +16,8 @@ use Rattle.hsp_instance.proofs.BuiltParts.{built_has_its_parts}
 use Rattle.hsp_check.specs.Instance.{network_of}
 use Rattle.hsp_check.specs.Network.{is_allowed}
 use Rattle.hsp_check.specs.Plan.{Plan}
-use Rattle.hsp_kinds.specs.Rows.{places_at, sites_for}
-use Rattle.hsp_tally.specs.Finding.{is_of_kind, row_for}
+use Rattle.hsp_prices.specs.Rows.{places_at, sites_for}
+use Rattle.hsp_price_check.specs.Finding.{is_of_kind, row_for}
 use Rattle.hsp_dispatch.specs.Dispatch.{Entry, answer_at, answer_in, answer_to, arc_to, assigned_to, count_for, row_of}
 use Rattle.hsp_dispatch.specs.Dispatch.{server_to, spread}
 use Rattle.hsp_dispatch.specs.Laws.{IsByHash, KeepsToArcs}

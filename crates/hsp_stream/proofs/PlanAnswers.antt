@@ -16,7 +16,7 @@ use Rattle.hsp_dispatch.specs.declared.form.Form.{Form}
 use Rattle.hsp_dispatch.proofs.Lists.{none_from}
 use Rattle.hsp_dispatch.proofs.OverCalls.{same_answers}
 use Rattle.hsp_dispatch.proofs.Resting.{answer_after, rest_none, rest_parts, rest_same}
-use Rattle.hsp_tally.specs.Tally.{capped}
+use Rattle.hsp_price_check.specs.Tally.{capped}
 use Rattle.hsp_stream.specs.Answering.{AreGiven, InTurn, lines_in}
 use Rattle.hsp_stream.specs.Asking.{queries_in}
 use Rattle.hsp_stream.specs.KindAnswers.{ByPlan, PlanHeld, TakesByKind, entry_for, plan_sums}

@@ -2,7 +2,7 @@
 use Rattle.std.specs.Prelude.{◌≡◌, ◌+◌, ℕ, List, [], ◌∷◌, count_by, Option, None}
 use Rattle.hsp_dispatch.specs.Dispatch.{Entry}
 use Rattle.hsp_dispatch.specs.declared.form.Form.{Form}
-use Rattle.hsp_tally.specs.Tally.{capped}
+use Rattle.hsp_price_check.specs.Tally.{capped}
 use Rattle.hsp_stream.specs.Asking.{AreAsked, Asked, AsksAt, is_refused, queries_in}
 use Rattle.hsp_stream.specs.Asking.Asked.{bad, nothing, query}
 use Rattle.hsp_stream.specs.Saying.{refused_line}

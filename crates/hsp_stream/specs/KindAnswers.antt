@@ -4,7 +4,7 @@ use Rattle.std.specs.List.{slice_get}
 use Rattle.hsp_tables.specs.Costs.{CostEntry}
 use Rattle.hsp_instance.specs.Instance.{Instance, Row}
 use Rattle.hsp_check.specs.Plan.{Plan}
-use Rattle.hsp_tally.specs.Finding.{row_for}
+use Rattle.hsp_price_check.specs.Finding.{row_for}
 use Rattle.hsp_dispatch.specs.Dispatch.{Entry, IsSame, answers, rest}
 use Rattle.hsp_dispatch.specs.Lines.{line_of}
 use Rattle.hsp_dispatch.specs.Shares.{Held, answer_by, left_of}

@@ -7,8 +7,8 @@ use Rattle.hsp_tables.specs.Demand.{DemandEntry, demand_table}
 use Rattle.hsp_tables.specs.Table as tables
 use Rattle.hsp_text.specs.Answers.{◌>>=◌}
 use Rattle.hsp_instance.specs.Instance.{Row, Site}
-use Rattle.hsp_kinds.specs.Rows.{kinds_of}
-use Rattle.hsp_tally.specs.Tally.{capped_row}
+use Rattle.hsp_prices.specs.Rows.{kinds_of}
+use Rattle.hsp_price_check.specs.Tally.{capped_row}
 use Rattle.hsp_stream.specs.KindsLog.{Parts, parts_in, row_of, rows_from, table_of}
 use Rattle.hsp_stream.specs.KindsTable.{records_of_rows, table_in_units, table_text}
 use Rattle.hsp_stream.specs.declared.fault.RowFault.TheVariants.{CountTooLarge}

@@ -14,9 +14,9 @@ use Rattle.hsp_text.specs.Name.{is_name}
 use Rattle.hsp_text.specs.Whole.{whole_within}
 use Rattle.hsp_text.specs.declared.whole.WholeFault.{WholeFault}
 use Rattle.hsp_instance.specs.Instance.{Row, Site}
-use Rattle.hsp_tally.specs.Tally.{KindTable, with_counted}
-use Rattle.hsp_tally.specs.declared.fault.KindsFault.{KindsFault}
-use Rattle.hsp_tally.specs.declared.fault.KindsFault.TheVariants as kinds
+use Rattle.hsp_price_check.specs.Tally.{KindTable, with_counted}
+use Rattle.hsp_price_check.specs.declared.fault.KindsFault.{KindsFault}
+use Rattle.hsp_price_check.specs.declared.fault.KindsFault.TheVariants as kinds
 use Rattle.hsp_stream.specs.declared.fault.RowFault.{RowFault}
 use Rattle.hsp_stream.specs.declared.fault.RowFault.TheVariants as fault
 use Rattle.hsp_stream.specs.declared.fault.StreamFault.{StreamFault}

@@ -6,7 +6,7 @@ use Rattle.hsp_csv.specs.Records.{Fields}
 use Rattle.hsp_text.specs.Answers.{◌>>=◌}
 use Rattle.hsp_text.specs.declared.limits.TheConstants.{GREATEST_COUNT}
 use Rattle.hsp_instance.specs.Instance.{Row}
-use Rattle.hsp_kinds.specs.Units.{rounded_up}
+use Rattle.hsp_prices.specs.Units.{rounded_up}
 use Rattle.hsp_stream.specs.declared.fault.RowFault.TheVariants.{CountTooLarge}
 use Rattle.hsp_stream.specs.declared.fault.StreamFault.{StreamFault}
 use Rattle.hsp_stream.specs.declared.fault.StreamFault.TheVariants.{Log}

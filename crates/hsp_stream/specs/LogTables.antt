@@ -7,10 +7,10 @@ use Rattle.hsp_check.specs.Instance.{network_of}
 use Rattle.hsp_check.specs.Network.{Network}
 use Rattle.hsp_check.specs.Plan.{Feasible, Plan}
 use Rattle.hsp_check.specs.Prices.{Prices}
-use Rattle.hsp_kinds.specs.Kinds.{AreKinds, ArePricesOfKinds, pooled}
-use Rattle.hsp_kinds.specs.Rows.{Service, kinds_of, network_for}
-use Rattle.hsp_kinds.specs.Same.{HasSamePlans, HasShortRows}
-use Rattle.hsp_kinds.specs.Units.{IsWithin}
+use Rattle.hsp_prices.specs.Kinds.{AreKinds, ArePricesOfKinds, pooled}
+use Rattle.hsp_prices.specs.Rows.{Service, kinds_of, network_for}
+use Rattle.hsp_prices.specs.Same.{HasSamePlans, HasShortRows}
+use Rattle.hsp_prices.specs.Units.{IsWithin}
 use Rattle.hsp_runs.specs.Headline.{AreCosts, Defines}
 use Rattle.hsp_runs.specs.declared.inputs.Inputs.{Inputs}
 use Rattle.hsp_stream.specs.KindsLaws.{SpellRows}

@@ -1,9 +1,9 @@
 -- The names of the reasons against a certificate by prices.
 use Rattle.std.specs.Prelude.{ℕ, List, codes}
-use Rattle.hsp_classes.specs.declared.verdict.PriceReason.{PriceReason}
-use Rattle.hsp_classes.specs.declared.verdict.PriceReason.TheVariants.{Shape, NoSuchServer, NotLeast, NoClass, ClassSum}
-use Rattle.hsp_classes.specs.declared.verdict.PriceReason.TheVariants.{Load, Cost, IdlePrice, DemandSum, CapacitySum}
-use Rattle.hsp_classes.specs.declared.verdict.PriceReason.TheVariants.{NotShort}
+use Rattle.hsp_prices.specs.declared.verdict.PriceReason.{PriceReason}
+use Rattle.hsp_prices.specs.declared.verdict.PriceReason.TheVariants.{Shape, NoSuchServer, NotLeast, NoClass, ClassSum}
+use Rattle.hsp_prices.specs.declared.verdict.PriceReason.TheVariants.{Load, Cost, IdlePrice, DemandSum, CapacitySum}
+use Rattle.hsp_prices.specs.declared.verdict.PriceReason.TheVariants.{NotShort}
 
 abbrev pub reason_word : PriceReason → List ℕ
 reason_word Shape = codes "Shape"

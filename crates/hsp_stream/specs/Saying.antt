@@ -12,7 +12,7 @@ use Rattle.hsp_stream.specs.declared.given.Given.TheVariants as given
 use Rattle.hsp_stream.specs.declared.given.StreamSums.{StreamSums}
 use Rattle.hsp_stream.specs.declared.row_refusal.RowRefusal.{RowRefusal}
 use Rattle.hsp_stream.specs.declared.row_refusal.RowRefusal.TheVariants.{BadBody, BadHandle, Fields, TooLong}
-use Rattle.hsp_tally.specs.Tally.{capped}
+use Rattle.hsp_price_check.specs.Tally.{capped}
 
 -- ---- refused rows
 

@@ -1,7 +1,7 @@
 // The responder that answers the rows of a log.
 
 ghost use Rattle.std.specs.Prelude.{◌≡◌, ◌≢◌, ◌+◌, ◌∷◌, [], List, MatchOption, None, OnOk, ℕ};
-ghost use Rattle.hsp_tally.specs.Tally.{capped};
+ghost use Rattle.hsp_price_check.specs.Tally.{capped};
 ghost use Rattle.hsp_stream.specs.Answering.{GivesLine, TakesRow};
 ghost use Rattle.hsp_stream.specs.Asking.{IsNoHeader, asked_of};
 

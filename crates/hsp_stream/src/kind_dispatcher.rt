@@ -11,7 +11,7 @@ use hsp_dispatch::{Dispatcher, ServerLines};
 use hsp_instance::Instance;
 use hsp_names::HandleRef;
 use hsp_tables::Costs;
-use hsp_tally::RowFinder;
+use hsp_price_check::RowFinder;
 use std::alloc::{AllocError, Global};
 use std::marker::Model;
 

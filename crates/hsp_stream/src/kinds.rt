@@ -3,7 +3,7 @@
 ghost use Rattle.std.specs.Prelude.{◌≡◌, ◌<◌, ◌≤◌, ◌⊎◌, [], Err, IfErr, IfOk, Ok, option_map};
 ghost use Rattle.hsp_stream.specs.KindsLog.{IsReadFault, OfLog};
 ghost use Rattle.hsp_stream.specs.KindsRun.{IsKindsOf, kinds_text};
-ghost use Rattle.hsp_tally.specs.Tally.{IsWhole};
+ghost use Rattle.hsp_price_check.specs.Tally.{IsWhole};
 
 use crate::fault::StreamFault;
 use crate::kinds_files::{KindsInputs, files_in};
@@ -12,7 +12,7 @@ use crate::kinds_table::text_of_kinds;
 use crate::portions::unit_at;
 use hsp_instance::Sites;
 use hsp_tables::Costs;
-use hsp_tally::Kinds;
+use hsp_price_check::Kinds;
 use std::alloc::Global;
 use std::io::Read;
 

@@ -5,7 +5,7 @@ ghost use Rattle.hsp_stream.specs.KindsLaws.{ReportedUnitIsTheLeast};
 ghost use Rattle.hsp_stream.specs.LogTables.{TableSpeaksOfTheLog, UnitsServeTheLog};
 
 use hsp_runs::headline_laws::instances_are_defined;
-use hsp_kinds::{
+use hsp_prices::{
     log_in_parts, plan_is_the_same, prices_of_kinds, tables_are_of_kinds, units_serve_rows,
 };
 use hsp_names::laws::readings_are_handles;

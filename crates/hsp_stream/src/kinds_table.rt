@@ -3,7 +3,7 @@
 ghost use Rattle.std.specs.Prelude.{◌≡◌, ◌<◌, ◌⊎◌, ◌++◌, Err, IfErr, Ok, OnOk, Some, decimal, length, slice_get};
 ghost use Rattle.csv.specs.Writing.{default_writer, field_text, row_text};
 ghost use Rattle.hsp_text.specs.Answers.{Gives, GivesUnless};
-ghost use Rattle.hsp_kinds.specs.Units.{rounded_up};
+ghost use Rattle.hsp_prices.specs.Units.{rounded_up};
 ghost use Rattle.hsp_instance.specs.Instance.{Row};
 ghost use Rattle.hsp_stream.specs.KindsTable.{IsPushed, fields_of_row, in_unit, least_unit, text_in_units};
 ghost use Rattle.hsp_stream.specs.declared.fault.StreamFault.TheVariants.{OutOfMemory};
@@ -11,7 +11,7 @@ ghost use Rattle.hsp_text.specs.declared.limits.TheConstants.{GREATEST_COUNT};
 
 use crate::fault::{RowFault, StreamFault};
 use hsp_csv::push_field;
-use hsp_tally::Kinds;
+use hsp_price_check::Kinds;
 use hsp_text::limits::GREATEST_COUNT;
 use hsp_text::push_whole;
 use std::alloc::{AllocError, Global};

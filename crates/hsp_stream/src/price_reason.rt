@@ -3,7 +3,7 @@
 ghost use Rattle.std.specs.Prelude.{◌≡◌};
 ghost use Rattle.hsp_stream.specs.PriceReasons.{reason_word};
 
-use hsp_classes::PriceReason;
+use hsp_prices::PriceReason;
 
 /// The name of a reason.
 pub fn price_reason_word(reason: PriceReason) -> &'static [u8]

@@ -12,7 +12,7 @@ use Rattle.hsp_runs.specs.declared.inputs.Inputs.{Inputs}
 use Rattle.hsp_tables.specs.Costs.{CostEntry}
 use Rattle.hsp_talk.specs.Known.{Known}
 use Rattle.hsp_talk.specs.Known.{IsHandedOn as IsKnownHanded}
-use Rattle.hsp_kinds.specs.Rows.{Service}
+use Rattle.hsp_prices.specs.Rows.{Service}
 use Rattle.hsp_dispatch.specs.declared.front_share.Front.{Front}
 use Rattle.hsp_price_text.specs.declared.certificate.PriceCertificate.{PriceCertificate}
 use Rattle.hsp_price_text.specs.declared.certificate.PriceCertificate.TheVariants as prices

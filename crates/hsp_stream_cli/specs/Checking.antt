@@ -1,7 +1,7 @@
 -- Verdicts on certificates by prices.
 use Rattle.std.specs.Prelude.{◌≡◌, ◌⊎◌, ℕ, List, Option, Ok, Err}
-use Rattle.hsp_classes.specs.declared.verdict.PriceVerdict.{PriceVerdict}
-use Rattle.hsp_classes.specs.declared.verdict.PriceVerdict.TheVariants.{Yes}
+use Rattle.hsp_prices.specs.declared.verdict.PriceVerdict.{PriceVerdict}
+use Rattle.hsp_prices.specs.declared.verdict.PriceVerdict.TheVariants.{Yes}
 use Rattle.hsp_cli.specs.declared.failure.Failure.TheVariants.{Memory, Refused}
 use Rattle.hsp_price_runs.specs.PriceRun.{IsPriceVerdict}
 use Rattle.hsp_price_runs.specs.PricesShown.{ShowsLog}

@@ -1,6 +1,6 @@
 -- Reports by certificates by prices.
 use Rattle.std.specs.Prelude.{◌≡◌, ◌⊎◌, ℕ, List, Option, Ok, Err}
-use Rattle.hsp_classes.specs.declared.verdict.PriceVerdict.TheVariants.{No}
+use Rattle.hsp_prices.specs.declared.verdict.PriceVerdict.TheVariants.{No}
 use Rattle.hsp_cli.specs.declared.failure.Failure.TheVariants.{Refused}
 use Rattle.hsp_cli_orders.specs.declared.stream_order.AskedPriceReport.{AskedPriceReport}
 use Rattle.hsp_cli_orders.specs.declared.stream_order.AskedPriceReport.TheVariants as asked

@@ -9,7 +9,7 @@ use crate::checking::print_line;
 use crate::files::{Priced, read_prices};
 use crate::printing::print;
 use crate::program::Ended;
-use hsp_classes::PriceVerdict;
+use hsp_prices::PriceVerdict;
 use hsp_cli::{Failure, FileSource, OpenFile, Output};
 use hsp_cli_orders::{AskedPriceReport, PriceFiles};
 use hsp_price_runs::{PriceReport, PriceReportKind, price_report_run};

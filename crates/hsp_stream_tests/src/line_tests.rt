@@ -2,7 +2,7 @@
 
 use crate::same::is_same;
 use hsp_check::Reason;
-use hsp_classes::PriceReason;
+use hsp_prices::PriceReason;
 use hsp_runs::Fault;
 use hsp_names::HandleFault;
 use hsp_stream::{

@@ -4,7 +4,7 @@
 use crate::fakes::Rows;
 use crate::price_tests::{held_inputs, judged};
 use crate::same::is_same;
-use hsp_classes::PriceVerdict;
+use hsp_prices::PriceVerdict;
 use hsp_plan_runs::{PricesText, price_plan_run};
 use hsp_price_plan::{Progress, Silent};
 use hsp_stream::{RowFault, StreamFault};

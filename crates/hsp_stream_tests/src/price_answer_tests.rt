@@ -7,7 +7,7 @@ use crate::fakes::{Full, Rows};
 use crate::same::is_same;
 use crate::worked::{owned, owned_word};
 use hsp_cert::CertFault;
-use hsp_classes::PriceReason;
+use hsp_prices::PriceReason;
 use hsp_runs::{Fault, Inputs};
 use hsp_price_answers::{FrontChoice, PriceSums, price_answer_run, price_sums_line};
 use hsp_stream::{RowFault, StreamFault};

@@ -7,7 +7,7 @@ use crate::fakes::Rows;
 use crate::same::is_same;
 use crate::worked::owned;
 use hsp_cert::CertFault;
-use hsp_classes::{PriceReason, PriceVerdict};
+use hsp_prices::{PriceReason, PriceVerdict};
 use hsp_runs::{Fault, Inputs, costs_in, instance_in};
 use hsp_instance::Instance;
 use hsp_names::HandleRef;

@@ -6,7 +6,7 @@ use hsp_instance::{Instance, Sites};
 use hsp_names::HandleRef;
 use hsp_runs::{Accepted, accepted_in, costs_in, sites_in};
 use hsp_tables::Costs;
-use hsp_tally::{Kinds, RowFinder, SeenRows};
+use hsp_price_check::{Kinds, RowFinder, SeenRows};
 use hsp_test_support::service::SETTINGS;
 use std::alloc::{AllocError, Global};
 

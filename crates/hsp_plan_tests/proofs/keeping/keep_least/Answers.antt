@@ -1,5 +1,5 @@
 use Rattle.std.proofs.Common.{arith}
-use Rattle.hsp_groups.specs.Rows.{with_least}
+use Rattle.hsp_prices.specs.KeptRows.{with_least}
 use Rattle.hsp_price_check.specs.Extras.{pay_by}
 use Rattle.hsp_price_plan.proofs.StillRows.{least_leaves}
 use Rattle.hsp_price_plan.proofs.Kept.{within_many}

@@ -1,6 +1,6 @@
 use Rattle.std.proofs.Common.{arith}
 use Rattle.hsp_transport.specs.Lists.{flag_at}
-use Rattle.hsp_groups.specs.Rows.{with_leaving}
+use Rattle.hsp_prices.specs.KeptRows.{with_leaving}
 use Rattle.hsp_price_plan.proofs.StillRows.{leaving_leaves}
 use Rattle.hsp_price_plan.proofs.Kept.{within_many}
 use Rattle.hsp_plan_tests.proofs.Fillings.{still_some}

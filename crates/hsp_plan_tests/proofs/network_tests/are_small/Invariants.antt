@@ -1,5 +1,5 @@
 use Rattle.std.proofs.Common.{ℕ, ◌<◌, slice_index_or}
-use Rattle.hsp_groups.specs.Groups.{Group}
+use Rattle.hsp_prices.specs.Groups.{Group}
 use Rattle.hsp_price_plan.specs.Solving.{HasFewArcs}
 use Rattle.hsp_plan_tests.proofs.network_tests.are_small.Given as goal
 

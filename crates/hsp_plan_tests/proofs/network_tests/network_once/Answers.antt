@@ -1,7 +1,7 @@
 use Rattle.std.proofs.Common.{◌≡◌, List, arith, length, subst}
 use Rattle.std.specs.List.{AllByRecursion}
 use Rattle.std.proofs.lemmas.List.Elements.{recursion_from_All}
-use Rattle.hsp_groups.specs.Groups.{Group}
+use Rattle.hsp_prices.specs.Groups.{Group}
 use Rattle.hsp_price_plan.specs.Solving.{HasArcsWithin, HasFewArcs}
 use Rattle.hsp_plan_tests.proofs.Fillings.{groups_fit}
 use Rattle.hsp_plan_tests.proofs.network_tests.network_once.Goals as goal

@@ -1,7 +1,7 @@
 use Rattle.std.proofs.Common.{◌≡◌, ◌+◌, ◌<◌, ℕ, inl, inr, length, length-set, slice_index, arith}
 use Rattle.std.proofs.lemmas.List.Elements.{All-head, All-tail}
 use Rattle.std.specs.List.{zip}
-use Rattle.hsp_classes.specs.Sums.{class_load}
+use Rattle.hsp_prices.specs.Sums.{class_load}
 use Rattle.hsp_price_check.specs.Passed.{capped}
 use Rattle.hsp_price_check.proofs.ClassSums.{all_added, brought, load_step, set_small}
 use Rattle.hsp_price_check.proofs.class_costs.add_class.Goals as goal

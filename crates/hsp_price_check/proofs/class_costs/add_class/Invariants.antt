@@ -1,6 +1,6 @@
 use Rattle.std.proofs.Common.{◌≡◌, ◌+◌, ◌<◌, ◌^◌, ℕ, length, slice_index, sum_by, All}
 use Rattle.std.specs.List.{zip}
-use Rattle.hsp_classes.specs.Sums.{class_load}
+use Rattle.hsp_prices.specs.Sums.{class_load}
 use Rattle.hsp_price_check.specs.Passed.{capped}
 use Rattle.hsp_price_check.proofs.ClassSums.{brought}
 use Rattle.hsp_price_check.proofs.class_costs.add_class.Given as goal

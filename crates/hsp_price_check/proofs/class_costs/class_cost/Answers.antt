@@ -1,6 +1,6 @@
 use Rattle.std.proofs.Common.{◌≡◌, ◌*◌, ◌∙◌, ℕ, ap, ap₂, inl, inr}
 use Rattle.std.specs.List.{zip}
-use Rattle.hsp_classes.specs.Sums.{class_cost, cost_at}
+use Rattle.hsp_prices.specs.Sums.{class_cost, cost_at}
 use Rattle.hsp_price_check.specs.Classes.{service_of}
 use Rattle.hsp_price_check.proofs.Capping.{term_added}
 use Rattle.hsp_price_check.proofs.ClassSums.{all_added}

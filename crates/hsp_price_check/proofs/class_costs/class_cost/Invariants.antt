@@ -1,6 +1,6 @@
 use Rattle.std.proofs.Common.{◌≡◌, ◌+◌, ◌*◌, ◌<◌, ◌^◌, ℕ, sum_by}
 use Rattle.std.specs.List.{zip}
-use Rattle.hsp_classes.specs.Sums.{class_cost, cost_at}
+use Rattle.hsp_prices.specs.Sums.{class_cost, cost_at}
 use Rattle.hsp_price_check.specs.Classes.{service_of}
 use Rattle.hsp_price_check.specs.Passed.{capped}
 use Rattle.hsp_price_check.proofs.class_costs.class_cost.Given as goal

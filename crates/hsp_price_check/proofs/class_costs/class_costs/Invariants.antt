@@ -1,5 +1,5 @@
 use Rattle.std.proofs.Common.{◌≡◌, sum_by, take}
-use Rattle.hsp_classes.specs.Sums.{class_cost}
+use Rattle.hsp_prices.specs.Sums.{class_cost}
 use Rattle.hsp_price_check.specs.Classes.{service_of}
 use Rattle.hsp_price_check.specs.Passed.{capped}
 use Rattle.hsp_price_check.proofs.class_costs.class_costs.Given as goal

@@ -1,5 +1,5 @@
 use Rattle.std.proofs.Common.{◌≡◌, ◌<◌, ℕ, length, slice_index, sum_by, take}
-use Rattle.hsp_classes.specs.Sums.{class_load}
+use Rattle.hsp_prices.specs.Sums.{class_load}
 use Rattle.hsp_price_check.specs.Passed.{capped}
 use Rattle.hsp_price_check.proofs.class_costs.class_loads.Given as goal
 

@@ -1,6 +1,6 @@
 use Rattle.std.proofs.Common.{◌≡◌, ◌∙◌, ap, get_or, subst}
 use Rattle.hsp_price_text.specs.Claim.{Class}
-use Rattle.hsp_tally.specs.FirstRows.{HasAdded}
+use Rattle.hsp_price_check.specs.FirstRows.{HasAdded}
 use Rattle.hsp_price_check.proofs.ClassPlaces.{one_class}
 use Rattle.hsp_price_check.proofs.finding.class_numbers.Goals as goal
 

@@ -1,7 +1,7 @@
 use Rattle.std.proofs.Common.{◌≡◌, ◌∙◌, ◌≤◌, ◌+◌, ◌++◌, ◌∷◌, [], List, ℕ, ap, arith, get_or, length, min}
 use Rattle.std.proofs.lemmas.List.{length_push}
 use Rattle.hsp_price_text.specs.Claim.{Class}
-use Rattle.hsp_classes.specs.Sums.{sends}
+use Rattle.hsp_prices.specs.Sums.{sends}
 use Rattle.hsp_price_dispatch.proofs.FirstCells.{cell_pushed, next_cell, sends_many}
 use Rattle.hsp_price_dispatch.proofs.cells.first_cells.Goals as goal
 

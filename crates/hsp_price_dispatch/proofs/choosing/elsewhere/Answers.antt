@@ -1,6 +1,6 @@
 use Rattle.std.proofs.Common.{◌∙◌, ap, ap₂, filter, length, sym}
 use Rattle.std.proofs.lemmas.Result.{IfOk-weaker}
-use Rattle.hsp_classes.specs.Least.{least_arcs}
+use Rattle.hsp_prices.specs.Least.{least_arcs}
 use Rattle.hsp_price_check.specs.Extras.{pay_by}
 use Rattle.hsp_price_dispatch.specs.Choosing.{at_first, diverted}
 use Rattle.hsp_price_dispatch.specs.Holding.{has_room, is_free}

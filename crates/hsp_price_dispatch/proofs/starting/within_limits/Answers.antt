@@ -4,7 +4,7 @@ use Rattle.std.proofs.lemmas.List.{length-map}
 use Rattle.hsp_tables.specs.Costs.{CostEntry}
 use Rattle.hsp_instance.specs.Instance.{Server}
 use Rattle.hsp_check.specs.Lists.{AreHosted, AreWithin}
-use Rattle.hsp_classes.specs.Shown.{IsService}
+use Rattle.hsp_prices.specs.Shown.{IsService}
 use Rattle.hsp_price_check.specs.Classes.{AreClassLoads, service_of}
 use Rattle.hsp_price_dispatch.proofs.Starts.{host_loads_are, hosts_many, loads_are, loads_small}
 use Rattle.hsp_price_dispatch.proofs.Starts.{meets_loads, servers_many}

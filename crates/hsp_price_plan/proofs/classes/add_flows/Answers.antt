@@ -1,7 +1,7 @@
 use Rattle.std.proofs.Common.{◌≢◌, ◌+◌, ◌<◌, ◌∙◌, inl, inr, ap₂, arith, length, slice_index}
 use Rattle.std.proofs.Common.{get_or-set_other, get_or-set_same, length-set}
 use Rattle.std.proofs.lemmas.Bool.{cases_eq}
-use Rattle.hsp_groups.specs.Solved.{flow_to}
+use Rattle.hsp_prices.specs.Solved.{flow_to}
 use Rattle.hsp_price_plan.proofs.ClassTurns.{all_added}
 use Rattle.hsp_price_plan.proofs.SentFlows.{to_within}
 use Rattle.hsp_price_plan.proofs.classes.add_flows.Goals as goal

@@ -1,5 +1,5 @@
 use Rattle.std.proofs.Common.{◌≡◌, ◌+◌, ◌<◌, ◌≤◌, ℕ, length, slice_index}
-use Rattle.hsp_groups.specs.Solved.{flow_to}
+use Rattle.hsp_prices.specs.Solved.{flow_to}
 use Rattle.hsp_price_plan.proofs.classes.add_flows.Given as goal
 
 -- the flows are added at the places so far

@@ -4,8 +4,8 @@ use Rattle.std.specs.BTreeMap.{BTreeMap, insert_entry}
 use Rattle.std.specs.declared.alloc.Global.{Global}
 use Rattle.std.specs.Vec.{with_items}
 use Rattle.std.proofs.lemmas.List.{length-map, with_items_is}
-use Rattle.hsp_groups.specs.Groups.{Group}
-use Rattle.hsp_groups.specs.Solved.{flow_to}
+use Rattle.hsp_prices.specs.Groups.{Group}
+use Rattle.hsp_prices.specs.Solved.{flow_to}
 use Rattle.hsp_price_plan.specs.ClassSums.{AddsFlow, Entries, added, amounts_with, key_cmp}
 use Rattle.hsp_price_plan.specs.declared.classes.ClassKey.{ClassKey}
 use Rattle.hsp_price_plan.proofs.ClassEntries.{added_zeros, amounts_found, insert_adds, set_adds}

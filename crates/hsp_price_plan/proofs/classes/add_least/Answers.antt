@@ -2,9 +2,9 @@ use Rattle.std.proofs.Common.{◌≡◌, ◌∙◌, List, ℕ, ap, sym, arith, l
 use Rattle.std.proofs.lemmas.List.{length-map}
 use Rattle.std.proofs.lemmas.Result.{on_ok_weaker}
 use Rattle.hsp_instance.specs.declared.arc.Arc.{Arc}
-use Rattle.hsp_classes.specs.Least.{servers_of}
-use Rattle.hsp_groups.specs.Groups.{Group}
-use Rattle.hsp_groups.specs.Solved.{least_servers_by}
+use Rattle.hsp_prices.specs.Least.{servers_of}
+use Rattle.hsp_prices.specs.Groups.{Group}
+use Rattle.hsp_prices.specs.Solved.{least_servers_by}
 use Rattle.hsp_price_plan.proofs.ClassSteps.{has_room, sums_more, sums_skipped}
 use Rattle.hsp_price_plan.proofs.classes.add_least.Goals as goal
 

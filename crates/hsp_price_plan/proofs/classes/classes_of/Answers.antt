@@ -2,7 +2,7 @@ use Rattle.std.proofs.Common.{◌≡◌, List, subst, sym, true}
 use Rattle.hsp_cert.specs.Certificate.{ascends}
 use Rattle.hsp_price_text.specs.Claim.{Class, is_before}
 use Rattle.hsp_price_check.specs.Extras.{pay_by}
-use Rattle.hsp_groups.specs.Solved.{AreClassesBy}
+use Rattle.hsp_prices.specs.Solved.{AreClassesBy}
 use Rattle.hsp_price_plan.proofs.ClassesShown.{are_classes, are_in_order, if_both_ok}
 use Rattle.hsp_price_plan.proofs.classes.classes_of.Goals as goal
 

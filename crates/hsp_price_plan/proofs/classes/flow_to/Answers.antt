@@ -1,5 +1,5 @@
 use Rattle.std.proofs.Common.{inl, inr, arith}
-use Rattle.hsp_groups.specs.Solved.{flow_to}
+use Rattle.hsp_prices.specs.Solved.{flow_to}
 use Rattle.hsp_price_plan.proofs.ClassTurns.{all_summed, fits_next}
 use Rattle.hsp_price_plan.proofs.SentFlows.{to_within}
 use Rattle.hsp_price_plan.proofs.classes.flow_to.Goals as goal

@@ -2,7 +2,7 @@ use Rattle.std.proofs.Common.{◌≡◌, ◌+◌, ◌==◌, ℕ, sum_by}
 use Rattle.std.specs.Prelude.{if◌then◌else◌}
 use Rattle.std.specs.List.{zip}
 use Rattle.hsp_instance.specs.declared.arc.Arc.{Arc}
-use Rattle.hsp_groups.specs.Solved.{flow_to}
+use Rattle.hsp_prices.specs.Solved.{flow_to}
 use Rattle.hsp_price_plan.proofs.classes.flow_to.Given as goal
 
 -- the sum so far and what the arcs that are left bring

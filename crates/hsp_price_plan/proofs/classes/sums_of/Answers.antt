@@ -1,6 +1,6 @@
 use Rattle.std.proofs.Common.{◌≡◌, ◌∙◌, List, ℕ, take, ap, sym, subst, arith, length}
-use Rattle.hsp_classes.specs.Least.{least_arcs}
-use Rattle.hsp_groups.specs.Groups.{Group}
+use Rattle.hsp_prices.specs.Least.{least_arcs}
+use Rattle.hsp_prices.specs.Groups.{Group}
 use Rattle.hsp_price_check.specs.Extras.{pay_by}
 use Rattle.hsp_price_plan.specs.ClassSums.{AreSums, sent_of}
 use Rattle.hsp_price_plan.proofs.SentFlows.{next_begin, next_room, next_sent}

@@ -2,7 +2,7 @@ use Rattle.std.proofs.Common.{◌∙◌, ◌++◌, ◌∷◌, [], List, map, ap,
 use Rattle.hsp_instance.specs.declared.arc.Arc.{Arc}
 use Rattle.hsp_check.specs.declared.arc.NetworkArc.{NetworkArc}
 use Rattle.hsp_check.specs.Instance.{arc_of}
-use Rattle.hsp_groups.specs.Groups.{Group}
+use Rattle.hsp_prices.specs.Groups.{Group}
 use Rattle.hsp_price_plan.proofs.ColumnSteps.{column_more, demands_more}
 use Rattle.hsp_price_plan.proofs.columns.columns_of.Goals as goal
 

@@ -1,6 +1,6 @@
 use Rattle.std.proofs.Common.{◌≡◌, ◌+◌, ◌-◌, ◌∙◌, List, ℕ, take, take_all, drop, ap, ap₂, sym, length}
 use Rattle.hsp_instance.specs.declared.arc.Arc.{Arc}
-use Rattle.hsp_groups.specs.Groups.{Group}
+use Rattle.hsp_prices.specs.Groups.{Group}
 use Rattle.hsp_price_check.specs.Passed.{capped}
 use Rattle.hsp_price_plan.specs.ClassSums.{sent_of}
 use Rattle.hsp_price_plan.specs.PlanOfGroups.{arcs_cost}

@@ -1,7 +1,7 @@
 use Rattle.std.proofs.Common.{◌∙◌, ap, arith, filter, get_or, map, sym, take_all}
 use Rattle.std.proofs.lemmas.Bool.{le-leb, lt-leb}
 use Rattle.std.proofs.lemmas.List.{append-nil}
-use Rattle.hsp_groups.specs.Rows.{KeptArc}
+use Rattle.hsp_prices.specs.KeptRows.{KeptArc}
 use Rattle.hsp_price_plan.specs.Entries.{arcs_by}
 use Rattle.hsp_price_plan.specs.declared.entries.TheConstants.{KEPT}
 use Rattle.hsp_price_plan.proofs.ArcEntries.{length-arcs_by, no_site}

@@ -1,5 +1,5 @@
 use Rattle.std.proofs.Common.{◌≡◌, filter, map, take}
-use Rattle.hsp_groups.specs.Rows.{KeptArc}
+use Rattle.hsp_prices.specs.KeptRows.{KeptArc}
 use Rattle.hsp_price_plan.specs.Entries.{arcs_by}
 use Rattle.hsp_price_plan.proofs.entries.fill_kept.Given as goal
 

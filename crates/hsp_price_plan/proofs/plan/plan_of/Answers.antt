@@ -1,5 +1,5 @@
 use Rattle.std.proofs.Common.{◌≡◌, ◌∙◌, arith, sum, List, ℕ, ap, length, refl}
-use Rattle.hsp_groups.specs.Solved.{AreClassesBy, cost_of}
+use Rattle.hsp_prices.specs.Solved.{AreClassesBy, cost_of}
 use Rattle.hsp_price_check.specs.Extras.{AreExtras, pay_by}
 use Rattle.hsp_price_check.specs.Passed.{capped}
 use Rattle.hsp_price_plan.specs.PlanOfGroups.{IsPlanFor, IsPlanPast}

@@ -1,7 +1,7 @@
 use Rattle.std.proofs.Common.{◌≡◌, ◌∙◌, IfSome, arith, List, ℕ, ap, length, map, subst, sym}
 use Rattle.hsp_price_plan.specs.PlanOfGroups.{IsPlanFor, IsPlanPast}
 use Rattle.hsp_check.specs.Prices.{ArePrices}
-use Rattle.hsp_groups.specs.Rows.{with_least}
+use Rattle.hsp_prices.specs.KeptRows.{with_least}
 use Rattle.hsp_price_plan.specs.Held.{AreWithin, HeldRows}
 use Rattle.hsp_price_plan.proofs.StillRows.{least_leaves}
 use Rattle.hsp_price_check.specs.Extras.{AreExtras, pay_by}

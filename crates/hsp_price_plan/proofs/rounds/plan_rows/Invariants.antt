@@ -1,4 +1,4 @@
-use Rattle.hsp_groups.specs.Rows.{loose_of}
+use Rattle.hsp_prices.specs.KeptRows.{loose_of}
 use Rattle.hsp_price_plan.specs.Planning.{Outlasts}
 use Rattle.hsp_price_plan.proofs.rounds.plan_rows.Given as goal
 

@@ -1,7 +1,7 @@
 use Rattle.std.proofs.Common.{◌∙◌, Bool, List, ap, arith, inr, length, refl, subst, sym}
 use Rattle.std.specs.List.{AllByRecursion}
 use Rattle.hsp_network.specs.Answer.{Answers, IsShortSet}
-use Rattle.hsp_groups.specs.Groups.{Group}
+use Rattle.hsp_prices.specs.Groups.{Group}
 use Rattle.hsp_price_plan.specs.Solving.{HasArcsWithin, HasFewArcs, group_network}
 use Rattle.hsp_price_plan.proofs.HeldRows.{groups_few, groups_within, many_rows, rows_within}
 use Rattle.hsp_price_plan.proofs.rounds.round.Goals as goal

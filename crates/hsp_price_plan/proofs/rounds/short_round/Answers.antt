@@ -1,6 +1,6 @@
 use Rattle.std.proofs.Common.{◌≡◌, ◌∙◌, All, Bool, IfSome, List, ap, arith, length, map, subst, sym}
 use Rattle.hsp_transport.specs.Lists.{flag_at}
-use Rattle.hsp_groups.specs.Rows.{with_leaving}
+use Rattle.hsp_prices.specs.KeptRows.{with_leaving}
 use Rattle.hsp_price_plan.specs.Held.{AreWithin, HeldRows}
 use Rattle.hsp_price_plan.proofs.StillRows.{leaving_leaves}
 use Rattle.hsp_price_plan.specs.Shortage.{IsShortageFor, IsShortagePast}

@@ -3,8 +3,8 @@ use Rattle.std.proofs.Common.{◌≡◌, ◌∙◌, ◌+◌, ◌<◌, ◌∷◌,
 use Rattle.std.proofs.lemmas.List.{take_more}
 use Rattle.std.proofs.lemmas.List.Sums.{sum_by_more, sum_by_more_le}
 use Rattle.hsp_instance.proofs.Lists.{take_whole}
-use Rattle.hsp_groups.specs.Groups.{AreGroupsOf}
-use Rattle.hsp_groups.specs.Rows.{KeptRow}
+use Rattle.hsp_prices.specs.Groups.{AreGroupsOf}
+use Rattle.hsp_prices.specs.KeptRows.{KeptRow}
 use Rattle.hsp_price_plan.specs.Held.{no_row, row_at}
 use Rattle.hsp_price_plan.specs.Grouping.{AreArcsBy, IsGrouping, IsOfRow, asked_in}
 use Rattle.hsp_price_plan.proofs.OwnArcs.{services_give}

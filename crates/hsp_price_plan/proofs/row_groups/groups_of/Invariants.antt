@@ -1,6 +1,6 @@
 use Rattle.std.proofs.Common.{◌≡◌, ◌≤◌, ℕ, All, List, length, take}
 use Rattle.hsp_instance.specs.declared.arc.Arc.{Arc}
-use Rattle.hsp_groups.specs.Rows.{KeptRow, kept_in}
+use Rattle.hsp_prices.specs.KeptRows.{KeptRow, kept_in}
 use Rattle.hsp_price_plan.specs.Grouping.{AreArcsBy, IsGrouping, asked_in, demand_of}
 use Rattle.hsp_price_plan.proofs.row_groups.groups_of.Given as goal
 

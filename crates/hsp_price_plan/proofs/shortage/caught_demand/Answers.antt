@@ -3,7 +3,7 @@ use Rattle.std.specs.List.{list_all}
 use Rattle.hsp_transport.specs.Lists.{flag_at}
 use Rattle.hsp_transport.proofs.Rowwise.{when}
 use Rattle.hsp_instance.specs.declared.arc.Arc.{Arc}
-use Rattle.hsp_groups.specs.Groups.{Group}
+use Rattle.hsp_prices.specs.Groups.{Group}
 use Rattle.hsp_price_plan.specs.Shortage.{is_caught}
 use Rattle.hsp_price_plan.proofs.CaughtDemand.{caught_more, caught_room}
 use Rattle.hsp_price_plan.proofs.shortage.caught_demand.Goals as goal

@@ -5,8 +5,8 @@ use Rattle.std.specs.List.{list_any}
 use Rattle.std.proofs.lemmas.List.{with_items_is}
 use Rattle.hsp_transport.specs.Lists.{flag_at}
 use Rattle.hsp_instance.specs.declared.arc.Arc.{Arc}
-use Rattle.hsp_groups.specs.Groups.{Group}
-use Rattle.hsp_groups.proofs.ShortArcs.{leads, reaches_is}
+use Rattle.hsp_prices.specs.Groups.{Group}
+use Rattle.hsp_prices.proofs.ShortArcs.{leads, reaches_is}
 use Rattle.hsp_price_plan.specs.Grouping.{no_group}
 use Rattle.hsp_price_plan.specs.Columns.{arcs_of_groups}
 use Rattle.hsp_price_plan.proofs.ReachedServers.{flagged_more, some_to, unflagged_more}

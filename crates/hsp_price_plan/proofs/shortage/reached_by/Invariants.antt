@@ -1,7 +1,7 @@
 use Rattle.std.proofs.Common.{◌≡◌, ℕ, length, take}
 use Rattle.std.specs.List.{list_any}
 use Rattle.hsp_transport.specs.Lists.{flag_at}
-use Rattle.hsp_groups.proofs.ShortArcs.{leads}
+use Rattle.hsp_prices.proofs.ShortArcs.{leads}
 use Rattle.hsp_price_plan.specs.Columns.{arcs_of_groups}
 use Rattle.hsp_price_plan.proofs.shortage.reached_by.Given as goal
 

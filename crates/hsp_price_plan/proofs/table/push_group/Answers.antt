@@ -1,9 +1,9 @@
 -- No group has the key, so the number is that of the new one.
 use Rattle.std.proofs.Common.{◌≡◌, ◌∙◌, ◌∷◌, ◌++◌, [], false, ap, is_some, length, subst, sym, arith}
 use Rattle.std.specs.Map.{lookup}
-use Rattle.hsp_classes.specs.Least.{servers_of}
-use Rattle.hsp_tally.specs.FirstRows.{HasAdded, is_key_of}
-use Rattle.hsp_tally.proofs.FirstOfKinds.{is_added_as}
+use Rattle.hsp_prices.specs.Least.{servers_of}
+use Rattle.hsp_price_check.specs.FirstRows.{HasAdded, is_key_of}
+use Rattle.hsp_price_check.proofs.FirstOfKinds.{is_added_as}
 use Rattle.hsp_price_plan.specs.Grouping.{HasGroups}
 use Rattle.hsp_price_plan.proofs.Finding.{one_group}
 use Rattle.hsp_price_plan.proofs.table.push_group.Goals as goal

@@ -2,7 +2,7 @@ use Rattle.std.proofs.Common.{◌≡◌, ◌∙◌, [], length, ap, slice_index,
 use Rattle.hsp_text.proofs.Lists.{three_pieces}
 use Rattle.hsp_price_text.specs.Claim.{Best}
 use Rattle.hsp_price_text.specs.declared.certificate.PriceCertificate.TheVariants.{Plan}
-use Rattle.hsp_classes.specs.declared.verdict.PriceReason.TheVariants.{Shape}
+use Rattle.hsp_prices.specs.declared.verdict.PriceReason.TheVariants.{Shape}
 use Rattle.hsp_price_check.specs.Classes.{service_of}
 use Rattle.hsp_price_check.specs.Passed.{AreLoadsOf}
 use Rattle.hsp_report.specs.LoadReport.{server_line}

@@ -1,6 +1,6 @@
 use Rattle.std.proofs.Common.{◌≡◌, ◌-◌, ◌^◌}
 use Rattle.hsp_csv.specs.Records.{IsReading}
-use Rattle.hsp_tally.specs.Tally.{IsWhole}
+use Rattle.hsp_price_check.specs.Tally.{IsWhole}
 use Rattle.hsp_stream.proofs.KindsReading.{ReadSoFar}
 use Rattle.hsp_stream.proofs.kinds_log.count_rows.Given as goal
 

@@ -1,6 +1,6 @@
 use Rattle.std.proofs.Common.{◌∙◌, ap, subst, sym, refl}
 use Rattle.std.proofs.lemmas.Result.{IfOk-weaker}
-use Rattle.hsp_classes.specs.Sums.{row_cost}
+use Rattle.hsp_prices.specs.Sums.{row_cost}
 use Rattle.hsp_price_check.specs.Checking.{IsJudge, judged_plan}
 use Rattle.hsp_price_check.specs.Regions.{cost_by}
 use Rattle.hsp_price_check.specs.declared.checking.Judge.TheVariants.{Plan, Set}

@@ -9,9 +9,9 @@ use Rattle.hsp_instance.specs.Instance.{Row, Site, regions_of}
 use Rattle.hsp_instance.specs.RowArcs.{IsWithin, row_named, with_region}
 use Rattle.hsp_instance.specs.declared.arc.Arc.{Arc}
 use Rattle.hsp_instance.proofs.ArcsWithin.{arcs_within}
-use Rattle.hsp_tally.proofs.KindCounts.{few_regions, region_added}
-use Rattle.hsp_kinds.specs.Rows.{Service}
-use Rattle.hsp_classes.specs.Least.{arcs_of}
+use Rattle.hsp_price_check.proofs.KindCounts.{few_regions, region_added}
+use Rattle.hsp_prices.specs.Rows.{Service}
+use Rattle.hsp_prices.specs.Least.{arcs_of}
 use Rattle.hsp_price_text.specs.declared.certificate.PriceCertificate.{PriceCertificate}
 use Rattle.hsp_price_check.specs.Checking.{IsPassed, judged_plan}
 use Rattle.hsp_price_check.specs.PlanPass.{IsOfRow}

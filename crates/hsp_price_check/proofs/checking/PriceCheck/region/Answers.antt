@@ -3,7 +3,7 @@ use Rattle.std.proofs.lemmas.List.{get_or_default}
 use Rattle.std.specs.List.{slice_get}
 use Rattle.hsp_instance.specs.Instance.{regions_of}
 use Rattle.hsp_price_text.specs.declared.certificate.PriceCertificate.TheVariants.{Plan}
-use Rattle.hsp_classes.specs.Sums.{row_cost}
+use Rattle.hsp_prices.specs.Sums.{row_cost}
 use Rattle.hsp_price_check.specs.Passed.{capped}
 use Rattle.hsp_price_check.specs.Regions.{classes_sum, cost_by, no_sums, rows_sum}
 use Rattle.hsp_price_check.proofs.Capping.{kept_more}

@@ -1,8 +1,8 @@
 -- The row goes where its region and its least arcs say, which is counted, and its count is added there.
 use Rattle.std.proofs.Common.{◌∙◌, List, ℕ, ap, refl, subst, sym}
-use Rattle.hsp_classes.specs.Least.{least_arcs}
+use Rattle.hsp_prices.specs.Least.{least_arcs}
 use Rattle.hsp_instance.specs.Instance.{Row}
-use Rattle.hsp_kinds.specs.Rows.{Service}
+use Rattle.hsp_prices.specs.Rows.{Service}
 use Rattle.hsp_price_text.specs.Claim.{Best}
 use Rattle.hsp_price_check.specs.Extras.{pay_by}
 use Rattle.hsp_price_check.specs.Passed.{IsAdded, IsPlaceOf, spent}

@@ -2,8 +2,8 @@ use Rattle.std.proofs.Common.{◌≡◌, ◌∙◌, ap, sym, arith}
 use Rattle.hsp_price_text.specs.Claim.{Best}
 use Rattle.std.proofs.lemmas.Bool.{true≢false}
 use Rattle.hsp_check.specs.Lists.{AreIdle, AreWithin}
-use Rattle.hsp_classes.specs.Verdict.{PlanMeets}
-use Rattle.hsp_classes.specs.declared.verdict.PriceReason.TheVariants.{Cost, Load}
+use Rattle.hsp_prices.specs.Verdict.{PlanMeets}
+use Rattle.hsp_prices.specs.declared.verdict.PriceReason.TheVariants.{Cost, Load}
 use Rattle.hsp_price_check.proofs.InOrder.{all, of_loads}
 use Rattle.hsp_price_check.proofs.Judging.{cost_met, idle_hosts, idle_servers, meets_cost, meets_idle, meets_loads}
 use Rattle.hsp_price_check.proofs.Judging.{within_hosts}

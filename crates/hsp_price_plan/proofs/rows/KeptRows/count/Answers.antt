@@ -1,6 +1,6 @@
 use Rattle.std.proofs.Common.{◌<◌, ◌∙◌, ap, arith, length, sym}
 use Rattle.std.proofs.lemmas.List.{get_or_read}
-use Rattle.hsp_groups.specs.Rows.{KeptRow}
+use Rattle.hsp_prices.specs.KeptRows.{KeptRow}
 use Rattle.hsp_price_plan.specs.Held.{HeldRows, no_row, row_at}
 use Rattle.hsp_price_plan.proofs.RowPlaces.{get_or-rows_by, length-rows_by}
 use Rattle.hsp_price_plan.proofs.rows.KeptRows.count.Goals as goal

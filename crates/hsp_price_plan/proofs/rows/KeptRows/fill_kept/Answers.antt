@@ -3,7 +3,7 @@ use Rattle.std.proofs.Common.{take}
 use Rattle.std.proofs.lemmas.List.{get_or_read}
 use Rattle.std.proofs.lemmas.Result.{IfOk-equal}
 use Rattle.hsp_instance.specs.declared.arc.Arc.{Arc}
-use Rattle.hsp_groups.specs.Rows.{KeptArc, KeptRow, kept_in}
+use Rattle.hsp_prices.specs.KeptRows.{KeptArc, KeptRow, kept_in}
 use Rattle.hsp_price_plan.specs.Entries.{arcs_by}
 use Rattle.hsp_price_plan.specs.Held.{HeldRows, no_row, row_at}
 use Rattle.hsp_price_plan.specs.Regions.{RegionArcs}

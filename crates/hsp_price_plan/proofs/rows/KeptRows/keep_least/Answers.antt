@@ -1,6 +1,6 @@
 use Rattle.std.proofs.Common.{◌≡◌, ◌<◌, ◌+◌, ◌*◌, ◌-◌, ◌∙◌, ap, arith, length}
 use Rattle.hsp_price_check.specs.Extras.{pay_by}
-use Rattle.hsp_groups.specs.Rows.{with_least}
+use Rattle.hsp_prices.specs.KeptRows.{with_least}
 use Rattle.hsp_price_plan.specs.Regions.{RegionArcs}
 use Rattle.hsp_price_plan.proofs.Passing.{held_with, number_below, passed_all, passed_next, passed_settled}
 use Rattle.hsp_price_plan.proofs.Passing.{region_by, region_read, within_next}

@@ -1,6 +1,6 @@
 use Rattle.std.proofs.Common.{◌≡◌}
 use Rattle.hsp_price_check.specs.Extras.{pay_by}
-use Rattle.hsp_groups.specs.Rows.{with_least}
+use Rattle.hsp_prices.specs.KeptRows.{with_least}
 use Rattle.hsp_price_plan.proofs.Passing.{ArePassed}
 use Rattle.hsp_price_plan.proofs.rows.KeptRows.keep_least.Given as goal
 

@@ -1,6 +1,6 @@
 use Rattle.std.proofs.Common.{◌≡◌}
 use Rattle.hsp_transport.specs.Lists.{flag_at}
-use Rattle.hsp_groups.specs.Rows.{with_leaving}
+use Rattle.hsp_prices.specs.KeptRows.{with_leaving}
 use Rattle.hsp_price_plan.proofs.Passing.{ArePassed}
 use Rattle.hsp_price_plan.proofs.rows.KeptRows.keep_leaving.Given as goal
 

@@ -1,6 +1,6 @@
 use Rattle.std.proofs.Common.{◌≡◌, ◌<◌, ◌∙◌, ap, arith, get_or, length}
 use Rattle.std.proofs.lemmas.List.{get_or_read}
-use Rattle.hsp_groups.specs.Rows.{KeptRow}
+use Rattle.hsp_prices.specs.KeptRows.{KeptRow}
 use Rattle.hsp_price_plan.specs.Held.{no_row}
 use Rattle.hsp_price_plan.proofs.Passing.{number_below}
 use Rattle.hsp_price_plan.proofs.RowPlaces.{get_or-rows_by, length-rows_by}

@@ -3,8 +3,8 @@ use Rattle.std.proofs.Common.{◌≡◌, ◌∙◌, ◌++◌, ◌∷◌, [], Som
 use Rattle.std.specs.Prelude.{position}
 use Rattle.std.proofs.lemmas.List.{with_items_is}
 use Rattle.std.proofs.lemmas.Result.{on_ok_weaker}
-use Rattle.hsp_classes.specs.Least.{servers_of}
-use Rattle.hsp_groups.specs.Groups.{Group}
+use Rattle.hsp_prices.specs.Least.{servers_of}
+use Rattle.hsp_prices.specs.Groups.{Group}
 use Rattle.hsp_price_plan.specs.Grouping.{is_keyed, with_count_at}
 use Rattle.hsp_price_plan.proofs.Finding.{with_found, with_none}
 use Rattle.hsp_price_plan.proofs.Joining.{grouped_as, with_group}

@@ -1,6 +1,6 @@
 use Rattle.std.proofs.Common.{◌≡◌, ◌∙◌, ◌<◌, length, None, Some, sym}
 use Rattle.hsp_dispatch.specs.Shares.{query}
-use Rattle.hsp_tally.specs.Finding.{row_found}
+use Rattle.hsp_price_check.specs.Finding.{row_found}
 use Rattle.hsp_stream.proofs.KindAnswers.{row_within, taken_so, unknown_so}
 use Rattle.hsp_stream.proofs.kind_dispatcher.KindDispatcher.answer.Goals as goal
 

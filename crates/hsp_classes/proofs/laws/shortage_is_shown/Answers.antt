@@ -1,5 +1,0 @@
-use Rattle.hsp_classes.proofs.Short.{shortage_is_shown}
-use Rattle.hsp_classes.proofs.laws.shortage_is_shown.Goals as goal
-
-pub returns : goal.returns
-returns c = shortage_is_shown

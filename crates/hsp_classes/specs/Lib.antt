@@ -1,4 +1,0 @@
-pub mod Least
-pub mod Sums
-pub mod Verdict
-pub mod Shown

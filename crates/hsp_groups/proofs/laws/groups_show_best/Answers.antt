@@ -1,5 +1,0 @@
-use Rattle.hsp_groups.proofs.GroupsBest.{groups_show_best}
-use Rattle.hsp_groups.proofs.laws.groups_show_best.Goals as goal
-
-pub returns : goal.returns
-returns c = groups_show_best

@@ -1,5 +1,0 @@
-use Rattle.hsp_groups.proofs.ShortShown.{groups_show_short}
-use Rattle.hsp_groups.proofs.laws.groups_show_short.Goals as goal
-
-pub returns : goal.returns
-returns c = groups_show_short

@@ -1,3 +1,0 @@
-pub mod KindCounts
-pub mod SeenMaps
-pub mod FirstOfKinds

@@ -1,6 +1,0 @@
--- Keys, without where they lie in memory.
-use Rattle.hsp_tally.specs.Keys.{KeyEntry}
-use Rattle.hsp_tally.specs.declared.keys.KindKey.{KindKey}
-
-abbrev pub key_in : KindKey → KeyEntry
-key_in key = record { region = key.region.items; places = key.places.items }
