@@ -1,5 +1,5 @@
 #!/usr/bin/env python3
-"""Writes the proofs of crates/hsp_hash_vectors: the 64 steps of MD5 over each text of its definitions, one by one.
+"""Writes the proofs of crates/hsp_format_tests: the 64 steps of MD5 over each text of its definitions, one by one.
 
     tools/gate/write_vectors.py            writes them
     tools/gate/write_vectors.py --check    fails where they are not what it writes
@@ -34,7 +34,7 @@ TEXTS = {
     "OneTwoThree": "123",
     "UpperA": "A",
 }
-CRATE = os.path.join(programs.TOP, "crates", "hsp_hash_vectors")
+CRATE = os.path.join(programs.TOP, "crates", "hsp_format_tests")
 SHIFTS = [it for four in ((7, 12, 17, 22), (5, 9, 14, 20), (4, 11, 16, 23), (6, 10, 15, 21)) for it in four * 4]
 CONSTANTS = [int(abs(math.sin(at + 1)) * 2**32) for at in range(64)]
 START = [0x67452301, 0xEFCDAB89, 0x98BADCFE, 0x10325476]
@@ -89,8 +89,8 @@ use Rattle.byteorder.specs.Endian.{{big_number}}
 use Rattle.hex.specs.Hex.{{encode_lower, encode_with}}
 use Rattle.md5.specs.Md5.{{md5, digest_bytes, hash_after, compress, rounds, block_words, add_state}}
 use Rattle.hsp_hash.specs.Place.{{absolute_value}}
-use Rattle.hsp_hash_vectors.specs.Vectors.{{HasDigest, HasValue}}
-use Rattle.hsp_hash_vectors.proofs.Steps.{{step}}
+use Rattle.hsp_format_tests.specs.Vectors.{{HasDigest, HasValue}}
+use Rattle.hsp_format_tests.proofs.Steps.{{step}}
 
 abbrev words : List ℕ
 words = {words}

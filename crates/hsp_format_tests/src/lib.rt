@@ -1,5 +1,5 @@
-// Tests of texts, names, hashes, records, tables and certificates: what each public call answers, and what no contract
-// says.
+// Tests of texts, names, hashes, records, tables, certificates and talks: what each public call answers, and what no
+// contract says. Test vectors of MD5 and of places of servers are theorems.
 #![tactic(auto)]
 
 #[cfg(test)]
@@ -7,7 +7,13 @@ mod cert_tests;
 #[cfg(test)]
 mod csv_tests;
 #[cfg(test)]
+mod fakes;
+#[cfg(test)]
 mod hash_tests;
+#[cfg(test)]
+mod held;
+pub mod known;
+mod laws;
 #[cfg(test)]
 mod names_tests;
 #[cfg(test)]
@@ -21,4 +27,8 @@ mod same;
 #[cfg(test)]
 mod tables_tests;
 #[cfg(test)]
+mod talk_tests;
+#[cfg(test)]
 mod text_tests;
+
+pub use laws::{part_vectors, standard_vectors};
