@@ -74,7 +74,7 @@ fn rows_that_keep_arcs_to_the_same_servers_are_one_group(rt: HostRuntime) {
 // Rows of two regions with the same arcs, one more of the first, and one of it without an arc.
 fn table_once(alloc: Global) -> Result<Vec<RowGroup>, AllocError> {
     let arcs = [arc(0, 0, 1), arc(1, 2, 10)];
-    let mut table = GroupTable::new(alloc);
+    let mut table = GroupTable::new(alloc, 7);
     table.add(alloc, b"r1", &arcs, 3)?;
     table.add(alloc, b"r2", &arcs, 5)?;
     table.add(alloc, b"r1", &arcs, 4)?;

@@ -72,7 +72,7 @@ fn are_small(groups: &[RowGroup]) -> bool
 fn groups_by(alloc: Global, first: u32) -> Result<Vec<RowGroup>, AllocError>
     ensures { IfOk result (λ groups. demand_in groups.items < 2 ^ 63) }
 {
-    let mut table = GroupTable::new(alloc);
+    let mut table = GroupTable::new(alloc, 7);
     table.add(
         alloc,
         b"r1",

@@ -15,6 +15,7 @@ pub(crate) struct Groups {
     costs: Vec<u64>,
     loads: Vec<u64>,
     slots: Vec<u32>,
+    key: u64,
 }
 
 // A slot of the table, and the group that has the key, where there is one.
@@ -24,9 +25,9 @@ struct Found {
     group: Option<usize>,
 }
 
-// A number by which groups are found.
-fn hash_of(region: u32, arcs: &[Arc]) -> u64 {
-    let mut hash = u64::from(region).wrapping_add(1);
+// A number by which groups are found, with a key.
+fn hash_of(key: u64, region: u32, arcs: &[Arc]) -> u64 {
+    let mut hash = mixed(key ^ u64::from(region));
     for arc in arcs {
         hash = mixed(hash ^ u64::from(arc.server).wrapping_add(65_536));
     }
@@ -49,8 +50,8 @@ fn lead_to(arcs: &[Arc], servers: &[u32]) -> bool {
 }
 
 impl Groups {
-    /// No groups over so many servers.
-    pub(crate) fn new(alloc: Global, servers: usize) -> Result<Groups, AllocError> {
+    /// No groups over so many servers, to be found by a hash with this key.
+    pub(crate) fn new(alloc: Global, servers: usize, key: u64) -> Result<Groups, AllocError> {
         Ok(Groups {
             regions: Vec::new(alloc),
             demands: Vec::new(alloc),
@@ -59,6 +60,7 @@ impl Groups {
             costs: Vec::new(alloc),
             loads: vec![in alloc; 0; servers]?,
             slots: vec![in alloc; 0; 65_536]?,
+            key,
         })
     }
 
@@ -96,7 +98,7 @@ impl Groups {
 
     // Where the group of a region and servers is, or may be put.
     fn find(&self, region: u32, arcs: &[Arc]) -> Found {
-        let mut slot = slot_of(hash_of(region, arcs), self.slots.len());
+        let mut slot = slot_of(hash_of(self.key, region, arcs), self.slots.len());
         for _ in 0..self.slots.len() {
             let number = get_or(&self.slots, slot, 0);
             if number == 0 {
@@ -170,7 +172,7 @@ impl Groups {
 
     // The hash of a group.
     fn hash(&self, group: usize) -> u64 {
-        let mut hash = u64::from(get_or(&self.regions, group, 0)).wrapping_add(1);
+        let mut hash = mixed(self.key ^ u64::from(get_or(&self.regions, group, 0)));
         for server in self.servers_of(group) {
             hash = mixed(hash ^ u64::from(*server).wrapping_add(65_536));
         }

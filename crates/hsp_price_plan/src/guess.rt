@@ -53,7 +53,7 @@ fn keep_least(numbers: &ServiceNumbers, rows: &mut KeptRows, extras: &[u64]) -> 
 
 // The groups of rows.
 fn groups_of(alloc: Global, rows: &KeptRows, servers: usize) -> Result<Groups, AllocError> {
-    let mut groups = Groups::new(alloc, servers)?;
+    let mut groups = Groups::new(alloc, servers, rows.key())?;
     let mut kept = Vec::new(alloc);
     for row in 0..rows.len() {
         rows.fill_kept(row, &mut kept)?;

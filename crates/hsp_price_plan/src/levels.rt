@@ -48,7 +48,7 @@ impl Guess {
 
 // The groups of a sample's rows.
 fn groups_of(alloc: Global, sample: &Sample, servers: usize) -> Result<Groups, AllocError> {
-    let mut groups = Groups::new(alloc, servers)?;
+    let mut groups = Groups::new(alloc, servers, sample.key())?;
     let mut kept = Vec::new(alloc);
     for row in 0..sample.len() {
         sample.fill_kept(row, &mut kept)?;

@@ -32,6 +32,7 @@ mod region;
 mod room;
 mod rounds;
 mod row_groups;
+mod row_hash;
 mod rows;
 mod sample;
 mod sampling;

@@ -25,7 +25,7 @@ pub fn groups_of(alloc: Global, rows: &KeptRows) -> Result<Vec<RowGroup>, AllocE
     ensures demand { IfOk result (λ groups. demand_of groups.items ≡ asked_in rows.now.rows) }
     ensures few { IfOk result (λ groups. length groups.items ≤ length rows.now.rows) }
 {
-    let mut table = GroupTable::new(alloc);
+    let mut table = GroupTable::new(alloc, rows.key());
     let mut kept = Vec::new(alloc);
     for row in 0..rows.len() {
         rows.fill_kept(row, &mut kept)?;

@@ -13,8 +13,10 @@ ghost use Rattle.hsp_price_plan.specs.Regions.{with_region};
 use crate::entries::{fill_arcs, fill_kept, push_entries};
 use crate::keeping::{keep_least, keep_leaving, keep_near};
 use crate::region::Region;
+use crate::row_hash::servers_number;
 use hsp_instance::Arc;
 use std::alloc::{AllocError, Global};
+use std::hash::{DefaultHasher, Hasher};
 use std::marker::Model;
 
 /// Rows of demand, each with its region, its count and an arc at each of some sites. Of the arcs some are kept.
@@ -28,6 +30,7 @@ pub struct KeptRows {
     row_regions: Vec<u8>,
     counts: Vec<u64>,
     places: Vec<u16>,
+    seen: DefaultHasher,
 }
 
 impl Model for KeptRows {
@@ -85,6 +88,7 @@ impl KeptRows {
             row_regions: Vec::new(alloc),
             counts: Vec::new(alloc),
             places: Vec::new(alloc),
+            seen: DefaultHasher::new(),
         }
     }
 
@@ -113,6 +117,7 @@ impl KeptRows {
         push_entries(&mut self.places, self.sites, arcs)?;
         self.row_regions.push(region as u8)?;
         self.counts.push(count)?;
+        self.seen.write_u64(servers_number(arcs));
         Ok(())
     }
 
@@ -122,6 +127,11 @@ impl KeptRows {
         ensures few { result ≤ 2 ^ 32 }
     {
         self.row_regions.len()
+    }
+
+    /// A number that the servers of all rows decide, in the order of the rows.
+    pub(crate) fn key(&self) -> u64 {
+        self.seen.finish()
     }
 
     /// The number of a row's region.

@@ -25,6 +25,7 @@ pub(crate) struct Sample {
     starts: Vec<u32>,
     servers: Vec<u16>,
     kept: Vec<u32>,
+    key: u64,
 }
 
 // A server as a row of a sample holds it.
@@ -37,8 +38,8 @@ fn short_number(server: u32) -> u16 {
 }
 
 impl Sample {
-    /// No rows.
-    pub(crate) fn new(alloc: Global) -> Result<Sample, AllocError> {
+    /// No rows, of a sample of rows with this key.
+    pub(crate) fn new(alloc: Global, key: u64) -> Result<Sample, AllocError> {
         Ok(Sample {
             costs: vec![in alloc; 0; MOST_REGIONS * MOST_SITES]?,
             regions: Vec::new(alloc),
@@ -46,7 +47,13 @@ impl Sample {
             starts: vec![in alloc; 0; 1]?,
             servers: Vec::new(alloc),
             kept: Vec::new(alloc),
+            key,
         })
+    }
+
+    /// A number that all rows decide of which it is a sample.
+    pub(crate) fn key(&self) -> u64 {
+        self.key
     }
 
     /// Adds a row, none of whose arcs is kept.

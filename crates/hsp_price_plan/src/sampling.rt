@@ -35,7 +35,7 @@ pub(crate) fn sample_of(
     want: u64,
 ) -> Result<Sample, AllocError> {
     let unit = total.checked_div(want).unwrap_or(0);
-    let mut sample = Sample::new(alloc)?;
+    let mut sample = Sample::new(alloc, rows.key())?;
     let mut arcs = Vec::new(alloc);
     for row in 0..rows.len() {
         let weight = weight_of(row, rows.count(row), unit);

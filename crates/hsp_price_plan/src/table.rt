@@ -11,6 +11,7 @@ ghost use Rattle.hsp_price_plan.specs.Grouping.{AreArcsBy, HasGroups, IsGrouping
 ghost use Rattle.hsp_price_plan.specs.Grouping.{with_count_at};
 
 use crate::group::RowGroup;
+use crate::row_hash::RowHash;
 use hsp_instance::Arc;
 use hsp_price_check::{KindKey, LentKind, fill_servers};
 use indexmap::IndexMap;
@@ -18,7 +19,7 @@ use std::alloc::{AllocError, Global};
 use std::marker::Model;
 
 // The number of the group of each region and servers.
-type GroupNumbers = IndexMap<KindKey, usize>;
+type GroupNumbers = IndexMap<KindKey, usize, RowHash>;
 
 // The number of the group of a region and servers, or None where there is none.
 fn find_group(numbers: &GroupNumbers, region: &[u8], servers: &[u32]) -> Option<usize>
@@ -80,14 +81,14 @@ impl Model for GroupTable {
 }
 
 impl GroupTable {
-    /// The groups of no rows.
-    pub fn new(alloc: Global) -> GroupTable
+    /// The groups of no rows. They are found by a hash with this key, and are the same by each.
+    pub fn new(alloc: Global, key: u64) -> GroupTable
         ensures groups { result ≡ [] }
         ensures grouped { (arc_by : List ℕ → ℕ → SpecArc) → IsGrouping arc_by [] result }
     {
         GroupTable {
             groups: Vec::new(alloc),
-            numbers: GroupNumbers::new(alloc),
+            numbers: GroupNumbers::with_hasher(alloc, RowHash::by(key)),
             servers: Vec::new(alloc),
         }
     }
