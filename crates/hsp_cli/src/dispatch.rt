@@ -18,16 +18,16 @@ use hsp_dispatch::{LogFault, LogSums};
 use hsp_runs::{Fault, Inputs, dispatch_run, fronts_run};
 use std::alloc::Global;
 
-/// What a log is answered by, and the log, of which nothing was read yet.
+// What a log is answered by, and the log, of which nothing was read yet.
 #[derive(Drop)]
-pub struct OpenLog<F: OpenFile> {
-    pub inputs: Inputs,
-    pub certificate: Vec<u8>,
-    pub log: F,
+struct OpenLog<F: OpenFile> {
+    inputs: Inputs,
+    certificate: Vec<u8>,
+    log: F,
 }
 
-/// Reads the files of the inputs and then that of the certificate, and opens that of the log.
-pub fn open_log<S: FileSource>(
+// Reads the files of the inputs and then that of the certificate, and opens that of the log.
+fn open_log<S: FileSource>(
     alloc: Global,
     files: &S,
     named: &InputFiles<'_>,

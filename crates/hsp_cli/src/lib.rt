@@ -15,7 +15,6 @@ mod words;
 
 pub use answer::{Answer, Completed, Ended};
 pub use commands::obey;
-pub use dispatch::{OpenLog, open_log};
 pub use ending::{end_with, last_line};
 pub use failure::{Failure, Unread};
 pub use files::{FileSource, OpenFile, read_whole};

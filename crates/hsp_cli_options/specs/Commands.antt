@@ -17,11 +17,6 @@ abbrev pub inputs : List Rule
 inputs = needed (codes "settings") ∷ option (codes "values") ∷ needed (codes "demand") ∷ needed (codes "costs")
     ∷ needed (codes "capacity") ∷ []
 
--- the files of the inputs of an answered log: those of a plan, or those of a certificate by prices
-abbrev pub answer_inputs : List Rule
-answer_inputs = needed (codes "settings") ∷ option (codes "values") ∷ option (codes "demand") ∷ needed (codes "costs")
-    ∷ needed (codes "capacity") ∷ []
-
 -- the files of the inputs of a certificate by prices, for which a log stands in place of the demand
 abbrev pub price_inputs : List Rule
 price_inputs = needed (codes "settings") ∷ option (codes "values") ∷ needed (codes "costs")
@@ -43,17 +38,12 @@ commands = (
 
 -- the same of hsplan-stream
 abbrev pub stream_commands : List (Text × List Rule)
-stream_commands = (
-  codes "kinds",
-  needed (codes "settings") ∷ option (codes "values") ∷ needed (codes "costs")
-      ∷ option (codes "unit") ∷ needed (codes "log") ∷ [],
-)
-    ∷ (codes "places", needed (codes "settings") ∷ option (codes "values") ∷ needed (codes "log") ∷ [])
+stream_commands = (codes "places", needed (codes "settings") ∷ option (codes "values") ∷ needed (codes "log") ∷ [])
     ∷ (codes "plan", price_inputs ++ needed (codes "log") ∷ [])
     ∷ (
       codes "answer",
-      answer_inputs ++ option (codes "plan") ∷ option (codes "prices") ∷ needed (codes "log") ∷ option (codes "unit")
-          ∷ option (codes "fronts") ∷ option (codes "front") ∷ [],
+      price_inputs ++ needed (codes "log") ∷ needed (codes "prices") ∷ option (codes "fronts")
+          ∷ option (codes "front") ∷ [],
     )
     ∷ (codes "check", price_inputs ++ needed (codes "log") ∷ needed (codes "prices") ∷ [])
     ∷ (

@@ -36,7 +36,6 @@ pub(crate) struct Subcommand<'a> {
 // --index N: index of the value
 // --kind load|region|shortage: what is shown
 // hsplan-stream --kind load|region: what is shown
-// --unit N: queries that count as one
 // --fronts N: number of fronts
 // --front N: number of this front, from 0
 
@@ -44,15 +43,6 @@ const INPUTS: [Argument<'static>; 5] = [
     Needed("settings"),
     Optional("values"),
     Needed("demand"),
-    Needed("costs"),
-    Needed("capacity"),
-];
-
-// The inputs of an answered log: those of a plan, or those of a certificate by prices.
-const ANSWER_INPUTS: [Argument<'static>; 5] = [
-    Needed("settings"),
-    Optional("values"),
-    Optional("demand"),
     Needed("costs"),
     Needed("capacity"),
 ];
@@ -106,12 +96,7 @@ pub(crate) const COMMANDS: [Subcommand<'static>; 6] = [
 ];
 
 /// The commands of `hsplan-stream`.
-pub(crate) const STREAM_COMMANDS: [Subcommand<'static>; 8] = [
-    Subcommand {
-        name: "kinds",
-        inputs: &[Needed("settings"), Optional("values"), Needed("costs")],
-        others: &[Optional("unit"), Needed("log")],
-    },
+pub(crate) const STREAM_COMMANDS: [Subcommand<'static>; 7] = [
     Subcommand {
         name: "places",
         inputs: &[Needed("settings"), Optional("values")],
@@ -124,12 +109,10 @@ pub(crate) const STREAM_COMMANDS: [Subcommand<'static>; 8] = [
     },
     Subcommand {
         name: "answer",
-        inputs: &ANSWER_INPUTS,
+        inputs: &PRICE_INPUTS,
         others: &[
-            Optional("plan"),
-            Optional("prices"),
             Needed("log"),
-            Optional("unit"),
+            Needed("prices"),
             Optional("fronts"),
             Optional("front"),
         ],

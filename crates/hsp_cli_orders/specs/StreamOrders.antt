@@ -5,7 +5,6 @@ use Rattle.std.specs.Prelude.{if◌then◌else◌}
 use Rattle.std.specs.Str.{bytes_eq}
 use Rattle.clap.specs.Words.{Row, Text, fault_of, first_of, subcommand_of}
 use Rattle.hsp_cli_options.specs.Commands.{stream_app}
-use Rattle.hsp_cli_orders.specs.Orders.{HasInputs}
 use Rattle.hsp_cli_orders.specs.declared.fault.CommandFault.{CommandFault}
 use Rattle.hsp_cli_orders.specs.declared.fault.CommandFault.TheVariants as fault
 use Rattle.hsp_cli_orders.specs.declared.stream_order.AskedPriceReport.{AskedPriceReport}
@@ -13,9 +12,7 @@ use Rattle.hsp_cli_orders.specs.declared.stream_order.AskedPriceReport.TheVarian
 use Rattle.hsp_cli_orders.specs.declared.stream_order.FaultsOf.{FaultsOf}
 use Rattle.hsp_cli_orders.specs.declared.stream_order.FaultsOf.TheVariants as of
 use Rattle.hsp_cli_orders.specs.declared.stream_order.FrontWords.{FrontWords}
-use Rattle.hsp_cli_orders.specs.declared.stream_order.KindFiles.{KindFiles}
 use Rattle.hsp_cli_orders.specs.declared.stream_order.PlaceFiles.{PlaceFiles}
-use Rattle.hsp_cli_orders.specs.declared.stream_order.PlanFiles.{PlanFiles}
 use Rattle.hsp_cli_orders.specs.declared.stream_order.PriceFiles.{PriceFiles}
 use Rattle.hsp_cli_orders.specs.declared.stream_order.ServiceFiles.{ServiceFiles}
 use Rattle.hsp_cli_orders.specs.declared.stream_order.SiteFiles.{SiteFiles}
@@ -45,13 +42,6 @@ HasFront rows None = (first_of (codes "fronts") rows ≡ None) × (first_of (cod
 HasFront rows (Some words) =
     (first_of (codes "fronts") rows ≡ Some words.fronts) × (first_of (codes "front") rows ≡ Some words.front)
 
--- a log, and what its rows are joined by
-pub record HasKindFiles (rows : List Row) (files : KindFiles) : Type 0 where
-  pub settings : first_of (codes "settings") rows ≡ Some files.settings
-  pub values : first_of (codes "values") rows ≡ files.values
-  pub costs : first_of (codes "costs") rows ≡ Some files.costs
-  pub log : first_of (codes "log") rows ≡ Some files.log
-
 -- what defines sites
 pub record HasSiteFiles (rows : List Row) (files : SiteFiles) : Type 0 where
   pub settings : first_of (codes "settings") rows ≡ Some files.settings
@@ -60,12 +50,6 @@ pub record HasSiteFiles (rows : List Row) (files : SiteFiles) : Type 0 where
 -- a log, and the sites at which its handles have places
 pub record HasPlaceFiles (rows : List Row) (files : PlaceFiles) : Type 0 where
   pub sites : HasSiteFiles rows files.sites
-  pub log : first_of (codes "log") rows ≡ Some files.log
-
--- a log, a certificate, and what that is checked by
-pub record HasPlanFiles (rows : List Row) (files : PlanFiles) : Type 0 where
-  pub inputs : HasInputs rows files.inputs
-  pub plan : first_of (codes "plan") rows ≡ Some files.plan
   pub log : first_of (codes "log") rows ≡ Some files.log
 
 -- a log, and the service that its queries are for
@@ -102,20 +86,14 @@ IsOnly of.Log file rows =
     × (first_of (codes "capacity") rows ≡ None) × (first_of (codes "log") rows ≡ Some file)
 
 -- the values of a subcommand are the order's; each has a value of its own, or none, so that words give one order at
--- most: `answer` goes by prices where these are given, and then neither the demand, nor a plan, nor a unit is
+-- most
 abbrev pub IsStreamOrderIn : StreamOrder → Text → List Row → Type 0
 IsStreamOrderIn order.Help name rows = ⊥
 IsStreamOrderIn order.Version name rows = ⊥
-IsStreamOrderIn (order.Kinds files unit) name rows =
-    (name ≡ codes "kinds") × HasKindFiles rows files × (first_of (codes "unit") rows ≡ unit)
 IsStreamOrderIn (order.Places files) name rows = (name ≡ codes "places") × HasPlaceFiles rows files
 IsStreamOrderIn (order.Plan files) name rows = (name ≡ codes "plan") × HasServiceFiles rows files
-IsStreamOrderIn (order.Answer files unit front) name rows =
-    (name ≡ codes "answer") × HasPlanFiles rows files × (first_of (codes "prices") rows ≡ None)
-    × (first_of (codes "unit") rows ≡ unit) × HasFront rows front
-IsStreamOrderIn (order.AnswerPrices files front) name rows =
-    (name ≡ codes "answer") × HasPriceFiles rows files × (first_of (codes "demand") rows ≡ None)
-    × (first_of (codes "plan") rows ≡ None) × (first_of (codes "unit") rows ≡ None) × HasFront rows front
+IsStreamOrderIn (order.Answer files front) name rows =
+    (name ≡ codes "answer") × HasPriceFiles rows files × HasFront rows front
 IsStreamOrderIn (order.Check files) name rows = (name ≡ codes "check") × HasPriceFiles rows files
 IsStreamOrderIn (order.Report files kind) name rows =
     (name ≡ codes "report") × HasPriceFiles rows files

@@ -12,8 +12,8 @@ pub use fault::CommandFault;
 pub use order::{AskedReport, InputFiles, Order, Word};
 pub use reading::read_command;
 pub use stream_order::{
-    AskedPriceReport, FaultsOf, FrontWords, KindFiles, PlaceFiles, PlanFiles, PriceFiles,
-    ServiceFiles, SiteFiles, StreamOrder,
+    AskedPriceReport, FaultsOf, FrontWords, PlaceFiles, PriceFiles, ServiceFiles, SiteFiles,
+    StreamOrder,
 };
 pub use stream_reading::read_stream_command;
 pub use words::split_words;

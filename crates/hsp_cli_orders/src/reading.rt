@@ -37,7 +37,7 @@ pub(crate) fn word_of<'a>(matches: &ArgMatches<'a>, name: &str) -> Option<Word<'
 }
 
 /// The names of the input files, or None where one is absent.
-pub(crate) fn inputs_of<'a>(matches: &ArgMatches<'a>) -> Option<InputFiles<'a>>
+fn inputs_of<'a>(matches: &ArgMatches<'a>) -> Option<InputFiles<'a>>
     ensures given { IfSome result
         (λ texts. HasInputs (rows_of (found_of matches.now)) texts) }
     ensures absent { IfNone result ((inputs : InputFiles)
@@ -53,7 +53,7 @@ pub(crate) fn inputs_of<'a>(matches: &ArgMatches<'a>) -> Option<InputFiles<'a>>
 }
 
 // Whether there is a value of this name.
-pub(crate) fn is_given(matches: &ArgMatches<'_>, name: &str) -> bool
+fn is_given(matches: &ArgMatches<'_>, name: &str) -> bool
     ensures given { result ≡ true
         → first_of name.now (rows_of (found_of matches.now)) ≡ None → ⊥ }
     ensures absent { result ≡ false

@@ -1,21 +1,12 @@
 // What `hsplan-stream` is asked to do.
 
-use crate::order::{InputFiles, Word};
+use crate::order::Word;
 
 /// The number of fronts, and the number of one of them: `--fronts N --front K`.
 #[derive(Drop)]
 pub struct FrontWords<'a> {
     pub fronts: Word<'a>,
     pub front: Word<'a>,
-}
-
-/// A log, and what its rows are joined by: `--settings F [--values F] --costs F --log F`.
-#[derive(Drop)]
-pub struct KindFiles<'a> {
-    pub settings: Word<'a>,
-    pub values: Option<Word<'a>>,
-    pub costs: Word<'a>,
-    pub log: Word<'a>,
 }
 
 /// What defines sites: `--settings F [--values F]`.
@@ -29,14 +20,6 @@ pub struct SiteFiles<'a> {
 #[derive(Drop)]
 pub struct PlaceFiles<'a> {
     pub sites: SiteFiles<'a>,
-    pub log: Word<'a>,
-}
-
-/// A log, a certificate, and what that is checked by: the files of the inputs with `--plan F --log F`.
-#[derive(Drop)]
-pub struct PlanFiles<'a> {
-    pub inputs: InputFiles<'a>,
-    pub plan: Word<'a>,
     pub log: Word<'a>,
 }
 
@@ -86,11 +69,6 @@ pub enum StreamOrder<'a> {
     Help,
     /// `--version`
     Version,
-    /// `kinds` with a log and what it is joined by, and `[--unit N]`
-    Kinds {
-        files: KindFiles<'a>,
-        unit: Option<Word<'a>>,
-    },
     /// `places` with a log and its sites
     Places {
         files: PlaceFiles<'a>,
@@ -99,14 +77,8 @@ pub enum StreamOrder<'a> {
     Plan {
         files: ServiceFiles<'a>,
     },
-    /// `answer` with a log, a certificate and what it is checked by, `[--unit N]` and `[--fronts N --front K]`
-    Answer {
-        files: PlanFiles<'a>,
-        unit: Option<Word<'a>>,
-        front: Option<FrontWords<'a>>,
-    },
     /// `answer` with a log, a certificate by prices and what it is checked by, and `[--fronts N --front K]`
-    AnswerPrices {
+    Answer {
         files: PriceFiles<'a>,
         front: Option<FrontWords<'a>>,
     },

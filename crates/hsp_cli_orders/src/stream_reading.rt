@@ -4,16 +4,14 @@ ghost use Rattle.std.specs.Prelude.{◌≡◌, [], IfNone, IfOk, IfSome, OnOk, E
 ghost use Rattle.std.specs.Prelude.{string_bytes};
 ghost use Rattle.clap.specs.Words.{fault_of, first_of, found_of, rows_of, subcommand_of};
 ghost use Rattle.hsp_cli_options.specs.Commands.{stream_app};
-ghost use Rattle.hsp_cli_orders.specs.StreamOrders.{HasFront, HasKindFiles, HasPlaceFiles, HasPlanFiles};
+ghost use Rattle.hsp_cli_orders.specs.StreamOrders.{HasFront, HasPlaceFiles};
 ghost use Rattle.hsp_cli_orders.specs.StreamOrders.{HasPriceFiles, HasServiceFiles, HasSiteFiles, IsStreamOrder};
 ghost use Rattle.hsp_cli_orders.specs.StreamOrders.{IsStreamOrderIn, IsStreamOrdered};
 ghost use Rattle.hsp_cli_orders.specs.StreamOrders.{IsStreamUsage, asked, is_help, is_version, price_report_word};
 ghost use Rattle.hsp_cli_orders.specs.declared.fault.CommandFault.TheVariants as fault;
 ghost use Rattle.hsp_cli_orders.specs.declared.stream_order.AskedPriceReport.{AskedPriceReport};
 ghost use Rattle.hsp_cli_orders.specs.declared.stream_order.FrontWords.{FrontWords};
-ghost use Rattle.hsp_cli_orders.specs.declared.stream_order.KindFiles.{KindFiles};
 ghost use Rattle.hsp_cli_orders.specs.declared.stream_order.PlaceFiles.{PlaceFiles};
-ghost use Rattle.hsp_cli_orders.specs.declared.stream_order.PlanFiles.{PlanFiles};
 ghost use Rattle.hsp_cli_orders.specs.declared.stream_order.PriceFiles.{PriceFiles};
 ghost use Rattle.hsp_cli_orders.specs.declared.stream_order.ServiceFiles.{ServiceFiles};
 ghost use Rattle.hsp_cli_orders.specs.declared.stream_order.SiteFiles.{SiteFiles};
@@ -21,10 +19,10 @@ ghost use Rattle.hsp_cli_orders.specs.declared.stream_order.StreamOrder.{StreamO
 ghost use Rattle.std.specs.Prelude.{Option};
 
 use crate::fault::CommandFault;
-use crate::reading::{command_fault, inputs_of, is_given, text_of, word_of};
+use crate::reading::{command_fault, text_of, word_of};
 use crate::stream_order::{
-    AskedPriceReport, FaultsOf, FrontWords, KindFiles, PlaceFiles, PlanFiles, PriceFiles,
-    ServiceFiles, SiteFiles, StreamOrder,
+    AskedPriceReport, FaultsOf, FrontWords, PlaceFiles, PriceFiles, ServiceFiles, SiteFiles,
+    StreamOrder,
 };
 use clap::ArgMatches;
 use hsp_cli_options::stream_command;
@@ -68,33 +66,6 @@ fn front_of<'a>(matches: &ArgMatches<'a>) -> Option<Option<FrontWords<'a>>>
     }
 }
 
-// The names of a log and of what it is joined by, or None where one is absent.
-fn kind_files_of<'a>(matches: &ArgMatches<'a>) -> Option<KindFiles<'a>>
-    ensures given { IfSome result
-        (λ files. HasKindFiles (rows_of (found_of matches.now)) files) }
-    ensures absent { IfNone result ((files : KindFiles)
-        → HasKindFiles (rows_of (found_of matches.now)) files → ⊥) }
-{
-    Some(KindFiles {
-        settings: word_of(matches, "settings")?,
-        values: word_of(matches, "values"),
-        costs: word_of(matches, "costs")?,
-        log: word_of(matches, "log")?,
-    })
-}
-
-fn kinds_of<'a>(matches: &ArgMatches<'a>) -> Option<StreamOrder<'a>>
-    ensures order { IfSome result (λ order.
-        IsStreamOrderIn order (codes "kinds") (rows_of (found_of matches.now))) }
-    ensures none { IfNone result ((order : StreamOrder)
-        → IsStreamOrderIn order (codes "kinds") (rows_of (found_of matches.now)) → ⊥) }
-{
-    Some(StreamOrder::Kinds {
-        files: kind_files_of(matches)?,
-        unit: word_of(matches, "unit"),
-    })
-}
-
 // The names of the files that define sites, or None where one is absent.
 fn site_files_of<'a>(matches: &ArgMatches<'a>) -> Option<SiteFiles<'a>>
     ensures given { IfSome result
@@ -129,20 +100,6 @@ fn places_of<'a>(matches: &ArgMatches<'a>) -> Option<StreamOrder<'a>>
 {
     Some(StreamOrder::Places {
         files: place_files_of(matches)?,
-    })
-}
-
-// The names of a log, of a certificate and of what that is checked by, or None where one is absent.
-fn plan_files_of<'a>(matches: &ArgMatches<'a>) -> Option<PlanFiles<'a>>
-    ensures given { IfSome result
-        (λ files. HasPlanFiles (rows_of (found_of matches.now)) files) }
-    ensures absent { IfNone result ((files : PlanFiles)
-        → HasPlanFiles (rows_of (found_of matches.now)) files → ⊥) }
-{
-    Some(PlanFiles {
-        inputs: inputs_of(matches)?,
-        plan: word_of(matches, "plan")?,
-        log: word_of(matches, "log")?,
     })
 }
 
@@ -186,49 +143,16 @@ fn price_files_of<'a>(matches: &ArgMatches<'a>) -> Option<PriceFiles<'a>>
     })
 }
 
-// The form of `answer` by a plan.
-fn plan_answer_of<'a>(matches: &ArgMatches<'a>) -> Option<StreamOrder<'a>>
-    requires { first_of (codes "prices") (rows_of (found_of matches.now)) ≡ None }
-    ensures order { IfSome result (λ order.
-        IsStreamOrderIn order (codes "answer") (rows_of (found_of matches.now))) }
-    ensures none { IfNone result ((order : StreamOrder)
-        → IsStreamOrderIn order (codes "answer") (rows_of (found_of matches.now)) → ⊥) }
-{
-    Some(StreamOrder::Answer {
-        files: plan_files_of(matches)?,
-        unit: word_of(matches, "unit"),
-        front: front_of(matches)?,
-    })
-}
-
-// The form of `answer` by prices.
-fn price_answer_of<'a>(matches: &ArgMatches<'a>) -> Option<StreamOrder<'a>>
-    ensures order { IfSome result (λ order.
-        IsStreamOrderIn order (codes "answer") (rows_of (found_of matches.now))) }
-    ensures none { IfNone result ((order : StreamOrder)
-        → IsStreamOrderIn order (codes "answer") (rows_of (found_of matches.now))
-        → first_of (codes "prices") (rows_of (found_of matches.now)) ≡ None) }
-{
-    if is_given(matches, "demand") || is_given(matches, "plan") || is_given(matches, "unit") {
-        return None;
-    }
-    Some(StreamOrder::AnswerPrices {
-        files: price_files_of(matches)?,
-        front: front_of(matches)?,
-    })
-}
-
-// One of the two forms of `answer`, and no mixture.
 fn answer_of<'a>(matches: &ArgMatches<'a>) -> Option<StreamOrder<'a>>
     ensures order { IfSome result (λ order.
         IsStreamOrderIn order (codes "answer") (rows_of (found_of matches.now))) }
     ensures none { IfNone result ((order : StreamOrder)
         → IsStreamOrderIn order (codes "answer") (rows_of (found_of matches.now)) → ⊥) }
 {
-    if is_given(matches, "prices") {
-        return price_answer_of(matches);
-    }
-    plan_answer_of(matches)
+    Some(StreamOrder::Answer {
+        files: price_files_of(matches)?,
+        front: front_of(matches)?,
+    })
 }
 
 fn check_of<'a>(matches: &ArgMatches<'a>) -> Option<StreamOrder<'a>>
@@ -309,7 +233,6 @@ fn form_of<'a>(name: &str, matches: &ArgMatches<'a>) -> Option<StreamOrder<'a>>
         → IsStreamOrderIn order name.now (rows_of (found_of matches.now)) → ⊥) }
 {
     match name {
-        "kinds" => kinds_of(matches),
         "places" => places_of(matches),
         "plan" => plan_of(matches),
         "answer" => answer_of(matches),
@@ -355,8 +278,8 @@ fn command_order<'a>(alloc: Global, words: &'a [String]) -> Result<StreamOrder<'
 /// The order that the words give to `hsplan-stream`. The first word is the command.
 ///
 /// `--help` and `--version` are orders where they stand by themselves, and `--help` also behind one word. The fault is
-/// `Usage` for whatever else clap's parser refuses, for a mixture or a part of the two forms of `answer`, for only one
-/// of `--fronts` and `--front`, and for an unknown kind of report.
+/// `Usage` for whatever else clap's parser refuses, for only one of `--fronts` and `--front`, and for an unknown kind
+/// of report.
 pub fn read_stream_command<'a>(
     alloc: Global,
     words: &'a [String],

@@ -1,37 +1,14 @@
 -- The parts in the cells of a row: each cell has a part of what it had, and those of which nothing is left are left
 -- out.
-use Rattle.std.proofs.Common.{◌≡◌, ◌<◌, ◌≤◌, ◌/◌, ◌%◌, ◌++◌, ℕ, List, [], ◌∷◌, arith, refl, sym, eq-eqb}
+use Rattle.std.proofs.Common.{◌≡◌, ◌<◌, ℕ, List, [], ◌∷◌, arith, sym, eq-eqb}
 use Rattle.std.proofs.Common.{inl, inr}
 use Rattle.std.specs.List.{AllByRecursion}
 use Rattle.std.proofs.lemmas.Bool.{cases_eq, ne_eqb}
-use Rattle.std.proofs.Math.Nat.{div-one, mod-one}
 use Rattle.hsp_instance.specs.Instance.{Instance}
-use Rattle.hsp_dispatch.specs.Portions.{part_of, parts_in, with_part, whole_portion}
-use Rattle.hsp_dispatch.specs.Shares.{AreCells, AreCellsOf, IsCellOf, left_at, with_first}
-use Rattle.hsp_dispatch.specs.Standings.{AreBounded}
-use Rattle.hsp_dispatch.specs.declared.portion.Portion.{Portion}
+use Rattle.hsp_dispatch.specs.Shares.{AreCells, AreCellsOf, IsCellOf, left_at}
+use Rattle.hsp_dispatch.specs.Standings.{parts_in}
 use Rattle.hsp_dispatch.specs.declared.share.Cell.{Cell}
-use Rattle.hsp_dispatch.proofs.FrontShares.{share_le, share_none}
 use Rattle.hsp_dispatch.proofs.Shares.{none_at}
-
--- ---- the parts of numbers
-
--- of nothing a portion has nothing
-pub part_none : (portion : Portion) → part_of portion 0 ≡ 0
-part_none portion = rw (share_none portion.fronts portion.front) (omega arith)
-
--- the whole has all
-pub part_whole : (number : ℕ) → part_of whole_portion number ≡ number
-part_whole number =
-    let whole : number / 1 ≡ number = div-one number in
-    let rest : number % 1 ≡ 0 = mod-one number in
-    rw (whole, rest) (omega arith)
-
--- in units of one no portion has more than the number
-part_le : (portion : Portion) (number : ℕ) → 0 < portion.fronts → portion.unit ≡ 1 → part_of portion number ≤ number
-part_le portion number some one = rw one (omega (arith, share_le portion.fronts portion.front number some))
-
--- ---- the parts in cells
 
 -- what only the site and the server of a cell decide
 parts_keep : (P : Cell → Type 0) → ((cell : Cell) (left : ℕ) → P cell → P (record cell { left = left }))
@@ -80,20 +57,3 @@ part_left part nothing site (cell ∷ cells) are =
     let behind = parts_after part site cells in
     let none = λ (at : cell.site ≡ site). none_at (parts_in part cells) site (behind (rw at at are.1.0)) in
     grind (arith, nothing, none, part_left part nothing site cells are.1.1)
-
--- one cell more
-pub parts_more : (part : ℕ → ℕ) (cells : List Cell) (cell : Cell)
-    → parts_in part (cells ++ cell ∷ []) ≡ parts_in part cells ++ with_first (with_part part cell) []
-parts_more part [] cell = refl
-parts_more part (first ∷ cells) cell = grind (arith, parts_more part cells cell)
-
--- cells have no more in units of one
-pub parts_bounded : (portion : Portion) (cells : List Cell) → 0 < portion.fronts → portion.unit ≡ 1 → AreBounded cells
-    → AreBounded (parts_in (part_of portion) cells)
-parts_bounded portion [] some one bounded = tt
-parts_bounded portion (cell ∷ cells) some one bounded = elim (cases_eq (part_of portion cell.left) 0) [
-  | inl none ↦ rw (eq-eqb (part_of portion cell.left) 0 none) (parts_bounded portion cells some one bounded.1)
-  | inr more ↦
-      rw (ne_eqb (part_of portion cell.left) 0 more)
-      (omega (arith, part_le portion cell.left some one, bounded.0), parts_bounded portion cells some one bounded.1)
-]

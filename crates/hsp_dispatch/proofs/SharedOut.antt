@@ -22,13 +22,10 @@ use Rattle.hsp_check.specs.Instance.{arc_of, arcs_from, network_of}
 use Rattle.hsp_check.specs.Network.{is_allowed}
 use Rattle.hsp_check.specs.Uses.{table}
 use Rattle.hsp_dispatch.specs.Dispatch.{IsSame, arc_to}
-use Rattle.hsp_dispatch.specs.Portions.{AreSharesOf, part_of, parts_in, portion_of, with_part}
 use Rattle.hsp_dispatch.specs.Shares.{AreCells, AreUsesOf, IsCellOf, IsHeld, cell_of, cells_at, cells_of, holding}
 use Rattle.hsp_dispatch.specs.Shares.{left_at, left_of, number_of, with_first}
 use Rattle.hsp_dispatch.specs.Standings.{AreBounded}
 use Rattle.hsp_dispatch.specs.declared.share.Cell.{Cell}
-use Rattle.hsp_dispatch.specs.declared.portion.Portion.{Portion}
-use Rattle.hsp_dispatch.proofs.Parts.{part_left, part_none, parts_are, parts_bounded, parts_more, parts_of_row}
 use Rattle.hsp_dispatch.proofs.Lists.{take_next}
 use Rattle.hsp_dispatch.proofs.Shares.{none_at}
 use Rattle.hsp_text.proofs.Lists.{all_take}
@@ -86,11 +83,6 @@ counted [] all = tt
 counted (one ∷ uses) all =
     let each = and_parts (is_use one) (list_all is_use uses) all in
     (is_counted one each.0, counted uses each.1)
-
--- no use counts more than a row may
-pub count_within : (uses : List UseLine) (k : ℕ) (one : UseLine) → list_all is_use uses ≡ true
-    → slice_get uses k ≡ Some one → one.count ≤ GREATEST_COUNT
-count_within uses k one all at = (all_at IsCounted uses k one (counted uses all) at).1
 
 -- ---- cells in order
 
@@ -297,27 +289,32 @@ own_more it uses k one e =
     ap (λ (us : List UseLine). cells_of it one.row us) (take_next uses k one e)
     ∙ cells_more it one.row (take k uses) one ∙ rw (eq-eqb one.row one.row refl) refl
 
--- the part of a use's cell stands behind those of its row's earlier ones
-part_more : (part : ℕ → ℕ) (it : Instance) (uses : List UseLine) (k : ℕ) (one : UseLine) → slice_get uses k ≡ Some one
-    → parts_in part (cells_of it one.row (take (k + 1) uses)) ≡ parts_in part (cells_of it one.row (take k uses))
-    ++ with_first (with_part part (cell_of it one)) []
-part_more part it uses k one e =
-    ap (parts_in part) (own_more it uses k one e) ∙ parts_more part (cells_of it one.row (take k uses)) (cell_of it one)
-
--- and comes after them
-pub cells_stay : (part : ℕ → ℕ) (it : Instance) (uses : List UseLine) (k : ℕ) (one : UseLine) → AreUsesOf it uses
+-- so it does where nothing is put in for nothing, since a use has something
+cell_more : (it : Instance) (uses : List UseLine) (k : ℕ) (one : UseLine) → AreUsesOf it uses
     → slice_get uses k ≡ Some one
-    → AreCells (parts_in part (cells_of it one.row (take k uses)) ++ with_first (with_part part (cell_of it one)) [])
-cells_stay part it uses k one are e =
+    → cells_of it one.row (take (k + 1) uses) ≡ cells_of it one.row (take k uses) ++ with_first (cell_of it one) []
+cell_more it uses k one are e =
+    let some : 0 < one.count = (all_at IsCounted uses k one (counted uses are.ranges) e).0 in
+    own_more it uses k one e ∙ rw (ne_eqb one.count 0 (λ none. omega (arith, some, none))) refl
+
+-- the cell of a use comes after those of its row's earlier ones
+pub cells_stay : (it : Instance) (uses : List UseLine) (k : ℕ) (one : UseLine) → AreUsesOf it uses
+    → slice_get uses k ≡ Some one
+    → AreCells (cells_of it one.row (take k uses) ++ with_first (cell_of it one) [])
+cells_stay it uses k one are e =
     let given = are_given it uses are in
-    subst AreCells (part_more part it uses k one e)
-    (parts_are part (cells_of it one.row (take (k + 1) uses))
+    subst AreCells (cell_more it uses k one are e)
     (are_cells it one.row (take (k + 1) uses) (order_take (k + 1) uses given.order)
-    (all_take IsCounted (k + 1) uses given.counts)))
+    (all_take IsCounted (k + 1) uses given.counts))
+
+-- for each row the cells that the uses give it
+pub record AreSharesOf (it : Instance) (uses : List UseLine) (shares : List (List Cell)) : Type 0 where
+  pub one_a_row : length shares ≡ length it.rows
+  pub each : (row : ℕ) → cells_at shares row ≡ cells_of it row uses
 
 -- at first no row has a cell
-pub shared_none : (part : ℕ → ℕ) (it : Instance) → AreSharesOf part it [] (replicate (length it.rows) [])
-shared_none part it = record { one_a_row = length-replicate (length it.rows) []; each = none_at_row (length it.rows) }
+pub shared_none : (it : Instance) → AreSharesOf it [] (replicate (length it.rows) [])
+shared_none it = record { one_a_row = length-replicate (length it.rows) []; each = none_at_row (length it.rows) }
   where
     none_at_row : (n row : ℕ) → cells_at (replicate n []) row ≡ []
     none_at_row zero row = refl
@@ -325,32 +322,31 @@ shared_none part it = record { one_a_row = length-replicate (length it.rows) [];
     none_at_row (suc n) (suc row) = none_at_row n row
 
 -- one use more: its cell is added to those of its row
-pub shared_more : (part : ℕ → ℕ) (it : Instance) (uses : List UseLine) (k : ℕ) (one : UseLine)
-    (shares : List (List Cell)) (cells : List Cell) → slice_get uses k ≡ Some one
-    → AreSharesOf part it (take k uses) shares → one.row < length it.rows
-    → cells ≡ parts_in part (cells_of it one.row (take k uses)) ++ with_first (with_part part (cell_of it one)) []
-    → AreSharesOf part it (take (k + 1) uses) (set shares one.row cells)
-shared_more part it uses k one shares cells e are inside new = record {
+pub shared_more : (it : Instance) (uses : List UseLine) (k : ℕ) (one : UseLine) (shares : List (List Cell))
+    (cells : List Cell) → AreUsesOf it uses → slice_get uses k ≡ Some one
+    → AreSharesOf it (take k uses) shares → one.row < length it.rows
+    → cells ≡ cells_of it one.row (take k uses) ++ with_first (cell_of it one) []
+    → AreSharesOf it (take (k + 1) uses) (set shares one.row cells)
+shared_more it uses k one shares cells own e are inside new = record {
   one_a_row = length-set shares one.row cells ∙ are.one_a_row;
   each = λ row. elim (cases_eq one.row row) [
     | inl here ↦
         rw (← here)
         (get_or-set_same shares one.row cells [] (omega (arith, are.one_a_row)) ∙ new
-        ∙ sym (part_more part it uses k one e))
+        ∙ sym (cell_more it uses k one own e))
     | inr other ↦
         get_or-set_other shares one.row row cells [] (λ same. other (sym same)) ∙ are.each row
-        ∙ ap (parts_in part)
-        (sym
+        ∙ sym
         (ap (λ (us : List UseLine). cells_of it row us) (take_next uses k one e)
         ∙ cells_more it row (take k uses) one
-        ∙ rw (ne_eqb one.row row other) (append-nil (cells_of it row (take k uses)))))
+        ∙ rw (ne_eqb one.row row other) (append-nil (cells_of it row (take k uses))))
   ];
 }
 
 -- ---- all uses
 
-module _ (portion : Portion) (it : Instance) (uses : List UseLine) (shares : List (List Cell)) (are : AreUsesOf it uses)
-    (shared : AreSharesOf (part_of portion) it uses shares) where
+module _ (it : Instance) (uses : List UseLine) (shares : List (List Cell)) (are : AreUsesOf it uses)
+    (shared : AreSharesOf it uses shares) where
   -- the cells are held for the rows of the instance
   pub are_held : IsInstance it → IsHeld (holding it shares)
   are_held is =
@@ -360,28 +356,24 @@ module _ (portion : Portion) (it : Instance) (uses : List UseLine) (shares : Lis
         one_a_row = shared.one_a_row;
         each = λ row.
             rw (shared.each row)
-            (parts_of_row (part_of portion) it row (cells_of it row uses)
             (record {
               each = each_is it row uses is given.goes;
               are = are_cells it row uses given.order given.counts;
-            }));
+            });
       }
 
-  -- what is held is the portion of the plan
-  pub table_held : IsSame (left_of (holding it shares)) (portion_of portion (table uses))
+  -- what is held is the plan
+  pub table_held : IsSame (left_of (holding it shares)) (table uses)
   table_held row site =
-      let given = are_given it uses are in
       ap (λ (cells : List Cell). left_at cells site) (shared.each row)
-      ∙ part_left (part_of portion) (part_none portion) site (cells_of it row uses)
-      (are_cells it row uses given.order given.counts)
-      ∙ ap (part_of portion) (left_is it row site uses given.order)
+      ∙ left_is it row site uses (are_given it uses are).order
 
   -- each cell has no more than a row's count may be
-  pub all_bounded : 0 < portion.fronts → portion.unit ≡ 1 → AllByRecursion AreBounded shares
-  all_bounded some one =
+  pub all_bounded : AllByRecursion AreBounded shares
+  all_bounded =
       all_from AreBounded shares (λ row cells e.
-      let same : cells ≡ parts_in (part_of portion) (cells_of it row uses) =
+      let same : cells ≡ cells_of it row uses =
       sym (get_or_from_slice_get shares row cells [] e) ∙ shared.each row in
-      rw same (parts_bounded portion (cells_of it row uses) some one
+      rw same
       (cells_so it row IsCounted (λ (cell : Cell). cell.left ≤ GREATEST_COUNT) (λ u here counts. counts.1) uses
-      (counted uses are.ranges))))
+      (counted uses are.ranges)))

@@ -7,7 +7,6 @@ pub mod Desks
 pub mod Steps
 pub mod Laws
 pub mod Fronts
-pub mod Portions
 pub mod Standings
 pub mod FrontLaws
 pub mod RowChecks

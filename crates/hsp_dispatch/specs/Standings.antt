@@ -4,11 +4,16 @@ use Rattle.std.specs.Prelude.{suc, List, [], ◌∷◌, ◌++◌, drop, map, if�
 use Rattle.std.specs.List.{AllByRecursion, AllZip, flat_map, range_with_len}
 use Rattle.hsp_text.specs.declared.limits.TheConstants.{GREATEST_COUNT}
 use Rattle.hsp_dispatch.specs.Fronts.{share}
-use Rattle.hsp_dispatch.specs.Portions.{parts_in}
 use Rattle.hsp_dispatch.specs.declared.counts.Widths.{Widths}
 use Rattle.hsp_dispatch.specs.declared.counts.Widths.TheVariants.{One, Two, Four}
 use Rattle.hsp_dispatch.specs.declared.front_share.Standing.{Standing}
 use Rattle.hsp_dispatch.specs.declared.share.Cell.{Cell}
+
+-- the cells with a part of what each has; those of which nothing is left are left out
+abbrev pub parts_in : (ℕ → ℕ) → List Cell → List Cell
+parts_in part [] = []
+parts_in part (cell ∷ cells) =
+    if part cell.left == 0 then parts_in part cells else record cell { left = part cell.left } ∷ parts_in part cells
 
 -- the cells of which a front has a share, with its share of each
 abbrev pub shares_in : ℕ → ℕ → List Cell → List Cell

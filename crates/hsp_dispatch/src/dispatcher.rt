@@ -3,14 +3,11 @@
 ghost use Rattle.std.specs.Prelude.{◌≡◌, ◌<◌, ◌≤◌, IfOk, IfSome, length};
 ghost use Rattle.hsp_instance.specs.Instance.{IsInstance};
 ghost use Rattle.hsp_dispatch.specs.Dispatch.{IsSame};
-ghost use Rattle.hsp_dispatch.specs.Portions.{portion_of};
 ghost use Rattle.hsp_dispatch.specs.Shares.{IsLeftBy, IsPlanFor, IsRestOf, answer_by, first_answer, left_of, plan_of};
 ghost use Rattle.hsp_dispatch.specs.Shares.{query, taken_answer};
-ghost use Rattle.hsp_dispatch.specs.declared.portion.TheConstants.{GREATEST_UNIT};
 
 use crate::answer::Answer;
 use crate::answering::served;
-use crate::portion::Portion;
 use crate::share::RowShare;
 use crate::sharing::share_out;
 use hsp_cert::Certificate;
@@ -52,32 +49,8 @@ impl<'a> Dispatcher<'a> {
         ensures instance { IfOk result (λ d. d.instance ≡ instance.now) }
         ensures plan { IfOk result (λ d. IsSame (left_of d) (plan_of certificate.now)) }
     {
-        Dispatcher::by_portion(alloc, instance, certificate, Portion::whole())
-    }
-
-    /// A dispatcher by a portion of the plan of a certificate that is valid for the instance: the share of one of some
-    /// fronts, each query of which stands for 1 to `GREATEST_UNIT` answers.
-    ///
-    /// # Errors
-    ///
-    /// An `AllocError` where memory runs out.
-    pub fn by_portion(
-        alloc: Global,
-        instance: &'a Instance,
-        certificate: &Certificate,
-        portion: Portion,
-    ) -> Result<Dispatcher<'a>, AllocError>
-        requires plan { IsPlanFor instance.now certificate.now }
-        requires some { 0 < portion.fronts }
-        requires front { portion.front < portion.fronts }
-        requires least { 1 ≤ portion.unit }
-        requires most { portion.unit ≤ GREATEST_UNIT }
-        ensures instance { IfOk result (λ d. d.instance ≡ instance.now) }
-        ensures plan { IfOk result
-            (λ d. IsSame (left_of d) (portion_of portion (plan_of certificate.now))) }
-    {
         let best = certificate.as_best().unwrap();
-        let shares = share_out(alloc, instance, best.uses(), &portion)?;
+        let shares = share_out(alloc, instance, best.uses())?;
         Ok(Dispatcher { instance, shares })
     }
 

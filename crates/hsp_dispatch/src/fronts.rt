@@ -20,7 +20,6 @@ use crate::counts::Counts;
 use crate::fault::LogFault;
 use crate::front_share::Front;
 use crate::plan_cells::PlanCells;
-use crate::portion::Portion;
 use crate::row_cells::RowCells;
 use crate::sharing::share_out;
 use hsp_cert::{Certificate, UseLine};
@@ -86,7 +85,7 @@ fn rows_by(
     ensures held { IfOk result (λ rows. IsHeld (holding instance.now rows.items)) }
     ensures table { IfOk result (λ rows. HoldsTable uses.now (holding instance.now rows.items)) }
 {
-    let shares = share_out(alloc, instance, uses, &Portion::whole())?;
+    let shares = share_out(alloc, instance, uses)?;
     let mut rows = Vec::with_capacity(alloc, shares.len())?;
     for share in &shares {
         rows.push(RowCells::new(share.cells(alloc)?))?;

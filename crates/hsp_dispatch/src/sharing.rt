@@ -1,17 +1,13 @@
 // What the uses of a plan give each row of its instance.
 
-ghost use Rattle.std.specs.Prelude.{◌≡◌, ◌<◌, ◌≤◌, [], length, replicate, slice_get, IfOk};
-ghost use Rattle.hsp_text.specs.declared.limits.TheConstants.{GREATEST_COUNT};
+ghost use Rattle.std.specs.Prelude.{◌≡◌, ◌<◌, [], length, replicate, slice_get, IfOk};
 ghost use Rattle.hsp_dispatch.specs.Dispatch.{arc_to};
 ghost use Rattle.std.specs.List.{AllByRecursion};
 ghost use Rattle.hsp_check.specs.Uses.{table};
 ghost use Rattle.hsp_dispatch.specs.Dispatch.{IsSame};
-ghost use Rattle.hsp_dispatch.specs.Portions.{part_of, portion_of, with_part};
 ghost use Rattle.hsp_dispatch.specs.Shares.{AreUsesOf, IsHeld, cell_of, holding, left_of, number_of};
-ghost use Rattle.hsp_dispatch.specs.declared.portion.TheConstants.{GREATEST_UNIT};
 ghost use Rattle.hsp_dispatch.specs.Standings.{AreBounded};
 
-use crate::portion::Portion;
 use crate::share::{Cell, RowShare};
 use hsp_cert::UseLine;
 use hsp_instance::Instance;
@@ -30,18 +26,15 @@ fn server_at(instance: &Instance, row: u32, site: u32) -> u32
     0
 }
 
-// The cell that a use gives its row, with a portion's part of what it has.
-fn cell_for(instance: &Instance, one: UseLine, portion: &Portion) -> Cell
-    requires row { one.row < length instance.now.rows }
-    requires count { one.count ≤ GREATEST_COUNT }
-    requires some { 0 < portion.now.fronts }
-    requires unit { portion.now.unit ≤ GREATEST_UNIT }
-    ensures { result ≡ with_part (part_of portion.now) (cell_of instance.now one) }
+// The cell that a use gives its row.
+fn cell_for(instance: &Instance, one: UseLine) -> Cell
+    requires { one.row < length instance.now.rows }
+    ensures { result ≡ cell_of instance.now one }
 {
     Cell {
         site: one.site,
         server: server_at(instance, one.row, one.site),
-        left: portion.part(one.count),
+        left: one.count,
     }
 }
 
@@ -56,25 +49,21 @@ fn empty_shares(alloc: Global, count: u32) -> Result<Vec<RowShare>, AllocError>
     Ok(shares)
 }
 
-/// For each row, a portion's part of what the uses give it.
+/// For each row, what the uses give it.
 pub(crate) fn share_out(
     alloc: Global,
     instance: &Instance,
     uses: &[UseLine],
-    portion: &Portion,
 ) -> Result<Vec<RowShare>, AllocError>
-    requires uses { AreUsesOf instance.now uses.now }
-    requires some { 0 < portion.now.fronts }
-    requires unit { portion.now.unit ≤ GREATEST_UNIT }
+    requires { AreUsesOf instance.now uses.now }
     ensures held { IfOk result (λ shares. IsHeld (holding instance.now shares.items)) }
-    ensures table { IfOk result (λ shares. IsSame (left_of (holding instance.now shares.items))
-        (portion_of portion.now (table uses.now))) }
-    ensures bounded { IfOk result
-        (λ shares. portion.now.unit ≡ 1 → AllByRecursion AreBounded shares.items) }
+    ensures table { IfOk result
+        (λ shares. IsSame (left_of (holding instance.now shares.items)) (table uses.now)) }
+    ensures bounded { IfOk result (λ shares. AllByRecursion AreBounded shares.items) }
 {
     let mut shares = empty_shares(alloc, instance.rows())?;
     for one in uses {
-        let cell = cell_for(instance, *one, portion);
+        let cell = cell_for(instance, *one);
         shares[one.row as usize].push(cell)?;
     }
     Ok(shares)

@@ -128,7 +128,7 @@ fn pass_watched<T: RowTaker, R: Source + Drop, K: Watch>(
 
 /// Takes each row of the log that the reader gives.
 ///
-/// The log is read as `kinds` reads it. A log of 2^64 - 1 rows or more ends as `OutOfMemory`.
+/// A log of 2^64 - 1 rows or more ends as `OutOfMemory`.
 ///
 /// # Errors
 ///

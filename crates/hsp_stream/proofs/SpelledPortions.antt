@@ -1,6 +1,6 @@
--- Words that spell a portion are read as it, and no others are.
+-- Words that spell fronts are read as them, and no others are.
 use Rattle.std.proofs.Common.{◌≡◌, ◌≢◌, ◌∙◌, ◌<◌, ◌≤◌, ◌^◌, ℕ, List, Option, None, Some, Result, Ok, Err, IfErr, Bool}
-use Rattle.std.proofs.Common.{true, false, decimal, if◌then◌else◌, option_map, refl, ap, sym, arith}
+use Rattle.std.proofs.Common.{true, false, decimal, if◌then◌else◌, refl, ap, sym, arith}
 use Rattle.std.specs.Prelude.{nat_lt}
 use Rattle.std.proofs.lemmas.Bool.{lt-ltb, ne_eqb}
 use Rattle.std.proofs.lemmas.Bool.Decides.{nat_tests}
@@ -9,18 +9,13 @@ use Rattle.hsp_text.specs.Whole.{whole_within}
 use Rattle.hsp_text.specs.declared.limits.TheConstants.{MOST_FRONTS}
 use Rattle.hsp_text.specs.declared.whole.WholeFault.{WholeFault}
 use Rattle.hsp_tables.proofs.TableRows.{whole_is, whole_is_read}
-use Rattle.hsp_dispatch.specs.declared.portion.Portion.{Portion}
-use Rattle.hsp_dispatch.specs.declared.portion.TheConstants.{GREATEST_UNIT}
 use Rattle.hsp_runs.specs.declared.fault.Fault.TheVariants.{BadFronts}
 use Rattle.hsp_runs.specs.Counts.{above_none, count_at}
-use Rattle.hsp_stream.specs.AnswersShown.{SpellsOr, SpellsPortion}
-use Rattle.hsp_stream.specs.Words.{below, front_at, fronts_at, or_else_fault, portion_among, portion_at, portion_with}
-use Rattle.hsp_stream.specs.Words.{spelled_unit, unit_at, word_or}
+use Rattle.hsp_stream.specs.AnswersShown.{SpellsOr}
+use Rattle.hsp_stream.specs.Words.{below, front_at, fronts_at, or_else_fault, word_or}
 use Rattle.hsp_stream.specs.declared.fault.RowFault.{RowFault}
 use Rattle.hsp_stream.specs.declared.fault.StreamFault.{StreamFault}
-use Rattle.hsp_stream.specs.declared.fault.StreamFault.TheVariants.{BadFront, BadUnit, Input, Log}
-use Rattle.hsp_stream.specs.declared.portions.PortionWords.{PortionWords}
-use Rattle.hsp_text.proofs.Steps.{first_step}
+use Rattle.hsp_stream.specs.declared.fault.StreamFault.TheVariants.{BadFront, Input, Log}
 
 -- ---- numbers
 
@@ -41,21 +36,6 @@ count_is_read : (most n : ℕ) → most < 2 ^ 64 → 1 ≤ n → n ≤ most → 
 count_is_read most n small some few =
     let above : above_none BadFronts (Ok n) ≡ Ok n = rw (ne_eqb n 0 (λ e. omega (arith, e))) refl in
     ap (λ r. above_none BadFronts r) (whole_is_read most n small few) ∙ above
-
--- ---- the unit
-
--- a word that is read as a unit is its decimal, or there is none
-pub unit_is : (word : Option (List ℕ)) (n : ℕ) → unit_at word ≡ Ok n → SpellsOr word 1 n × (1 ≤ n) × (n ≤ GREATEST_UNIT)
-unit_is None n e = let one : 1 ≡ n = cc (e) in rw (← one) (refl, omega arith, omega arith)
-unit_is (Some word) n e =
-    count_is GREATEST_UNIT word n (omega arith) (given_as BadUnit (count_at BadFronts GREATEST_UNIT word) n e)
-
--- the decimal of a unit is read as it
-unit_is_read : (word : Option (List ℕ)) (n : ℕ) → SpellsOr word 1 n → 1 ≤ n → n ≤ GREATEST_UNIT → unit_at word ≡ Ok n
-unit_is_read None n is some few = ap (λ k. Ok k) (sym is)
-unit_is_read (Some word) n is some few =
-    ap (λ w. spelled_unit w) is
-    ∙ ap (λ r. or_else_fault BadUnit r) (count_is_read GREATEST_UNIT n (omega arith) some few)
 
 -- ---- the number of fronts
 
@@ -93,41 +73,6 @@ front_is_read fronts (Some word) n is inside few =
     ap (λ w. front_at fronts w) is ∙ ap (λ r. below fronts r) (whole_is_read MOST_FRONTS n (omega arith) (omega arith))
     ∙ there
 
--- ---- the portion
-
--- words that are read as a portion spell it
-pub portion_is : (words : PortionWords) (portion : Portion) → portion_at words ≡ Ok portion
-    → SpellsPortion words portion
-portion_is words portion e =
-    let unit = first_step (unit_at (option_map (λ v. v.items) words.unit)) (portion_with words) portion e in
-    let fronts =
-    first_step (word_or (option_map (λ v. v.items) words.fronts) 1 fronts_at) (portion_among words unit.0) portion
-    unit.2 in
-    let front = first_step (word_or (option_map (λ v. v.items) words.front) 0 (front_at fronts.0)) _ portion fronts.2 in
-    let own = unit_is _ unit.0 unit.1 in
-    let many = many_is _ fronts.0 fronts.1 in
-    let one = front_is fronts.0 _ front.0 many.1 front.1 in
-    let is : record { fronts = fronts.0; front = front.0; unit = unit.0 } ≡ portion = cc (front.2) in
-    rw (← is) (record {
-      unit = own.0;
-      fronts = many.0;
-      front = one.0;
-      is = record { some = omega (arith, many.1); front = one.1; least = own.1; most = own.2 };
-      few = many.2;
-    })
-
--- words that spell a portion are read as it
-pub portion_is_read : (words : PortionWords) (portion : Portion) → SpellsPortion words portion
-    → portion_at words ≡ Ok portion
-portion_is_read words portion is =
-    ap (λ r. r >>= portion_with words)
-    (unit_is_read (option_map (λ v. v.items) words.unit) portion.unit is.unit is.is.least is.is.most)
-    ∙ ap (λ r. r >>= portion_among words portion.unit)
-    (many_is_read (option_map (λ v. v.items) words.fronts) portion.fronts is.fronts (omega (arith, is.is.some))
-    is.few)
-    ∙ ap (λ r. r >>= λ front. Ok (record { fronts = portion.fronts; front = front; unit = portion.unit }))
-    (front_is_read portion.fronts (option_map (λ v. v.items) words.front) portion.front is.front is.is.front is.few)
-
 -- ---- faults
 
 -- no fault is the log's
@@ -160,16 +105,3 @@ below_none fronts (Ok n) = by (nat_lt n fronts)
     by : (test : Bool) → HasNoLog (if test then Ok n else Err BadFront)
     by true = tt
     by false = λ of same. cc (same)
-
--- the words of a portion have no fault of the log
-pub words_none : (words : PortionWords) → HasNoLog (portion_at words)
-words_none words =
-    then_none (unit_at (option_map (λ v. v.items) words.unit)) (portion_with words)
-    (word_none (option_map (λ v. v.items) words.unit) 1 spelled_unit
-    (λ octets. else_none BadUnit (count_at BadFronts GREATEST_UNIT octets) (λ of e. cc (e)))) (λ unit.
-    then_none (word_or (option_map (λ v. v.items) words.fronts) 1 fronts_at) (portion_among words unit)
-    (word_none (option_map (λ v. v.items) words.fronts) 1 fronts_at
-    (λ octets. else_none (Input BadFronts) (count_at BadFronts MOST_FRONTS octets) (λ of e. cc (e)))) (λ fronts.
-    then_none (word_or (option_map (λ v. v.items) words.front) 0 (front_at fronts)) _
-    (word_none (option_map (λ v. v.items) words.front) 0 (front_at fronts)
-    (λ octets. below_none fronts (whole_within MOST_FRONTS octets))) (λ front. tt)))

@@ -1,17 +1,11 @@
 pub mod PriceReasons
 pub mod Faults
 pub mod Lines
-pub mod KindsFiles
-pub mod KindsLaws
 pub mod KindsLog
-pub mod KindsRun
 pub mod KindsShown
-pub mod KindsTable
-pub mod LogTables
 pub mod Asking
 pub mod Saying
 pub mod Answering
-pub mod KindAnswers
 pub mod PlaceLines
 pub mod Places
 pub mod PlacesRun
@@ -22,5 +16,4 @@ pub mod Watching
 pub mod Words
 pub mod AnswerRun
 pub mod AnswersShown
-pub mod AnswerLaws
 pub mod RowChecks

@@ -1,4 +1,4 @@
--- What hsplan-stream prints of faults and sums, and its statuses.
+-- What hsplan-stream prints of faults, and its statuses.
 use Rattle.std.specs.Prelude.{◌++◌, ◌∷◌, [], ℕ, List, codes, decimal}
 use Rattle.hsp_runs.specs.FaultText as input
 use Rattle.hsp_stream.specs.PriceReasons.{reason_word}
@@ -6,7 +6,6 @@ use Rattle.hsp_stream.specs.declared.fault.RowFault.{RowFault}
 use Rattle.hsp_stream.specs.declared.fault.RowFault.TheVariants as row
 use Rattle.hsp_stream.specs.declared.fault.StreamFault.{StreamFault}
 use Rattle.hsp_stream.specs.declared.fault.StreamFault.TheVariants as fault
-use Rattle.hsp_stream.specs.declared.given.StreamSums.{StreamSums}
 
 -- a word, and a name and a number, each after a space
 abbrev pub numbered : List ℕ → List ℕ → ℕ → List ℕ
@@ -25,12 +24,9 @@ row_words (row.BadName number) = at_row (codes "BadName") number
 row_words (row.BadHandle number bad) = at_row (codes "BadHandle") number ++ (codes " " ++ input.handle_words bad)
 row_words (row.BadNumber number) = at_row (codes "BadNumber") number
 row_words (row.TooManyRegions number) = at_row (codes "TooManyRegions") number
-row_words (row.TooManyKinds number) = at_row (codes "TooManyKinds") number
-row_words (row.CountTooLarge number unit) = at_row (codes "CountTooLarge") number ++ numbered [] (codes "unit") unit
 
 -- a fault without a part, or the part with the fault in it
 abbrev pub fault_words : StreamFault → List ℕ
-fault_words fault.BadUnit = codes "BadUnit"
 fault_words fault.BadFront = codes "BadFront"
 fault_words (fault.Input e) = input.fault_words e
 fault_words (fault.Refused reason) = codes "check: " ++ reason_word reason
@@ -51,22 +47,12 @@ row_status (row.BadName number) = 1
 row_status (row.BadHandle number bad) = 1
 row_status (row.BadNumber number) = 1
 row_status (row.TooManyRegions number) = 1
-row_status (row.TooManyKinds number) = 1
-row_status (row.CountTooLarge number unit) = 1
 
 -- 4 where memory runs out, that of hsplan for a refused file, and 3 for prices that don't fit
 abbrev pub status_in : StreamFault → ℕ
-status_in fault.BadUnit = 1
 status_in fault.BadFront = 1
 status_in (fault.Input e) = input.status_in e
 status_in (fault.Refused reason) = 3
 status_in fault.TooLarge = 1
 status_in (fault.Log e) = row_status e
 status_in fault.OutOfMemory = 4
-
--- how many rows were answered by each kind of answer
-abbrev pub sums_text : StreamSums → List ℕ
-sums_text sums =
-    codes "assigned "
-    ++ (decimal sums.assigned ++ (codes " spent " ++ (decimal sums.spent ++ (codes " unknown " ++ (decimal sums.unknown
-    ++ (codes " refused " ++ (decimal sums.refused ++ 10 ∷ [])))))))

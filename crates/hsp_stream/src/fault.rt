@@ -29,19 +29,11 @@ pub enum RowFault {
     BadNumber { row: u64 },
     /// The row's region is the 65th.
     TooManyRegions { row: u64 },
-    /// The row is the first of the 8,193rd kind.
-    TooManyKinds { row: u64 },
-    /// The count of this row of the table is above 1,000,000. In this unit no count of the table is, and in each
-    /// smaller one some count is.
-    CountTooLarge { row: u32, unit: u64 },
 }
 
 /// Why a run has no answer. Of several reasons, a run reports the first in the order that it states.
 #[derive(Debug, PartialEq, Eq, Drop, Error)]
 pub enum StreamFault {
-    /// The unit isn't a whole number from 1 to 1,000,000.
-    #[error("bad unit")]
-    BadUnit,
     /// The front isn't a whole number below the number of fronts.
     #[error("bad front")]
     BadFront,

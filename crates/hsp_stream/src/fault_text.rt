@@ -38,14 +38,6 @@ fn push_bad_handle(out: &mut Vec<u8>, row: u64, fault: &HandleFault) -> Result<(
     push_word(out, handle_words(fault))
 }
 
-fn push_counted(out: &mut Vec<u8>, row: u32, unit: u64) -> Result<(), AllocError>
-    ensures { OnOk result
-        (out.new.items ≡ out.old.items ++ row_words (row_fault.CountTooLarge row unit)) }
-{
-    push_numbered(out, b"CountTooLarge", b"row", u64::from(row))?;
-    push_numbered(out, b"", b"unit", unit)
-}
-
 // Appends the fault of a run over a log, with its row.
 fn push_row_fault(out: &mut Vec<u8>, fault: &RowFault) -> Result<(), AllocError>
     ensures { OnOk result (out.new.items ≡ out.old.items ++ row_words fault.now) }
@@ -59,8 +51,6 @@ fn push_row_fault(out: &mut Vec<u8>, fault: &RowFault) -> Result<(), AllocError>
         RowFault::BadHandle { row, fault } => push_bad_handle(out, *row, fault),
         RowFault::BadNumber { row } => push_numbered(out, b"BadNumber", b"row", *row),
         RowFault::TooManyRegions { row } => push_numbered(out, b"TooManyRegions", b"row", *row),
-        RowFault::TooManyKinds { row } => push_numbered(out, b"TooManyKinds", b"row", *row),
-        RowFault::CountTooLarge { row, unit } => push_counted(out, *row, *unit),
     }
 }
 
@@ -69,7 +59,6 @@ pub fn push_fault_words(out: &mut Vec<u8>, fault: &StreamFault) -> Result<(), Al
     ensures { OnOk result (out.new.items ≡ out.old.items ++ fault_words fault.now) }
 {
     match fault {
-        StreamFault::BadUnit => out.extend_from_slice(b"BadUnit"),
         StreamFault::BadFront => out.extend_from_slice(b"BadFront"),
         StreamFault::Input(inner) => push_input_fault(out, inner),
         StreamFault::Refused(reason) => {
@@ -108,9 +97,7 @@ fn row_status(fault: &RowFault) -> u8
         | RowFault::BadName { .. }
         | RowFault::BadHandle { .. }
         | RowFault::BadNumber { .. }
-        | RowFault::TooManyRegions { .. }
-        | RowFault::TooManyKinds { .. }
-        | RowFault::CountTooLarge { .. } => 1,
+        | RowFault::TooManyRegions { .. } => 1,
     }
 }
 
@@ -121,7 +108,7 @@ pub fn stream_status(fault: &StreamFault) -> u8
     ensures { result ≡ status_in fault.now }
 {
     match fault {
-        StreamFault::BadUnit | StreamFault::BadFront | StreamFault::TooLarge => 1,
+        StreamFault::BadFront | StreamFault::TooLarge => 1,
         StreamFault::Input(inner) => status_of(inner),
         StreamFault::Refused(_) => 3,
         StreamFault::Log(inner) => row_status(inner),

@@ -1,4 +1,4 @@
-// The rows of the logs of `kinds` and `places`, read by themselves.
+// The rows of logs with counts, and of the logs of `places`, read by themselves.
 
 ghost use Rattle.std.specs.Prelude.{◌≡◌, ◌≢◌, ◌∷◌, [], IfNone, IfSome, length};
 ghost use Rattle.csv.specs.Records.{fields_of};
@@ -24,7 +24,7 @@ pub fn is_handle_header(record: &ByteRecord) -> bool
     is_header(record, &[b"handle"])
 }
 
-/// The fault by which `kinds` refuses the row of a region, a handle and a count by itself, if there is one.
+/// The fault by which `check` refuses the row of a region, a handle and a count by itself, if there is one.
 pub fn count_fault(row: u64, record: &ByteRecord) -> Option<RowFault>
     ensures { result ≡ count_fault row (fields_of «record».now) }
 {

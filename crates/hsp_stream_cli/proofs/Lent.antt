@@ -2,14 +2,9 @@
 use Rattle.std.proofs.Common.{◌≡◌, ◌⊎◌, inl, inr, ℕ, List, Option, Some, Result, Ok, Err, ap, subst, sym}
 use Rattle.std.specs.Borrow.{GName}
 use Rattle.hsp_cli.specs.declared.failure.Failure.TheVariants.{Refused}
-use Rattle.hsp_cert.specs.Certificate.{Claim}
-use Rattle.hsp_cert.specs.Certificate.Claim.{best, short}
-use Rattle.hsp_dispatch.specs.declared.portion.Portion.{Portion}
 use Rattle.hsp_instance.specs.Instance.{Instance}
 use Rattle.hsp_runs.specs.declared.fault.Fault.{Fault}
-use Rattle.hsp_runs.specs.declared.accepted.Accepted.{Accepted}
 use Rattle.hsp_runs.specs.declared.inputs.Inputs.{Inputs}
-use Rattle.hsp_tables.specs.Costs.{CostEntry}
 use Rattle.hsp_talk.specs.Known.{Known}
 use Rattle.hsp_talk.specs.Known.{IsHandedOn as IsKnownHanded}
 use Rattle.hsp_prices.specs.Rows.{Service}
@@ -21,14 +16,11 @@ use Rattle.hsp_price_answers.specs.PriceAnswerRun.{AnswersClaim, AnswersFront, A
 use Rattle.hsp_price_answers.specs.PriceAnswerRun.{AnswersText, IsPriceAnswered, PriceRun}
 use Rattle.hsp_price_answers.specs.declared.front_words.FrontChoice.{FrontChoice}
 use Rattle.hsp_stream.specs.Answering.{AnswersRows}
-use Rattle.hsp_stream.specs.AnswerRun.{AnswersAs, AnswersPortion, AnswersWhere, EndsTalk, IsAnswered, Refuses, Run}
-use Rattle.hsp_stream.specs.AnswerRun.{RunOf}
+use Rattle.hsp_stream.specs.AnswerRun.{EndsTalk, Refuses, RunOf}
 use Rattle.hsp_stream.specs.PlacesRun.{ArePlaced, ArePlacedUntil}
-use Rattle.hsp_stream.specs.Words.{portion_at}
 use Rattle.hsp_stream.specs.declared.fault.RowFault.TheVariants as row
 use Rattle.hsp_stream.specs.declared.fault.StreamFault.{StreamFault}
 use Rattle.hsp_stream.specs.declared.fault.StreamFault.TheVariants as fault
-use Rattle.hsp_stream.specs.declared.portions.PortionWords.{PortionWords}
 use Rattle.hsp_stream_cli.specs.Printing.{Ended, IsFailedWrite, IsHandedOn}
 use Rattle.hsp_stream_cli.specs.Talking.{MayEnd, TalksOver}
 
@@ -52,7 +44,6 @@ until_keep settings values old new fault.OutOfMemory so = elim so [
 ]
 until_keep settings values old new (fault.Refused reason) so = absurd so
 until_keep settings values old new fault.TooLarge so = absurd so
-until_keep settings values old new fault.BadUnit so = absurd so
 until_keep settings values old new fault.BadFront so = absurd so
 
 -- places that were stated to the end keep the peer
@@ -69,35 +60,6 @@ refused by run (same, answer) = as_it_was run.before run.after same
 -- so does a log that is answered, whatever answers it
 by_talk : {S : Type 0} (By : AnswersRows S) (run : RunOf S) → EndsTalk By run → IsKept run.before run.after
 by_talk By run ends = elim ends [ inl refuses ↦ refused fault.OutOfMemory run refuses | inr so ↦ so.1.same ]
-
--- ---- answers by a plan
-
--- answers by a certificate keep the peer
-by_claim : (portion : Portion) (costs : List CostEntry) (it : Instance) (claim : Claim) (run : Run)
-    → AnswersAs portion costs it claim run → IsKept run.before run.after
-by_claim portion costs it (best c) run ends = by_talk _ run ends
-by_claim portion costs it (short c) run refuses = refused _ run refuses
-
--- so do answers by an accepted plan
-by_accepted : (portion : Portion) (inputs : Inputs) (accepted : Result Accepted Fault) (run : Run)
-    → AnswersWhere portion inputs accepted run → IsKept run.before run.after
-by_accepted portion inputs (Ok accepted) run (costs, read, so) =
-    by_claim portion costs accepted.instance accepted.certificate run so
-by_accepted portion inputs (Err e) run refuses = refused _ run refuses
-
--- so do answers by a portion of it
-by_portion : (inputs : Inputs) (octets : List ℕ) (run : Run) (portion : Result Portion StreamFault)
-    → AnswersPortion inputs octets run portion → IsKept run.before run.after
-by_portion inputs octets run (Err e) refuses = refused e run refuses
-by_portion inputs octets run (Ok portion) so = elim so [
-  | inl refuses ↦ refused _ run refuses
-  | inr rest ↦ by_accepted portion inputs rest.0 run rest.2
-]
-
--- answers keep the peer
-pub answered_keep : (words : PortionWords) (inputs : Inputs) (octets : List ℕ) (run : Run)
-    → IsAnswered words inputs octets run → IsKept run.before run.after
-answered_keep words inputs octets run so = by_portion inputs octets run (portion_at words) so
 
 -- ---- answers by prices
 

@@ -5,33 +5,27 @@ use Rattle.hsp_cli_orders.specs.declared.fault.CommandFault.{CommandFault}
 use Rattle.hsp_cli_orders.specs.declared.stream_order.AskedPriceReport.{AskedPriceReport}
 use Rattle.hsp_cli_orders.specs.declared.stream_order.FaultsOf.{FaultsOf}
 use Rattle.hsp_cli_orders.specs.declared.stream_order.FrontWords.{FrontWords}
-use Rattle.hsp_cli_orders.specs.declared.stream_order.KindFiles.{KindFiles}
 use Rattle.hsp_cli_orders.specs.declared.stream_order.PlaceFiles.{PlaceFiles}
-use Rattle.hsp_cli_orders.specs.declared.stream_order.PlanFiles.{PlanFiles}
 use Rattle.hsp_cli_orders.specs.declared.stream_order.PriceFiles.{PriceFiles}
 use Rattle.hsp_cli_orders.specs.declared.stream_order.ServiceFiles.{ServiceFiles}
 use Rattle.hsp_cli_orders.specs.declared.stream_order.SiteFiles.{SiteFiles}
 use Rattle.hsp_cli_orders.specs.declared.stream_order.StreamOrder.{StreamOrder}
 use Rattle.hsp_cli_orders.specs.declared.stream_order.StreamOrder.TheVariants as order
-use Rattle.hsp_cli.specs.Commands.{AreOpened, DispatchFails}
-use Rattle.hsp_cli.specs.Dispatching.{Opened}
 use Rattle.hsp_cli.specs.Failing as failing
 use Rattle.hsp_cli.specs.Failing.{failure_of}
 use Rattle.hsp_cli.specs.Files.{Disk, HoldsRest}
 use Rattle.hsp_cli.specs.declared.failure.Failure.TheVariants.{Memory}
 use Rattle.hsp_runs.specs.declared.inputs.Inputs.{Inputs}
 use Rattle.hsp_price_answers.specs.declared.front_words.FrontChoice.{FrontChoice}
-use Rattle.hsp_stream.specs.declared.kinds_files.KindsInputs.{KindsInputs}
-use Rattle.hsp_stream.specs.declared.portions.PortionWords.{PortionWords}
 use Rattle.hsp_stream_cli.specs.Checking.{PrintsVerdict}
 use Rattle.hsp_stream_cli.specs.Faults.{EndsList, HoldsText, ReadsMayFail, asked_for}
-use Rattle.hsp_stream_cli.specs.Files.{AreKindsHeld, ArePricesHeld, AreServiceHeld, AreSourcesHeld, KindsFail}
+use Rattle.hsp_stream_cli.specs.Files.{ArePricesHeld, AreServiceHeld, AreSourcesHeld}
 use Rattle.hsp_stream_cli.specs.Files.{PricesFail, ServiceFails, SourcesFail}
 use Rattle.hsp_stream_cli.specs.Listing.{PrintsInterfaces}
 use Rattle.hsp_stream_cli.specs.Planning.{PrintsPlan}
-use Rattle.hsp_stream_cli.specs.Printing.{Ended, PrintsTable, PrintsText}
+use Rattle.hsp_stream_cli.specs.Printing.{Ended, PrintsText}
 use Rattle.hsp_stream_cli.specs.Reporting.{PrintsReport, kind_of}
-use Rattle.hsp_stream_cli.specs.Talking.{EndsAnswers, EndsPlaces, EndsPriced, IsFront, IsPortion, TalksOver}
+use Rattle.hsp_stream_cli.specs.Talking.{EndsPlaces, EndsPriced, IsFront, TalksOver}
 use Rattle.hsp_stream_cli.specs.declared.files.Priced.{Priced}
 use Rattle.hsp_stream_cli.specs.declared.files.Sources.{Sources}
 use Rattle.hsp_stream_cli.specs.declared.texts.TheConstants.{HELP, VERSION}
@@ -40,15 +34,6 @@ use Rattle.hsp_stream_cli.specs.declared.texts.TheConstants.{HELP, VERSION}
 abbrev pub LacksFile : Type 0 → Option (List ℕ) → Option (List ℕ) → Ended → Type 0
 LacksFile MayFail old new ended = (new ≡ old) × failing.LacksFile MayFail ended
 
--- the table of a log is printed
-abbrev pub PrintsKinds : Disk → Type 0 → KindFiles → Option (List ℕ) → Option (List ℕ) → Option (List ℕ) → Ended
-    → Type 0
-PrintsKinds disk MayFail files unit old new ended =
-    LacksFile (KindsFail disk files ⊎ disk.fails files.log) old new ended
-    ⊎ ((inputs : KindsInputs) × (left : Option (List ℕ)) × AreKindsHeld disk files inputs
-    × HoldsRest disk files.log left
-    × PrintsTable MayFail inputs unit left old new ended)
-
 -- the places of a log's handles are stated
 abbrev pub StatesPlaces : Disk → Type 0 → PlaceFiles → Option (List ℕ) → Option (List ℕ) → Ended → Type 0
 StatesPlaces disk MayFail files old new ended =
@@ -56,16 +41,6 @@ StatesPlaces disk MayFail files old new ended =
     ⊎ ((sources : Sources) × (left : Option (List ℕ)) × AreSourcesHeld disk files.sites sources
     × HoldsRest disk files.log left
     × TalksOver (disk.fails files.log) MayFail left old new ended (EndsPlaces sources ended))
-
--- a log is answered by a plan
-abbrev pub AnswersLog : Disk → Type 0 → PlanFiles → Option (List ℕ) → Option FrontWords → Option (List ℕ)
-    → Option (List ℕ) → Ended → Type 0
-AnswersLog disk MayFail files unit front old new ended =
-    LacksFile (DispatchFails disk files.inputs files.plan files.log) old new ended
-    ⊎ ((new ≡ old) × (ended ≡ Err Memory))
-    ⊎ ((it : Opened) × (words : PortionWords) × AreOpened disk files.inputs files.plan files.log it
-    × IsPortion unit front words
-    × TalksOver (disk.fails files.log) MayFail it.left old new ended (EndsAnswers it.inputs it.certificate words ended))
 
 -- what is printed of a certificate by prices, its inputs, and what is left of a log, where the files are read
 abbrev pub ByPrices : Disk → PriceFiles → Option (List ℕ) → Option (List ℕ) → Ended
@@ -121,12 +96,8 @@ ListsFaults disk MayFail of file old new ended =
 abbrev pub CarriesOut : Disk → Type 0 → StreamOrder → Option (List ℕ) → Option (List ℕ) → Ended → Type 0
 CarriesOut disk MayFail order.Help old new ended = PrintsText MayFail HELP.now old new ended
 CarriesOut disk MayFail order.Version old new ended = PrintsText MayFail VERSION.now old new ended
-CarriesOut disk MayFail (order.Kinds files unit) old new ended = PrintsKinds disk MayFail files unit old new ended
 CarriesOut disk MayFail (order.Places files) old new ended = StatesPlaces disk MayFail files old new ended
-CarriesOut disk MayFail (order.Answer files unit front) old new ended =
-    AnswersLog disk MayFail files unit front old new ended
-CarriesOut disk MayFail (order.AnswerPrices files front) old new ended =
-    AnswersPriced disk MayFail files front old new ended
+CarriesOut disk MayFail (order.Answer files front) old new ended = AnswersPriced disk MayFail files front old new ended
 CarriesOut disk MayFail (order.Plan files) old new ended = PlansLog disk MayFail files old new ended
 CarriesOut disk MayFail (order.Check files) old new ended = ChecksPrices disk MayFail files old new ended
 CarriesOut disk MayFail (order.Report files kind) old new ended = ReportsPrices disk MayFail files kind old new ended

@@ -2,12 +2,10 @@
 use Rattle.std.specs.Prelude.{◌≡◌, ◌⊎◌, option_map}
 use Rattle.hsp_cli.specs.Commands.{FailsNamed, HoldsNamed}
 use Rattle.hsp_cli.specs.Files.{Disk}
-use Rattle.hsp_cli_orders.specs.declared.stream_order.KindFiles.{KindFiles}
 use Rattle.hsp_cli_orders.specs.declared.stream_order.PriceFiles.{PriceFiles}
 use Rattle.hsp_cli_orders.specs.declared.stream_order.ServiceFiles.{ServiceFiles}
 use Rattle.hsp_cli_orders.specs.declared.stream_order.SiteFiles.{SiteFiles}
 use Rattle.hsp_runs.specs.declared.inputs.Inputs.{Inputs}
-use Rattle.hsp_stream.specs.declared.kinds_files.KindsInputs.{KindsInputs}
 use Rattle.hsp_stream_cli.specs.declared.files.Priced.{Priced}
 use Rattle.hsp_stream_cli.specs.declared.files.Sources.{Sources}
 use Rattle.hsp_stream_cli.specs.declared.files.TheConstants.{NO_ROWS}
@@ -16,11 +14,6 @@ use Rattle.hsp_stream_cli.specs.declared.files.TheConstants.{NO_ROWS}
 pub record AreSourcesHeld (disk : Disk) (files : SiteFiles) (sources : Sources) : Type 0 where
   pub settings_held : disk.holds files.settings sources.settings.items
   pub values_held : HoldsNamed disk files.values (option_map (λ v. v.items) sources.values)
-
-pub record AreKindsHeld (disk : Disk) (files : KindFiles) (inputs : KindsInputs) : Type 0 where
-  pub settings_held : disk.holds files.settings inputs.settings.items
-  pub values_held : HoldsNamed disk files.values (option_map (λ v. v.items) inputs.values)
-  pub costs_held : disk.holds files.costs inputs.costs.items
 
 -- the same of the inputs of a service, whose table of demand has no row
 pub record AreServiceHeld (disk : Disk) (files : ServiceFiles) (inputs : Inputs) : Type 0 where
@@ -38,9 +31,6 @@ pub record ArePricesHeld (disk : Disk) (files : PriceFiles) (priced : Priced) : 
 -- one of the files may fail to be read
 abbrev pub SourcesFail : Disk → SiteFiles → Type 0
 SourcesFail disk files = disk.fails files.settings ⊎ FailsNamed disk files.values
-
-abbrev pub KindsFail : Disk → KindFiles → Type 0
-KindsFail disk files = disk.fails files.settings ⊎ FailsNamed disk files.values ⊎ disk.fails files.costs
 
 abbrev pub ServiceFails : Disk → ServiceFiles → Type 0
 ServiceFails disk files =

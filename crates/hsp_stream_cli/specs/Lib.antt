@@ -1,6 +1,5 @@
 pub mod Faults
 pub mod Files
-pub mod Sums
 pub mod Printing
 pub mod Talking
 pub mod Checking

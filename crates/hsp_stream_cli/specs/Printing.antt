@@ -1,21 +1,18 @@
--- Texts and tables on an output.
+-- Texts on an output.
 use Rattle.std.specs.Prelude.{◌≡◌, ◌⊎◌, ⊤, ℕ, List, Option, None, Result, Ok, Err}
 use Rattle.std.specs.Io.KnownBytes.{Appends}
 use Rattle.hsp_cli.specs.declared.answer.Completed.{Completed}
 use Rattle.hsp_cli.specs.declared.failure.Failure.{Failure}
 use Rattle.hsp_cli.specs.declared.failure.Failure.TheVariants.{Refused, Write}
 use Rattle.hsp_talk.specs.Writing.{IsBegun}
-use Rattle.hsp_stream.specs.KindsLog.{IsReadFault}
-use Rattle.hsp_stream.specs.KindsRun.{IsKindsOf}
+use Rattle.hsp_price_answers.specs.declared.sums.PriceSums.{PriceSums}
 use Rattle.hsp_stream.specs.declared.fault.RowFault.TheVariants.{WriteFailed}
 use Rattle.hsp_stream.specs.declared.fault.StreamFault.{StreamFault}
 use Rattle.hsp_stream.specs.declared.fault.StreamFault.TheVariants.{Log}
-use Rattle.hsp_stream.specs.declared.kinds_files.KindsInputs.{KindsInputs}
-use Rattle.hsp_stream_cli.specs.declared.program.Sums.{Sums}
 
 -- how a command ended: as it was carried out, or by a failure
 abbrev pub Ended : Type 0
-Ended = Result (Completed Sums) (Failure StreamFault)
+Ended = Result (Completed PriceSums) (Failure StreamFault)
 
 -- the text was written, and this status returned; or a write failed, as it may, and a beginning of the text was
 -- written
@@ -28,20 +25,6 @@ PrintsWith status MayFail text old new (Err failure) = ⊥
 -- the same with status 0
 abbrev pub PrintsText : Type 0 → List ℕ → Option (List ℕ) → Option (List ℕ) → Ended → Type 0
 PrintsText MayFail text old new ended = PrintsWith 0 MayFail text old new ended
-
--- the table of a log with these octets left, where they are known, or its fault
-abbrev pub IsTable : KindsInputs → Option (List ℕ) → Option (List ℕ) → List ℕ → Type 0
-IsTable inputs unit left text = IsKindsOf inputs unit left (Ok text)
-
-abbrev pub IsTableFault : KindsInputs → Option (List ℕ) → Option (List ℕ) → StreamFault → Type 0
-IsTableFault inputs unit left fault = IsReadFault fault ⊎ IsKindsOf inputs unit left (Err fault)
-
--- the table is printed; or nothing was written, and its fault is returned
-abbrev pub PrintsTable : Type 0 → KindsInputs → Option (List ℕ) → Option (List ℕ) → Option (List ℕ)
-    → Option (List ℕ) → Ended → Type 0
-PrintsTable MayFail inputs unit left old new ended =
-    ((text : List ℕ) × IsTable inputs unit left text × PrintsText MayFail text old new ended)
-    ⊎ ((fault : StreamFault) × IsTableFault inputs unit left fault × (new ≡ old) × (ended ≡ Err (Refused fault)))
 
 -- a failed write is reported
 abbrev pub IsFailedWrite : Ended → Type 0

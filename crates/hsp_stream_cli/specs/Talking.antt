@@ -2,26 +2,16 @@
 use Rattle.std.specs.Prelude.{◌≡◌, ⊤, ℕ, List, Option, None, Some, Ok, Err, option_map}
 use Rattle.hsp_cli.specs.declared.failure.Failure.TheVariants.{Refused}
 use Rattle.hsp_cli_orders.specs.declared.stream_order.FrontWords.{FrontWords}
-use Rattle.hsp_runs.specs.declared.inputs.Inputs.{Inputs}
 use Rattle.hsp_talk.specs.Known.{Known}
 use Rattle.hsp_price_answers.specs.PriceAnswerRun.{IsPriceAnswered}
 use Rattle.hsp_price_answers.specs.declared.front_words.FrontChoice.{FrontChoice}
 use Rattle.hsp_price_answers.specs.declared.sums.PriceSums.{PriceSums}
-use Rattle.hsp_stream.specs.AnswerRun.{IsAnswered, run_of}
+use Rattle.hsp_stream.specs.AnswerRun.{run_of}
 use Rattle.hsp_stream.specs.PlacesRun.{ArePlaced, ArePlacedUntil}
 use Rattle.hsp_stream.specs.TalkFaults.{MayStopBy}
-use Rattle.hsp_stream.specs.declared.portions.PortionWords.{PortionWords}
-use Rattle.hsp_stream.specs.declared.given.StreamSums.{StreamSums}
 use Rattle.hsp_stream_cli.specs.Printing.{Ended}
 use Rattle.hsp_stream_cli.specs.declared.files.Priced.{Priced}
 use Rattle.hsp_stream_cli.specs.declared.files.Sources.{Sources}
-use Rattle.hsp_stream_cli.specs.declared.program.Sums.TheVariants.{Plan, Prices}
-
--- the words of a portion are these
-pub record IsPortion (unit : Option (List ℕ)) (front : Option FrontWords) (words : PortionWords) : Type 0 where
-  pub unit_is : option_map (λ v. v.items) words.unit ≡ unit
-  pub fronts_are : option_map (λ v. v.items) words.fronts ≡ option_map (λ (it : FrontWords). it.fronts) front
-  pub front_is : option_map (λ v. v.items) words.front ≡ option_map (λ (it : FrontWords). it.front) front
 
 -- the words of a front are these
 pub record IsFront (front : Option FrontWords) (words : FrontChoice) : Type 0 where
@@ -54,19 +44,10 @@ EndsPlaces sources (Err (Refused fault)) old new =
     ArePlacedUntil sources.settings.items (option_map (λ v. v.items) sources.values) old new fault
 EndsPlaces sources (Err failure) old new = ⊥
 
--- a log was answered by a plan, and its sums are returned, or the run's fault
-abbrev pub EndsAnswers : Inputs → List ℕ → PortionWords → Ended → Known → Known → Type 0
-EndsAnswers inputs octets words (Ok completed) old new =
-    (sums : StreamSums) × (completed ≡ record { status = 0; sums = Some (Plan sums) })
-    × IsAnswered words inputs octets (run_of old new (Ok sums))
-EndsAnswers inputs octets words (Err (Refused fault)) old new =
-    IsAnswered words inputs octets (run_of old new (Err fault))
-EndsAnswers inputs octets words (Err failure) old new = ⊥
-
--- the same by a certificate by prices
+-- a log was answered by a certificate by prices, and its sums are returned, or the run's fault
 abbrev pub EndsPriced : Priced → FrontChoice → Ended → Known → Known → Type 0
 EndsPriced priced words (Ok completed) old new =
-    (sums : PriceSums) × (completed ≡ record { status = 0; sums = Some (Prices sums) })
+    (sums : PriceSums) × (completed ≡ record { status = 0; sums = Some sums })
     × IsPriceAnswered words priced.inputs priced.prices.items (run_of old new (Ok sums))
 EndsPriced priced words (Err (Refused fault)) old new =
     IsPriceAnswered words priced.inputs priced.prices.items (run_of old new (Err fault))

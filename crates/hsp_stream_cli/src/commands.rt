@@ -4,13 +4,13 @@ ghost use Rattle.std.specs.Prelude.{map, string_bytes};
 ghost use Rattle.hsp_stream_cli.specs.Commands.{CarriesOut, Obeys};
 ghost use Rattle.hsp_stream_cli.specs.Printing.{IsHandedOn};
 
-use crate::answering::{AskedPortion, answer_log, answer_priced};
+use crate::answering::answer_priced;
 use crate::checking::check_prices;
 use crate::faults::list_faults;
 use crate::listing::list_interfaces;
 use crate::placing::state_places;
 use crate::planning::plan_log;
-use crate::printing::{print, print_kinds};
+use crate::printing::print;
 use crate::program::Ended;
 use crate::reporting::report_prices;
 use crate::texts::{HELP, VERSION};
@@ -35,16 +35,9 @@ fn carry_out<S: FileSource, P: Progress + Drop, O: Output>(
     match order {
         StreamOrder::Help => print(out, HELP),
         StreamOrder::Version => print(out, VERSION),
-        StreamOrder::Kinds { files, unit } => print_kinds(alloc, source, files, unit, out),
         StreamOrder::Places { files } => state_places(alloc, source, files, out),
         StreamOrder::Plan { files } => plan_log(alloc, source, files, progress, out),
-        StreamOrder::Answer { files, unit, front } => {
-            let asked = AskedPortion { unit, front };
-            answer_log(alloc, source, files, asked, out)
-        }
-        StreamOrder::AnswerPrices { files, front } => answer_priced(
-            alloc, source, files, front, out,
-        ),
+        StreamOrder::Answer { files, front } => answer_priced(alloc, source, files, front, out),
         StreamOrder::Check { files } => check_prices(alloc, source, files, out),
         StreamOrder::Report { files, kind } => report_prices(alloc, source, files, *kind, out),
         StreamOrder::Interfaces { files } => list_interfaces(alloc, source, files, out),

@@ -2,13 +2,12 @@
 
 ghost use Rattle.std.specs.Prelude.{IfErr, IfOk};
 ghost use Rattle.hsp_cli.specs.Failing.{IsUnread};
-ghost use Rattle.hsp_stream_cli.specs.Files.{AreKindsHeld, ArePricesHeld, AreSourcesHeld, KindsFail, PricesFail};
+ghost use Rattle.hsp_stream_cli.specs.Files.{ArePricesHeld, AreSourcesHeld, PricesFail};
 ghost use Rattle.hsp_stream_cli.specs.Files.{AreServiceHeld, ServiceFails, SourcesFail};
 
 use hsp_cli::{FileSource, Unread, read_named, read_whole};
-use hsp_cli_orders::{KindFiles, PriceFiles, ServiceFiles, SiteFiles};
+use hsp_cli_orders::{PriceFiles, ServiceFiles, SiteFiles};
 use hsp_runs::Inputs;
-use hsp_stream::KindsInputs;
 use std::alloc::Global;
 
 /// The octets that define sites: settings, and the value list that they may refer to.
@@ -42,22 +41,6 @@ pub(crate) fn read_sources<S: FileSource>(
     Ok(Sources {
         settings: read_whole(alloc, files, &named.settings)?,
         values: read_named(alloc, files, &named.values)?,
-    })
-}
-
-/// The files by which rows are joined.
-pub(crate) fn read_kinds<S: FileSource>(
-    alloc: Global,
-    files: &S,
-    named: &KindFiles<'_>,
-) -> Result<KindsInputs, Unread>
-    ensures held { IfOk result (λ inputs. AreKindsHeld (S.disk files.now) named.now inputs) }
-    ensures unread { IfErr result (IsUnread (KindsFail (S.disk files.now) named.now)) }
-{
-    Ok(KindsInputs {
-        settings: read_whole(alloc, files, &named.settings)?,
-        values: read_named(alloc, files, &named.values)?,
-        costs: read_whole(alloc, files, &named.costs)?,
     })
 }
 

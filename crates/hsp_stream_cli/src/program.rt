@@ -2,32 +2,23 @@
 
 ghost use Rattle.std.specs.Prelude.{codes};
 ghost use Rattle.hsp_stream.specs.Lines as lines;
-ghost use Rattle.hsp_stream_cli.specs.Sums.{sums_text};
+ghost use Rattle.hsp_price_answers.specs.Lines.{price_sums_text};
 
 use hsp_cli::{Completed, Failure, Program};
 use hsp_price_answers::{PriceSums, price_sums_line};
-use hsp_stream::{StreamFault, StreamSums, stream_fault_line, stream_status, stream_sums_line};
+use hsp_stream::{StreamFault, stream_fault_line, stream_status};
 use std::alloc::{AllocError, Global};
 
 /// The program `hsplan-stream`.
 pub struct HsplanStream;
 
-/// How many rows of a log were answered by each kind of answer.
-#[derive(Clone, Copy)]
-pub enum Sums {
-    /// By a plan.
-    Plan(StreamSums),
-    /// By a certificate by prices.
-    Prices(PriceSums),
-}
-
 /// How a command of `hsplan-stream` ends.
-pub type Ended = Result<Completed<Sums>, Failure<StreamFault>>;
+pub type Ended = Result<Completed<PriceSums>, Failure<StreamFault>>;
 
 impl Program for HsplanStream {
     type Fault = StreamFault;
 
-    type Sums = Sums;
+    type Sums = PriceSums;
 
     ghost name = { codes "hsplan-stream" };
 
@@ -35,7 +26,7 @@ impl Program for HsplanStream {
 
     ghost fault_status = { lines.status_in };
 
-    ghost sums_text = { sums_text };
+    ghost sums_text = { price_sums_text };
 
     fn own_line(failure: &Failure<StreamFault>) -> &'static [u8] {
         match failure {
@@ -55,10 +46,7 @@ impl Program for HsplanStream {
         stream_status(fault)
     }
 
-    fn sums_line(alloc: Global, sums: &Sums) -> Result<Vec<u8>, AllocError> {
-        match sums {
-            Sums::Plan(sums) => stream_sums_line(alloc, sums),
-            Sums::Prices(sums) => price_sums_line(alloc, sums),
-        }
+    fn sums_line(alloc: Global, sums: &PriceSums) -> Result<Vec<u8>, AllocError> {
+        price_sums_line(alloc, sums)
     }
 }

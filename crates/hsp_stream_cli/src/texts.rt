@@ -1,12 +1,7 @@
 // The texts that answer a request for help and for the version.
 
 /// What `--help` prints.
-pub const HELP: &[u8] = b"hsplan-stream: tables, places, plans, answers, checks and reports of logs
-
-hsplan-stream kinds --settings F [--values F] --costs F [--unit N] --log F
-    prints a table of demand: one row for each kind of the log's rows.
-    The log has the header region,handle or region,handle,count.
-    With --unit N each count is divided by N and rounded up.
+pub const HELP: &[u8] = b"hsplan-stream: places, plans, answers, checks and reports of logs
 
 hsplan-stream places --settings F [--values F] --log F
     prints the server of each handle of the log, at each site.
@@ -17,18 +12,12 @@ hsplan-stream plan --settings F [--values F] --costs F --capacity F --log F
     servers that are short. The log may have up to 4,294,967,296 rows, with the
     header region,handle or region,handle,count.
 
-hsplan-stream answer --settings F [--values F] --demand F --costs F --capacity F
-                     --plan F --log F [--unit N] [--fronts N --front K]
-    answers each row of the log by the plan, for as long as the log goes on.
-    The log has the header region,handle or region,body.
-    With --fronts N --front K it answers by the share of the front K of N.
-    With --unit N each query of the plan stands for N answers.
-
 hsplan-stream answer --settings F [--values F] --costs F --capacity F --prices F
                      --log F [--fronts N --front K]
     answers each row of the log by a certificate by prices, for any handle.
     No server gets more than its capacity, and no host more than its limit.
-    The log and the fronts are those of the form above.
+    The log has the header region,handle or region,body.
+    With --fronts N --front K it answers by the share of the front K of N.
 
 hsplan-stream check --settings F [--values F] --costs F --capacity F --log F
                     --prices F
@@ -54,4 +43,4 @@ A file may be a pipe or /dev/stdin. The manual page has more: man hsplan-stream.
 ";
 
 /// What `--version` prints.
-pub const VERSION: &[u8] = b"hsplan-stream 1.13.0\n";
+pub const VERSION: &[u8] = b"hsplan-stream 2.0.0\n";

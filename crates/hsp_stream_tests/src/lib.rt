@@ -1,18 +1,14 @@
-// Tests of the runs over logs of any length: tables of kinds, places, answers by a portion of a plan, certificates by
-// prices and answers by them, and faulty rows.
+// Tests of the runs over logs of any length: places, plans, certificates by prices and answers by them, interfaces, and
+// faulty rows.
 // Then of the lines that are printed, and of what the runs stand on: rows that are lines, rows that were seen.
 #![tactic(auto)]
 
-#[cfg(test)]
-mod answer_tests;
 #[cfg(test)]
 mod fakes;
 #[cfg(test)]
 mod faulty_tests;
 #[cfg(test)]
 mod interface_tests;
-#[cfg(test)]
-mod kinds_tests;
 #[cfg(test)]
 mod line_tests;
 #[cfg(test)]

@@ -1,13 +1,11 @@
-// The lines of faults and sums, and the statuses.
+// The lines of faults, and the statuses.
 
 use crate::same::is_same;
 use hsp_check::Reason;
 use hsp_prices::PriceReason;
 use hsp_runs::Fault;
 use hsp_names::HandleFault;
-use hsp_stream::{
-    RowFault, StreamFault, StreamSums, stream_fault_line, stream_status, stream_sums_line,
-};
+use hsp_stream::{RowFault, StreamFault, stream_fault_line, stream_status};
 use hsp_tables::TableFault;
 use std::alloc::{AllocError, Global};
 use std::process::Abort;
@@ -33,8 +31,7 @@ fn all_have_lines(rt: &impl Abort, alloc: Global, cases: &[(StreamFault, &[u8], 
 
 #[test]
 fn faults_of_words_and_files_have_their_lines(rt: HostRuntime) {
-    const CASES: [(StreamFault, &[u8], u8); 8] = [
-        (StreamFault::BadUnit, b"hsplan-stream: BadUnit\n", 1),
+    const CASES: [(StreamFault, &[u8], u8); 7] = [
         (StreamFault::BadFront, b"hsplan-stream: BadFront\n", 1),
         (
             StreamFault::Refused(PriceReason::NoSuchServer),
@@ -64,7 +61,7 @@ fn faults_of_words_and_files_have_their_lines(rt: HostRuntime) {
 
 #[test]
 fn faults_of_logs_have_their_lines(rt: HostRuntime) {
-    const CASES: [(StreamFault, &[u8], u8); 6] = [
+    const CASES: [(StreamFault, &[u8], u8); 5] = [
         (
             StreamFault::Log(RowFault::ReadFailed),
             b"hsplan-stream: log: ReadFailed\n",
@@ -93,18 +90,13 @@ fn faults_of_logs_have_their_lines(rt: HostRuntime) {
             b"hsplan-stream: log: BadHandle row 7 NoSlash\n",
             1,
         ),
-        (
-            StreamFault::Log(RowFault::CountTooLarge { row: 2, unit: 7 }),
-            b"hsplan-stream: log: CountTooLarge row 2 unit 7\n",
-            1,
-        ),
     ];
     all_have_lines(&rt, rt.alloc(), &CASES);
 }
 
 #[test]
 fn greatest_rows_have_their_lines(rt: HostRuntime) {
-    const CASES: [(StreamFault, &[u8], u8); 4] = [
+    const CASES: [(StreamFault, &[u8], u8); 3] = [
         (
             StreamFault::Log(RowFault::BadName { row: u64::MAX }),
             b"hsplan-stream: log: BadName row 18446744073709551615\n",
@@ -120,32 +112,8 @@ fn greatest_rows_have_their_lines(rt: HostRuntime) {
             b"hsplan-stream: log: TooManyRegions row 18446744073709551615\n",
             1,
         ),
-        (
-            StreamFault::Log(RowFault::TooManyKinds { row: u64::MAX }),
-            b"hsplan-stream: log: TooManyKinds row 18446744073709551615\n",
-            1,
-        ),
     ];
     all_have_lines(&rt, rt.alloc(), &CASES);
-}
-
-#[test]
-fn sums_have_their_line(rt: HostRuntime) {
-    let sums = StreamSums {
-        assigned: 3,
-        spent: 1,
-        unknown: 0,
-        refused: u64::MAX,
-    };
-    let line = match stream_sums_line(rt.alloc(), &sums) {
-        Ok(line) => Ok(line),
-        Err(_) => stream_sums_line(rt.alloc(), &sums),
-    };
-    let wanted: &[u8] = b"assigned 3 spent 1 unknown 0 refused 18446744073709551615\n";
-    match line {
-        Ok(line) => is_same(&rt, line.as_slice(), wanted),
-        Err(_) => is_same(&rt, true, false),
-    }
 }
 
 // The fault is displayed so.
@@ -159,8 +127,7 @@ fn is_displayed(rt: &impl Abort, alloc: Global, fault: &StreamFault, wanted: &st
 
 #[test]
 fn faults_are_displayed(rt: HostRuntime) {
-    const CASES: [(StreamFault, &str); 7] = [
-        (StreamFault::BadUnit, "bad unit"),
+    const CASES: [(StreamFault, &str); 6] = [
         (StreamFault::BadFront, "bad front"),
         (StreamFault::Refused(PriceReason::Load), "check: Load"),
         (StreamFault::Input(Fault::BadFronts), "bad fronts"),

@@ -157,13 +157,17 @@ fn a_front_answers_by_its_share_of_the_plan(rt: HostRuntime) {
     }
 }
 
-// The bodies ask for 10/3 and for 10. The last one is cut.
+// The bodies ask for 10/3, for 10/3 with digits in upper case, and for 10. The others are none: digits that are no
+// octets or odd in number, and a body that is cut.
 #[test]
 fn bodies_are_answered_by_prices(rt: HostRuntime) {
     let log: &[u8] =
-        b"region,body\nr2,0000000431302f330000000000000000\nr2,0000000231300000000000000000\nr2,00000004\n";
-    let sent: &[u8] = b"assigned E 1 3\nrefused BadHandle NoSlash\nrefused BadBody\n";
-    answers(&rt, rt.alloc(), None, log, (sent, [1, 0, 0, 0, 2]));
+        b"\n\nregion,body\nr2,0000000431302f330000000000000000\nr2,0000000431302F330000000000000000\n\
+        r2,0000000231300000000000000000\nr2,zz\nr2,000\nr2,00000004\n";
+    let sent: &[u8] =
+        b"assigned E 1 3\nassigned W 0 1\nrefused BadHandle NoSlash\nrefused BadBody\nrefused BadBody\n\
+        refused BadBody\n";
+    answers(&rt, rt.alloc(), None, log, (sent, [2, 0, 0, 0, 4]));
 }
 
 // The run has the fault, and sends nothing.
@@ -237,6 +241,62 @@ fn many_rows_are_answered_by_prices(rt: HostRuntime) {
         is_same(&rt, sent.len(), 560_000);
         is_same(&rt, ended, wanted);
     }
+}
+
+// Adds a row of so many octets: a beginning, and the letter e.
+fn push_row(text: &mut Vec<u8>, begins: &[u8], octets: usize) -> Result<(), AllocError> {
+    text.extend_from_slice(begins)?;
+    for _more in begins.len()..octets {
+        text.push(b'e')?;
+    }
+    text.extend_from_slice(b"\n")
+}
+
+// Two rows with handles of 4,096 and 4,097 octets, two of as many octets as a row may have, and one of one more.
+fn longest_rows(alloc: Global) -> Result<Vec<u8>, AllocError> {
+    let mut log = Vec::from_slice(alloc, b"region,handle\n")?;
+    push_row(&mut log, b"r1,10/", 4_099)?;
+    push_row(&mut log, b"r1,10/", 4_100)?;
+    push_row(&mut log, b"r1,10/", 1_048_576)?;
+    push_row(&mut log, b"\"r1\",10/", 1_048_576)?;
+    push_row(&mut log, b"r1,10/", 1_048_577)?;
+    Ok(log)
+}
+
+// A row with the body of a request for a handle of 4,096 octets.
+fn longest_body(alloc: Global) -> Result<Vec<u8>, AllocError> {
+    let mut log = Vec::from_slice(alloc, b"region,body\nr1,0000100031302f")?;
+    for _letter in 0..4_093 {
+        log.extend_from_slice(b"65")?;
+    }
+    log.extend_from_slice(b"0000000000000000\n")?;
+    Ok(log)
+}
+
+// The local name of 4,093 letters is at place 1 of two servers, and at place 2 of three, as 1 is.
+#[test]
+fn longest_rows_are_answered_by_prices(rt: HostRuntime) {
+    let log = match longest_rows(rt.alloc()) {
+        Ok(log) => log,
+        Err(AllocError) => longest_rows(rt.alloc()).expect(&rt, "there is memory"),
+    };
+    let body = match longest_body(rt.alloc()) {
+        Ok(log) => log,
+        Err(AllocError) => longest_body(rt.alloc()).expect(&rt, "there is memory"),
+    };
+    let one: (&[u8], [u64; 5]) = (b"assigned E 1 3\n", [1, 0, 0, 0, 0]);
+    answers(&rt, rt.alloc(), None, &body, one);
+    answers(
+        &rt,
+        rt.alloc(),
+        None,
+        &log,
+        (
+            b"assigned E 1 3\nrefused BadHandle TooLong\nrefused BadHandle TooLong\nrefused BadHandle TooLong\n\
+            refused TooLong\n",
+            [1, 0, 0, 0, 4],
+        ),
+    );
 }
 
 // The line of sums, once more where memory ran out.

@@ -2,9 +2,7 @@ use Rattle.std.proofs.Common.{◌≡◌, ◌∙◌, arith, length, take, Some, r
 use Rattle.std.specs.List.{slice_get}
 use Rattle.std.proofs.lemmas.Option.{slice_get_read}
 use Rattle.std.proofs.lemmas.List.{take_all}
-use Rattle.hsp_check.specs.Uses.{table}
 use Rattle.hsp_dispatch.proofs.FrontsHeld.{few_held}
-use Rattle.hsp_dispatch.proofs.Parts.{part_whole}
 use Rattle.hsp_dispatch.proofs.fronts.rows_by.Goals as goal
 
 pub new-requires-clause-few : goal.new-requires-clause-few
@@ -24,9 +22,4 @@ returns c =
     take_all c.loop-share.share-index shares (omega arith) in
     let items : c.loop-share.rows.items ≡ shares =
     rw (c.deref-share-items.ensures.value, whole) at c.loop-share.invariant in
-    rw items (record {
-      held = c.in_ok-shares.ensures.held;
-      table =
-          λ row site. rw c.whole.ensures at c.in_ok-shares.ensures.table row site
-          ∙ part_whole (table c.args.uses.now row site);
-    })
+    rw items (record { held = c.in_ok-shares.ensures.held; table = c.in_ok-shares.ensures.table })

@@ -1,16 +1,10 @@
 use Rattle.hsp_stream_cli.proofs.commands.carry_out.Goals as goal
 
-pub returns-in-Kinds-clause-carries_out : goal.returns-in-Kinds-clause-carries_out
-returns-in-Kinds-clause-carries_out g c = rw c.in-Kinds.is c.print_kinds.ensures.prints
-
 pub returns-in-Places-clause-carries_out : goal.returns-in-Places-clause-carries_out
 returns-in-Places-clause-carries_out g c = rw c.in-Places.is c.state_places.ensures.states
 
 pub returns-in-Answer-clause-carries_out : goal.returns-in-Answer-clause-carries_out
-returns-in-Answer-clause-carries_out g c = rw c.in-Answer.is c.answer_log.ensures.answers
-
-pub returns-in-AnswerPrices-clause-carries_out : goal.returns-in-AnswerPrices-clause-carries_out
-returns-in-AnswerPrices-clause-carries_out g c = rw c.in-AnswerPrices.is c.answer_priced.ensures.answers
+returns-in-Answer-clause-carries_out g c = rw c.in-Answer.is c.answer_priced.ensures.answers
 
 pub returns-in-Check-clause-carries_out : goal.returns-in-Check-clause-carries_out
 returns-in-Check-clause-carries_out g c = rw c.in-Check.is c.check_prices.ensures.checks
