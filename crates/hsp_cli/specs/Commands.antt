@@ -1,6 +1,6 @@
 -- What a command answers: to which words, and from which files.
 use Rattle.std.specs.Prelude.{◌≡◌, ◌⊎◌, ⊤, ℕ, List, [], Option, Some, None, Result, Ok, Err, option_map}
-use Rattle.hsp_cli_options.specs.Commands.{hsplan_app}
+use Rattle.hsp_cli_orders.specs.Commands.{hsplan_app}
 use Rattle.clap.specs.Words.{fault_of, subcommand_of}
 use Rattle.hsp_cli_orders.specs.Orders.{IsOrderOf, IsUsage}
 use Rattle.hsp_cli_orders.specs.declared.fault.CommandFault.{CommandFault}

@@ -10,7 +10,7 @@ use Rattle.clap.specs.declared.parser.matches.ArgMatches.{ArgMatches}
 use Rattle.clap.specs.declared.parser.matches.ArgMatches.TheViews.{out-ArgMatches, out-SubCommand}
 use Rattle.clap.specs.declared.parser.matches.SubCommand.{SubCommand}
 use Rattle.std.specs.Box.{box_value}
-use Rattle.hsp_cli_options.specs.Commands.{stream_app}
+use Rattle.hsp_cli_orders.specs.Commands.{stream_app}
 use Rattle.hsp_cli_orders.specs.StreamOrders.{IsCommandOrder, IsStreamOrder, IsStreamOrdered, IsStreamUsage, asked}
 use Rattle.hsp_cli_orders.specs.declared.fault.CommandFault.{CommandFault}
 use Rattle.hsp_cli_orders.specs.declared.fault.CommandFault.TheVariants as command_fault

@@ -1,7 +1,7 @@
 -- What an order holds: the subcommand that clap met in the words, and the values of its options and words.
 use Rattle.std.specs.Prelude.{◌≡◌, List, [], codes, Option, Some, None}
 use Rattle.clap.specs.Words.{Row, Text, fault_of, first_of, subcommand_of}
-use Rattle.hsp_cli_options.specs.Commands.{hsplan_app}
+use Rattle.hsp_cli_orders.specs.Commands.{hsplan_app}
 use Rattle.hsp_cli_orders.specs.declared.order.Order.{Order}
 use Rattle.hsp_cli_orders.specs.declared.order.InputFiles.{InputFiles}
 use Rattle.hsp_cli_orders.specs.declared.order.Order.TheVariants as order

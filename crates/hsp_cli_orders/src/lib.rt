@@ -1,13 +1,17 @@
-// The command lines of the programs: words, and the orders that they give.
+// The command lines of the programs: their commands with their options, built for clap, their words, and the orders that
+// these give.
 #![tactic(auto)]
 
+mod commands;
 mod fault;
 mod order;
 mod reading;
 mod stream_order;
 mod stream_reading;
+mod tables;
 mod words;
 
+pub use commands::{hsplan_command, stream_command};
 pub use fault::CommandFault;
 pub use order::{AskedReport, InputFiles, Order, Word};
 pub use reading::read_command;

@@ -4,7 +4,7 @@ ghost use Rattle.std.specs.Prelude.{◌≡◌, ◌≢◌, ◌↔◌, [], true, f
 ghost use Rattle.std.specs.Prelude.{option_map, string_bytes};
 ghost use Rattle.clap.specs.Words.{fault_of, found_of, kind_of, rows_of, first_of, subcommand_of};
 ghost use Rattle.clap.specs.declared.error.kind.ErrorKind.TheVariants as kind;
-ghost use Rattle.hsp_cli_options.specs.Commands.{hsplan_app};
+ghost use Rattle.hsp_cli_orders.specs.Commands.{hsplan_app};
 ghost use Rattle.hsp_cli_orders.specs.Orders.{HasInputs, HasNoPlace, IsOrderIn, IsOrderOf, IsUsage, report_word};
 ghost use Rattle.hsp_cli_orders.specs.declared.fault.CommandFault.TheVariants as fault;
 ghost use Rattle.hsp_cli_orders.specs.declared.order.InputFiles.{InputFiles};
@@ -12,10 +12,10 @@ ghost use Rattle.hsp_cli_orders.specs.declared.order.AskedReport.{AskedReport};
 ghost use Rattle.hsp_cli_orders.specs.declared.order.Order.{Order};
 
 use crate::fault::CommandFault;
+use crate::hsplan_command;
 use crate::order::{AskedReport, InputFiles, Order, Word};
 use clap::error::ErrorKind;
 use clap::{ArgMatches, Error};
-use hsp_cli_options::hsplan_command;
 use std::alloc::Global;
 
 // The value of this name, where it was given.

@@ -3,7 +3,7 @@
 ghost use Rattle.std.specs.Prelude.{◌≡◌, [], IfNone, IfOk, IfSome, OnOk, Err, None, codes, map, option_map};
 ghost use Rattle.std.specs.Prelude.{string_bytes};
 ghost use Rattle.clap.specs.Words.{fault_of, first_of, found_of, rows_of, subcommand_of};
-ghost use Rattle.hsp_cli_options.specs.Commands.{stream_app};
+ghost use Rattle.hsp_cli_orders.specs.Commands.{stream_app};
 ghost use Rattle.hsp_cli_orders.specs.StreamOrders.{HasFront, HasPlaceFiles};
 ghost use Rattle.hsp_cli_orders.specs.StreamOrders.{HasPriceFiles, HasServiceFiles, HasSiteFiles, IsStreamOrder};
 ghost use Rattle.hsp_cli_orders.specs.StreamOrders.{IsStreamOrderIn, IsStreamOrdered};
@@ -20,12 +20,12 @@ ghost use Rattle.std.specs.Prelude.{Option};
 
 use crate::fault::CommandFault;
 use crate::reading::{command_fault, text_of, word_of};
+use crate::stream_command;
 use crate::stream_order::{
     AskedPriceReport, FaultsOf, FrontWords, PlaceFiles, PriceFiles, ServiceFiles, SiteFiles,
     StreamOrder,
 };
 use clap::ArgMatches;
-use hsp_cli_options::stream_command;
 use std::alloc::Global;
 
 fn is_help(word: &str) -> bool

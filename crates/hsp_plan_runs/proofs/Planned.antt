@@ -25,7 +25,7 @@ use Rattle.hsp_price_plan.specs.declared.fault.PlanFault.TheVariants as plan_fau
 use Rattle.hsp_price_runs.specs.LogRows.{log_rows}
 use Rattle.hsp_price_runs.specs.Passing.{TakesRows}
 use Rattle.hsp_price_runs.specs.PriceRun.{AnswersRecords}
-use Rattle.hsp_stream.specs.KindsLog.{OfLog}
+use Rattle.hsp_stream.specs.LogRows.{OfLog}
 use Rattle.hsp_stream.specs.declared.fault.StreamFault.{StreamFault}
 use Rattle.hsp_stream.specs.declared.fault.StreamFault.TheVariants.{OutOfMemory, TooLarge}
 use Rattle.hsp_plan_runs.specs.Holding.{HasHeld, IsFresh, IsHolder}

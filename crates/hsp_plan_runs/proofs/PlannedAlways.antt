@@ -6,7 +6,7 @@ use Rattle.hsp_runs.specs.declared.inputs.Inputs.{Inputs}
 use Rattle.hsp_price_check.specs.Classes.{service_of}
 use Rattle.hsp_price_runs.specs.PriceAlways.{HasRows}
 use Rattle.hsp_price_runs.proofs.Known.{known_rows, known_service}
-use Rattle.hsp_stream.specs.KindsLog.{OfLog}
+use Rattle.hsp_stream.specs.LogRows.{OfLog}
 use Rattle.hsp_stream.specs.Watching.{MayStopReading}
 use Rattle.hsp_stream.specs.declared.fault.StreamFault.{StreamFault}
 use Rattle.hsp_plan_runs.specs.PlanAlways.{PlansAlways}

@@ -5,7 +5,7 @@ ghost use Rattle.hsp_price_plan.specs.Grouping.{asked_in};
 ghost use Rattle.hsp_price_check.specs.Classes.{service_of};
 ghost use Rattle.hsp_price_check.specs.Passed.{capped};
 ghost use Rattle.hsp_price_runs.specs.PriceRun.{AnswersRecords};
-ghost use Rattle.hsp_stream.specs.KindsLog.{OfLog};
+ghost use Rattle.hsp_stream.specs.LogRows.{OfLog};
 ghost use Rattle.hsp_stream.specs.Watching.{MayStopReading};
 ghost use Rattle.hsp_plan_runs.specs.PlanAlways.{PlansAlways};
 ghost use Rattle.hsp_plan_runs.specs.PlanRun.{IsPlanBy, IsPlannedLog, IsShownPlan};

@@ -9,9 +9,9 @@ use Rattle.hsp_runs.specs.declared.fault.Fault.TheVariants.{BadFronts}
 use Rattle.hsp_runs.specs.Counts.{count_at}
 use Rattle.hsp_stream.specs.Words.{front_at, fronts_at, word_or}
 use Rattle.hsp_stream.specs.declared.fault.StreamFault.TheVariants.{Input}
-use Rattle.hsp_stream.proofs.SpelledPortions.{HasNoLog, below_none, else_none, front_is, many_is, many_is_read}
-use Rattle.hsp_stream.proofs.SpelledPortions.{then_none, word_none}
-use Rattle.hsp_stream.proofs.SpelledPortions.{front_is_read as front_number_is_read}
+use Rattle.hsp_stream.proofs.SpelledFronts.{HasNoLog, below_none, else_none, front_is, many_is, many_is_read}
+use Rattle.hsp_stream.proofs.SpelledFronts.{then_none, word_none}
+use Rattle.hsp_stream.proofs.SpelledFronts.{front_is_read as front_number_is_read}
 use Rattle.hsp_price_answers.specs.FrontWords.{front_among, front_spelled}
 use Rattle.hsp_price_answers.specs.PricesShown.{SpellsFront}
 use Rattle.hsp_price_answers.specs.declared.front_words.FrontChoice.{FrontChoice}

@@ -10,7 +10,7 @@ use Rattle.hsp_runs.specs.declared.inputs.Inputs.{Inputs}
 use Rattle.hsp_price_check.specs.Checking.{IsPassed}
 use Rattle.hsp_price_check.specs.declared.checking.PriceCheck.{PriceCheck}
 use Rattle.hsp_stream.specs.Faults.{fault_of_input}
-use Rattle.hsp_stream.specs.KindsLog.{OfLog}
+use Rattle.hsp_stream.specs.LogRows.{OfLog}
 use Rattle.hsp_stream.specs.declared.fault.StreamFault.{StreamFault}
 use Rattle.hsp_price_runs.specs.LogRows.{log_rows}
 use Rattle.hsp_price_runs.specs.Passing.{TakesRows}

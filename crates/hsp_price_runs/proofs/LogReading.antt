@@ -5,10 +5,10 @@ use Rattle.csv.specs.declared.reader.Reader.{Reader}
 use Rattle.hsp_csv.specs.Records.{Fields, IsKnown, TakesRecord, records_left, records_of}
 use Rattle.hsp_text.specs.Answers.{◌>>=◌}
 use Rattle.hsp_instance.specs.Instance.{Row}
-use Rattle.hsp_stream.specs.KindsLog.{OfLeft, OfLog, form_of}
+use Rattle.hsp_stream.specs.LogRows.{OfLeft, OfLog, form_of}
 use Rattle.hsp_stream.specs.declared.fault.StreamFault.{StreamFault}
-use Rattle.hsp_stream.specs.declared.kinds_log.CountForm.{CountForm}
-use Rattle.hsp_stream.proofs.KindsReading.{at_start, left_more}
+use Rattle.hsp_stream.specs.declared.log_rows.CountForm.{CountForm}
+use Rattle.hsp_stream.proofs.LogReading.{at_start, left_more}
 use Rattle.hsp_price_runs.specs.LogRows.{log_rows, rows_with, with_record}
 use Rattle.hsp_price_runs.specs.Passing.{IsOverSome, TakesRecord as TakesRow}
 use Rattle.hsp_price_runs.proofs.RowsTaken.{read_record, record_more, row_taken}

@@ -5,12 +5,12 @@ use Rattle.hsp_csv.specs.Records.{Fields}
 use Rattle.hsp_text.specs.Answers.{or_fault, fault_as}
 use Rattle.hsp_text.proofs.Steps.{first_step}
 use Rattle.hsp_instance.specs.Instance.{Row}
-use Rattle.hsp_stream.specs.KindsLog.{Parts, SpellRows, Spells, SpellsLog, form_of, parts_in, row_of}
+use Rattle.hsp_stream.specs.LogRows.{Parts, SpellRows, Spells, SpellsLog, form_of, parts_in, row_of}
 use Rattle.hsp_stream.specs.declared.fault.RowFault.TheVariants as fault
 use Rattle.hsp_stream.specs.declared.fault.StreamFault.{StreamFault}
 use Rattle.hsp_stream.specs.declared.fault.StreamFault.TheVariants.{Log}
-use Rattle.hsp_stream.specs.declared.kinds_log.CountForm.{CountForm}
-use Rattle.hsp_stream.proofs.KindsRows.{header_is, row_any, told}
+use Rattle.hsp_stream.specs.declared.log_rows.CountForm.{CountForm}
+use Rattle.hsp_stream.proofs.LogRows.{header_is, row_any, told}
 use Rattle.hsp_price_runs.specs.LogRows.{log_rows, row_in, rows_with, with_record, with_row}
 
 -- what there is, where nothing is a fault

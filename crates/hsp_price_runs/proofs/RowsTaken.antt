@@ -9,12 +9,12 @@ use Rattle.hsp_instance.specs.Instance.{Row, regions_of}
 use Rattle.hsp_price_check.specs.Checking.{HasTooMany}
 use Rattle.hsp_price_check.specs.declared.fault.PassFault.{PassFault}
 use Rattle.hsp_price_check.specs.declared.fault.PassFault.TheVariants as pass
-use Rattle.hsp_stream.specs.KindsLog.{Parts, parts_in, row_of}
+use Rattle.hsp_stream.specs.LogRows.{Parts, parts_in, row_of}
 use Rattle.hsp_stream.specs.declared.fault.RowFault.{RowFault}
 use Rattle.hsp_stream.specs.declared.fault.RowFault.TheVariants as fault
 use Rattle.hsp_stream.specs.declared.fault.StreamFault.{StreamFault}
 use Rattle.hsp_stream.specs.declared.fault.StreamFault.TheVariants.{Log, OutOfMemory}
-use Rattle.hsp_stream.specs.declared.kinds_log.CountForm.{CountForm}
+use Rattle.hsp_stream.specs.declared.log_rows.CountForm.{CountForm}
 use Rattle.hsp_price_runs.specs.LogRows.{row_in, rows_with, with_record, with_row}
 use Rattle.hsp_price_runs.specs.Passing.{StopsAt, fault_of_pass}
 

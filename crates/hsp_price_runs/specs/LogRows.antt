@@ -4,11 +4,11 @@ use Rattle.hsp_csv.specs.Records.{Fields}
 use Rattle.hsp_text.specs.Answers.{◌>>=◌, or_fault, fault_as}
 use Rattle.hsp_text.specs.declared.limits.TheConstants.{MOST_REGIONS}
 use Rattle.hsp_instance.specs.Instance.{Row, regions_of}
-use Rattle.hsp_stream.specs.KindsLog.{form_of, parts_in, row_of}
+use Rattle.hsp_stream.specs.LogRows.{form_of, parts_in, row_of}
 use Rattle.hsp_stream.specs.declared.fault.RowFault.TheVariants as fault
 use Rattle.hsp_stream.specs.declared.fault.StreamFault.{StreamFault}
 use Rattle.hsp_stream.specs.declared.fault.StreamFault.TheVariants.{Log}
-use Rattle.hsp_stream.specs.declared.kinds_log.CountForm.{CountForm}
+use Rattle.hsp_stream.specs.declared.log_rows.CountForm.{CountForm}
 
 -- the row that a record spells, or its first fault
 abbrev pub row_in : CountForm → ℕ → Fields → Result Row StreamFault

@@ -10,7 +10,7 @@ use Rattle.hsp_price_check.specs.declared.fault.PassFault.TheVariants as pass
 use Rattle.hsp_stream.specs.declared.fault.RowFault.TheVariants as fault
 use Rattle.hsp_stream.specs.declared.fault.StreamFault.{StreamFault}
 use Rattle.hsp_stream.specs.declared.fault.StreamFault.TheVariants.{Log, OutOfMemory}
-use Rattle.hsp_stream.specs.declared.kinds_log.CountForm.{CountForm}
+use Rattle.hsp_stream.specs.declared.log_rows.CountForm.{CountForm}
 use Rattle.hsp_price_runs.specs.LogRows.{row_in}
 
 -- the fault of a row that can't be taken

@@ -15,7 +15,7 @@ use Rattle.hsp_prices.specs.Shown.{IsShownBy}
 use Rattle.hsp_runs.specs.Headline.{AreCosts, Defines}
 use Rattle.hsp_runs.specs.declared.inputs.Inputs.{Inputs}
 use Rattle.hsp_price_check.specs.Classes.{service_of}
-use Rattle.hsp_stream.specs.KindsLog.{SpellsLog}
+use Rattle.hsp_stream.specs.LogRows.{SpellsLog}
 
 -- a best plan of the rows, with the cost and the loads of the certificate, or a set of servers that is short, so that
 -- no plan is feasible

@@ -4,9 +4,9 @@ ghost use Rattle.std.specs.Prelude.{◌≡◌, ◌⊎◌, Err, IfErr, List, OnOk
 ghost use Rattle.csv.specs.Records.{fields_of};
 ghost use Rattle.hsp_csv.specs.Records.{IsReading};
 ghost use Rattle.hsp_instance.specs.Instance.{Row};
-ghost use Rattle.hsp_stream.specs.KindsLog.{OfLeft, OfLog};
+ghost use Rattle.hsp_stream.specs.LogRows.{OfLeft, OfLog};
 ghost use Rattle.hsp_stream.specs.Watching.{MayStopReading, watched_left};
-ghost use Rattle.hsp_stream.specs.KindsShown.{row_shown};
+ghost use Rattle.hsp_stream.specs.RowsShown.{row_shown};
 ghost use Rattle.hsp_stream.specs.declared.fault.StreamFault.TheVariants.{OutOfMemory};
 ghost use Rattle.hsp_price_runs.specs.LogRows.{log_rows, rows_with, with_record, with_row};
 ghost use Rattle.hsp_price_runs.specs.Passing.{IsOverSome, Takes, TakesRecord, TakesRows, fault_of_pass};

@@ -1,7 +1,7 @@
 // Reports of certificates by prices.
 
 ghost use Rattle.std.specs.Prelude.{◌≡◌, ◌⊎◌, Err, IfErr, IfOk, List, Ok};
-ghost use Rattle.hsp_stream.specs.KindsLog.{OfLog};
+ghost use Rattle.hsp_stream.specs.LogRows.{OfLog};
 ghost use Rattle.hsp_stream.specs.Watching.{MayStopReading};
 ghost use Rattle.hsp_tables.specs.Costs.{CostEntry};
 ghost use Rattle.hsp_instance.specs.Instance.{Row};

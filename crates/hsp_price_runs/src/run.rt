@@ -4,7 +4,7 @@ ghost use Rattle.std.specs.Prelude.{◌≡◌, ◌⊎◌, Err, IfErr, IfOk, Ok};
 ghost use Rattle.hsp_runs.specs.Memory.{OrNoMemory};
 ghost use Rattle.hsp_prices.specs.declared.verdict.PriceVerdict.TheVariants.{Yes};
 ghost use Rattle.hsp_price_check.specs.Classes.{service_of};
-ghost use Rattle.hsp_stream.specs.KindsLog.{OfLog};
+ghost use Rattle.hsp_stream.specs.LogRows.{OfLog};
 ghost use Rattle.hsp_stream.specs.Watching.{MayStopReading};
 ghost use Rattle.hsp_price_runs.specs.PriceRun.{AnswersInputs, AnswersRead, AnswersRecords, AnswersText};
 ghost use Rattle.hsp_price_runs.specs.PriceRun.{IsCertificateIn, IsPriceVerdict};

@@ -2,7 +2,7 @@
 
 ghost use Rattle.std.specs.Prelude.{◌≡◌, ◌⊎◌, IfErr, List, OnOk};
 ghost use Rattle.hsp_instance.specs.Instance.{Row};
-ghost use Rattle.hsp_stream.specs.KindsShown.{row_shown};
+ghost use Rattle.hsp_stream.specs.RowsShown.{row_shown};
 ghost use Rattle.hsp_price_check.specs.declared.fault.PassFault.TheVariants.{OutOfMemory};
 ghost use Rattle.hsp_price_runs.specs.Passing.{IsOverSome, StopsAt, Takes};
 ghost use Rattle.hsp_price_runs.specs.Taking.{HasPassedOver};

@@ -1,8 +1,8 @@
 pub mod PriceReasons
 pub mod Faults
 pub mod Lines
-pub mod KindsLog
-pub mod KindsShown
+pub mod LogRows
+pub mod RowsShown
 pub mod Asking
 pub mod Saying
 pub mod Answering
@@ -17,3 +17,8 @@ pub mod Words
 pub mod AnswerRun
 pub mod AnswersShown
 pub mod RowChecks
+pub mod Regions
+pub mod Faulty
+pub mod Checkers
+pub mod FaultLines
+pub mod Runs

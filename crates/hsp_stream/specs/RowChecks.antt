@@ -4,10 +4,10 @@ use Rattle.hsp_csv.specs.Header.{same_fields}
 use Rattle.hsp_csv.specs.Records.{Fields}
 use Rattle.hsp_names.specs.Handle.{handle_in}
 use Rattle.hsp_text.specs.Answers.{◌>>=◌, or_fault}
-use Rattle.hsp_stream.specs.KindsLog.{handle_or, header_of, parts_in, row_of}
+use Rattle.hsp_stream.specs.LogRows.{handle_or, header_of, parts_in, row_of}
 use Rattle.hsp_stream.specs.declared.fault.RowFault.{RowFault}
 use Rattle.hsp_stream.specs.declared.fault.RowFault.TheVariants as fault
-use Rattle.hsp_stream.specs.declared.kinds_log.CountForm.TheVariants.{Counts}
+use Rattle.hsp_stream.specs.declared.log_rows.CountForm.TheVariants.{Counts}
 
 -- the headers `region,handle,count` and `handle`
 abbrev pub is_count_header : Fields → Bool

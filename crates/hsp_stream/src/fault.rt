@@ -4,9 +4,9 @@ ghost use Rattle.std.specs.Prelude.{◌≡◌};
 ghost use Rattle.hsp_stream.specs.Faults.{fault_of_input};
 ghost use Rattle.hsp_stream.specs.declared.fault.StreamFault.TheVariants.{OutOfMemory};
 
+use hsp_names::HandleFault;
 use hsp_prices::PriceReason;
 use hsp_runs::Fault;
-use hsp_names::HandleFault;
 use std::alloc::AllocError;
 use thiserror::Error;
 

@@ -6,8 +6,8 @@ ghost use Rattle.hsp_stream.specs.Lines.{fault_text, fault_words, numbered, row_
 
 use crate::fault::{RowFault, StreamFault};
 use crate::price_reason::price_reason_word;
-use hsp_runs::{handle_words, push_fault as push_input_fault, status_of};
 use hsp_names::HandleFault;
+use hsp_runs::{handle_words, push_fault as push_input_fault, status_of};
 use hsp_text::push_whole;
 use std::alloc::{AllocError, Global};
 

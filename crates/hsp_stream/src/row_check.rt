@@ -5,7 +5,7 @@ ghost use Rattle.csv.specs.Records.{fields_of};
 ghost use Rattle.hsp_stream.specs.RowChecks.{count_fault, handle_fault, is_count_header, is_handle_header};
 
 use crate::fault::RowFault;
-use crate::kinds_log::{CountForm, parts_in, row_of};
+use crate::log_rows::{CountForm, parts_in, row_of};
 use csv::ByteRecord;
 use hsp_csv::is_header;
 use hsp_names::HandleRef;

@@ -4,8 +4,8 @@ ghost use Rattle.std.specs.Prelude.{◌≡◌, ◌++◌, OnOk};
 ghost use Rattle.hsp_stream.specs.Saying.{refusal_words, refused_line};
 ghost use Rattle.hsp_stream.specs.declared.row_refusal.RowRefusal.TheVariants.{BadHandle};
 
-use hsp_runs::handle_words;
 use hsp_names::HandleFault;
+use hsp_runs::handle_words;
 use std::alloc::AllocError;
 
 /// Why a row of a log has no answer.

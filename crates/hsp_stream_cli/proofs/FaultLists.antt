@@ -10,12 +10,12 @@ use Rattle.hsp_cli.specs.declared.failure.Failure.TheVariants as failure
 use Rattle.hsp_cli.specs.declared.failure.Failure.TheVariants.{Write}
 use Rattle.hsp_cli_orders.specs.declared.stream_order.FaultsOf.{FaultsOf}
 use Rattle.hsp_cli_orders.specs.declared.stream_order.FaultsOf.TheVariants as of
-use Rattle.hsp_faulty.specs.Lines.{text_of}
-use Rattle.hsp_faulty.specs.Runs.{AreAll, AreFirst, IsListBegun, IsListed, MayStop}
-use Rattle.hsp_faulty.specs.declared.checker.Asked.{Asked}
-use Rattle.hsp_faulty.specs.declared.run.FaultsStop.{FaultsStop}
-use Rattle.hsp_faulty.specs.declared.run.FaultsStop.TheVariants as stop
-use Rattle.hsp_faulty.proofs.Listing.{begun_whole}
+use Rattle.hsp_stream.specs.FaultLines.{text_of}
+use Rattle.hsp_stream.specs.Runs.{AreAll, AreFirst, IsListBegun, IsListed, MayStop}
+use Rattle.hsp_stream.specs.declared.checker.Asked.{Asked}
+use Rattle.hsp_stream.specs.declared.faulty_rows.FaultsStop.{FaultsStop}
+use Rattle.hsp_stream.specs.declared.faulty_rows.FaultsStop.TheVariants as stop
+use Rattle.hsp_stream.proofs.Listing.{begun_whole}
 use Rattle.hsp_stream_cli.specs.Faults.{EndsList, HoldsText, ReadsMayFail, ended_with, stopped_by}
 use Rattle.hsp_stream_cli.specs.Printing.{Ended}
 use Rattle.hsp_stream.specs.declared.fault.RowFault.TheVariants as row

@@ -10,11 +10,11 @@ use Rattle.hsp_cli_orders.specs.declared.stream_order.FaultsOf.TheVariants as of
 use Rattle.hsp_stream.specs.declared.fault.RowFault.TheVariants.{ReadFailed}
 use Rattle.hsp_stream.specs.declared.fault.StreamFault.{StreamFault}
 use Rattle.hsp_stream.specs.declared.fault.StreamFault.TheVariants.{Log}
-use Rattle.hsp_faulty.specs.Runs.{IsListBegun, IsListed}
-use Rattle.hsp_faulty.specs.declared.checker.Asked.{Asked}
-use Rattle.hsp_faulty.specs.declared.checker.Asked.TheVariants as asked
-use Rattle.hsp_faulty.specs.declared.run.FaultsStop.{FaultsStop}
-use Rattle.hsp_faulty.specs.declared.run.FaultsStop.TheVariants as stop
+use Rattle.hsp_stream.specs.Runs.{IsListBegun, IsListed}
+use Rattle.hsp_stream.specs.declared.checker.Asked.{Asked}
+use Rattle.hsp_stream.specs.declared.checker.Asked.TheVariants as asked
+use Rattle.hsp_stream.specs.declared.faulty_rows.FaultsStop.{FaultsStop}
+use Rattle.hsp_stream.specs.declared.faulty_rows.FaultsStop.TheVariants as stop
 use Rattle.hsp_stream_cli.specs.Printing.{Ended}
 
 -- what is looked at, by the order

@@ -6,7 +6,7 @@ use Rattle.hsp_plan_runs.specs.PlanRun.{IsPlannedLog, IsShownPlan}
 use Rattle.hsp_plan_runs.specs.PricesText.{octets_of}
 use Rattle.hsp_plan_runs.specs.declared.text.PricesText.{PricesText}
 use Rattle.hsp_plan_runs.specs.declared.text.PricesText.TheVariants as text
-use Rattle.hsp_stream.specs.KindsLog.{OfLog}
+use Rattle.hsp_stream.specs.LogRows.{OfLog}
 use Rattle.hsp_stream.specs.Watching.{MayStopReading}
 use Rattle.hsp_stream.specs.declared.fault.StreamFault.{StreamFault}
 use Rattle.hsp_stream_cli.specs.Printing.{Ended, PrintsWith}

@@ -9,7 +9,7 @@ use Rattle.hsp_price_runs.specs.declared.report.PriceReport.{PriceReport}
 use Rattle.hsp_price_runs.specs.declared.report.PriceReport.TheVariants as report
 use Rattle.hsp_price_runs.specs.declared.report.PriceReportKind.{PriceReportKind}
 use Rattle.hsp_price_runs.specs.declared.report.PriceReportKind.TheVariants as kind
-use Rattle.hsp_stream.specs.KindsLog.{OfLog}
+use Rattle.hsp_stream.specs.LogRows.{OfLog}
 use Rattle.hsp_stream.specs.Watching.{MayStopReading}
 use Rattle.hsp_stream.specs.declared.fault.StreamFault.{StreamFault}
 use Rattle.hsp_stream_cli.specs.Checking.{PrintsLine}

@@ -2,7 +2,7 @@
 
 use crate::fakes::{Pieces, Rows};
 use crate::same::is_same;
-use hsp_faulty::{Asked, FaultsStop, faults_run};
+use hsp_stream::{Asked, FaultsStop, faults_run};
 use hsp_tables::TableKind;
 use hsp_text::push_whole;
 use std::alloc::{AllocError, Global};

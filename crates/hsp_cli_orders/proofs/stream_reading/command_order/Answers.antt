@@ -1,8 +1,8 @@
 use Rattle.std.proofs.Common.{Ok, Err, map, string_bytes}
 use Rattle.std.proofs.lemmas.Result.{IfOk-weaker}
 use Rattle.clap.specs.declared.parser.matches.ArgMatches.{ArgMatches}
-use Rattle.hsp_cli_options.specs.Commands.{stream_app}
-use Rattle.hsp_cli_options.proofs.Shapes.{is_free-stream, is_simple-stream}
+use Rattle.hsp_cli_orders.specs.Commands.{stream_app}
+use Rattle.hsp_cli_orders.proofs.Shapes.{is_free-stream, is_simple-stream}
 use Rattle.hsp_cli_orders.proofs.Matching.{fails_by, has_fault, met, met_none, of_orders}
 use Rattle.hsp_cli_orders.proofs.stream_reading.command_order.Goals as goal
 

@@ -8,11 +8,11 @@ use Rattle.hsp_price_runs.specs.Passing.{TakesRows}
 use Rattle.hsp_price_runs.specs.PriceRun.{AnswersRecords}
 use Rattle.hsp_price_text.specs.Certificate.{IsCertificate}
 use Rattle.hsp_price_text.specs.Text.{text_of}
-use Rattle.hsp_stream.specs.KindsLog.{OfLog}
+use Rattle.hsp_stream.specs.LogRows.{OfLog}
 use Rattle.hsp_stream.specs.Watching.{MayStopReading}
 use Rattle.hsp_stream.specs.declared.fault.StreamFault.{StreamFault}
 use Rattle.hsp_stream.specs.declared.fault.StreamFault.TheVariants.{OutOfMemory, TooLarge}
-use Rattle.hsp_stream.proofs.KindsReading.{log_more}
+use Rattle.hsp_stream.proofs.LogReading.{log_more}
 use Rattle.hsp_plan_runs.specs.Holding.{HasHeld}
 use Rattle.hsp_plan_runs.specs.PlanRun.{IsPlanBy}
 use Rattle.hsp_plan_runs.specs.PricesText.{IsTextOf}

@@ -8,11 +8,11 @@ use Rattle.hsp_price_check.specs.Classes.{service_of}
 use Rattle.hsp_price_runs.specs.PriceRun.{AnswersRecords, IsReadFrom}
 use Rattle.hsp_price_runs.proofs.Judged.{inputs_are, inputs_stop}
 use Rattle.hsp_stream.specs.Faults.{fault_of_input}
-use Rattle.hsp_stream.specs.KindsLog.{OfLog}
+use Rattle.hsp_stream.specs.LogRows.{OfLog}
 use Rattle.hsp_stream.specs.Watching.{MayStopReading}
 use Rattle.hsp_stream.specs.declared.fault.StreamFault.{StreamFault}
 use Rattle.hsp_stream.specs.declared.fault.StreamFault.TheVariants.{OutOfMemory}
-use Rattle.hsp_stream.proofs.KindsReading.{log_all, log_more}
+use Rattle.hsp_stream.proofs.LogReading.{log_all, log_more}
 use Rattle.hsp_plan_runs.specs.PlanRun.{IsPlanBy, IsPlannedLog, IsShownPlan, PlansRecords}
 use Rattle.hsp_plan_runs.specs.declared.text.PricesText.{PricesText}
 use Rattle.hsp_plan_runs.proofs.PlanShown.{shown}

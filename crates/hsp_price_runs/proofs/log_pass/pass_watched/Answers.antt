@@ -3,7 +3,7 @@ use Rattle.std.specs.Prelude.{Result}
 use Rattle.std.proofs.lemmas.Result.{IfErr-weaker, err_from_is_err_and, on_ok_weaker}
 use Rattle.csv.specs.Records.{fields_of}
 use Rattle.hsp_instance.specs.Instance.{Row}
-use Rattle.hsp_stream.specs.KindsLog.{OfLeft, OfLog}
+use Rattle.hsp_stream.specs.LogRows.{OfLeft, OfLog}
 use Rattle.hsp_stream.specs.Watching.{MayStopReading, watched_left}
 use Rattle.hsp_stream.specs.declared.fault.StreamFault.{StreamFault}
 use Rattle.hsp_price_runs.specs.LogRows.{log_rows, rows_with}

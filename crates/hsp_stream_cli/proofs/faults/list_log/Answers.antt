@@ -1,5 +1,5 @@
 use Rattle.std.proofs.Common.{inr}
-use Rattle.hsp_faulty.specs.declared.checker.Asked.TheVariants.{Log}
+use Rattle.hsp_stream.specs.declared.checker.Asked.TheVariants.{Log}
 use Rattle.hsp_stream_cli.proofs.FaultLists.{ends_weaker}
 use Rattle.hsp_stream_cli.proofs.faults.list_log.Goals as goal
 

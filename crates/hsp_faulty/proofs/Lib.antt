@@ -1,3 +1,0 @@
-pub mod Listing
-mod Looking
-mod Texts

@@ -1,0 +1,125 @@
+// The rows of a log.
+
+ghost use Rattle.std.specs.Prelude.{◌≡◌, IfOk, option_map, true};
+ghost use Rattle.csv.specs.Records.{fields_of};
+ghost use Rattle.hsp_text.specs.Answers.{Gives};
+ghost use Rattle.hsp_text.specs.Name.{is_name};
+ghost use Rattle.hsp_stream.specs.LogRows.{count_in, form_of, parts_in, row_of};
+ghost use Rattle.hsp_stream.specs.RowsShown.{parts_shown, row_shown};
+ghost use Rattle.hsp_stream.specs.declared.log_rows.CountForm.TheVariants.{Counts, Ones};
+
+use crate::fault::{RowFault, StreamFault};
+use csv::ByteRecord;
+use hsp_csv::{is_header, three_fields, two_fields};
+use hsp_names::HandleRef;
+use hsp_text::{is_name, read_whole};
+
+/// The greatest count of a row of a log.
+pub const GREATEST_ROW_COUNT: u64 = 1_000_000_000_000;
+
+/// What the header of a log names.
+#[derive(Clone, Copy)]
+pub enum CountForm {
+    /// A region and a handle. Each row counts 1.
+    Ones,
+    /// A region, a handle and a count.
+    Counts,
+}
+
+/// The fields of a row.
+#[derive(Clone, Copy)]
+pub struct Parts<'a> {
+    region: &'a [u8],
+    handle: &'a [u8],
+    count: Option<&'a [u8]>,
+}
+
+/// A row.
+#[derive(Clone, Copy)]
+pub struct LogRow<'a> {
+    pub region: &'a [u8],
+    pub handle: HandleRef<'a>,
+    pub count: u64,
+}
+
+/// The form of a log, by its first record, or that this isn't the header of a log.
+pub fn form_of(record: &ByteRecord) -> Result<CountForm, StreamFault>
+    ensures { Gives (λ form. form) result (form_of (fields_of «record».now)) }
+{
+    if is_header(record, &[b"region", b"handle"]) {
+        return Ok(CountForm::Ones);
+    }
+    if is_header(record, &[b"region", b"handle", b"count"]) {
+        return Ok(CountForm::Counts);
+    }
+    Err(StreamFault::Log(RowFault::Header))
+}
+
+// The fields of a row that has a region and a handle.
+#[tactic(auto, using(crate::proofs::KindsRows::ones))]
+fn two_in(record: &ByteRecord) -> Option<Parts<'_>>
+    ensures { option_map parts_shown result ≡ parts_in Ones (fields_of «record».now) }
+{
+    let (region, handle) = two_fields(record)?;
+    Some(Parts {
+        region,
+        handle,
+        count: None,
+    })
+}
+
+// The fields of a row that has a region, a handle and a count.
+#[tactic(auto, using(crate::proofs::KindsRows::counts))]
+fn three_in(record: &ByteRecord) -> Option<Parts<'_>>
+    ensures { option_map parts_shown result ≡ parts_in Counts (fields_of «record».now) }
+{
+    let (region, handle, count) = three_fields(record)?;
+    Some(Parts {
+        region,
+        handle,
+        count: Some(count),
+    })
+}
+
+/// The fields of a row, where there are as many as the header names.
+pub fn parts_in(record: &ByteRecord, form: CountForm) -> Option<Parts<'_>>
+    ensures { option_map parts_shown result ≡ parts_in form (fields_of «record».now) }
+{
+    match form {
+        CountForm::Ones => two_in(record),
+        CountForm::Counts => three_in(record),
+    }
+}
+
+// The count of a row.
+fn count_in(row: u64, count: Option<&[u8]>) -> Result<u64, RowFault>
+    ensures { Gives (λ count. count) result (count_in row (option_map (λ o. o.now) count.entry)) }
+{
+    let Some(count) = count else {
+        return Ok(1);
+    };
+    match read_whole(count, GREATEST_ROW_COUNT) {
+        Ok(count) => Ok(count),
+        Err(_) => Err(RowFault::BadNumber { row }),
+    }
+}
+
+/// The row that fields spell, or its first fault: `BadName`, `BadHandle`, `BadNumber`. It has the number `row`.
+pub fn row_of(row: u64, parts: Parts<'_>) -> Result<LogRow<'_>, RowFault>
+    ensures row { Gives row_shown result (row_of row (parts_shown parts.entry)) }
+    ensures named { IfOk result (λ row. is_name row.region.now ≡ true) }
+{
+    if !is_name(parts.region) {
+        return Err(RowFault::BadName { row });
+    }
+    let handle = match HandleRef::parse(parts.handle) {
+        Ok(handle) => handle,
+        Err(fault) => return Err(RowFault::BadHandle { row, fault }),
+    };
+    let count = count_in(row, parts.count)?;
+    Ok(LogRow {
+        region: parts.region,
+        handle,
+        count,
+    })
+}
