@@ -4,10 +4,15 @@ use Rattle.std.proofs.lemmas.List.Sums.{sum_by-cons}
 use Rattle.std.specs.Prelude.{◌||◌, not, if◌then◌else◌}
 use Rattle.std.specs.List.{list_all}
 use Rattle.hsp_instance.specs.declared.arc.Arc.{Arc}
-use Rattle.hsp_prices.specs.KeptRows.{KeptArc, KeptRow, arcs_in, kept_if, kept_in, keeping, loose_in, loose_of, with_least}
+use Rattle.hsp_prices.specs.KeptRows.{KeptArc, KeptRow, arcs_in, kept_if, kept_in, keeping, loose_in, loose_of}
 use Rattle.hsp_prices.specs.KeptRows.{with_leaving}
 use Rattle.hsp_prices.specs.Least.{is_least}
+use Rattle.hsp_price_check.specs.Extras.{pay_by}
+use Rattle.hsp_transport.specs.Lists.{flag_at}
 use Rattle.hsp_price_plan.specs.Entries.{loose_count}
+use Rattle.hsp_price_plan.specs.Keeping.{is_near, kept_by}
+use Rattle.hsp_price_plan.specs.declared.keeping.Keep.{Keep}
+use Rattle.hsp_price_plan.specs.declared.keeping.Keep.TheVariants as keep
 use Rattle.hsp_price_plan.proofs.KeptArcs.{one_loose}
 
 -- what is kept stays kept, and where as much is loose as before nothing changed
@@ -70,12 +75,8 @@ keeping_keeps test = record {
   settled = λ row same. ap (with_arcs row) (arcs_settled (test row) row.arcs same);
 }
 
--- so is to keep the least arcs
-pub least_keeps : (pay : Arc → ℕ) → IsKeeping (with_least pay)
-least_keeps pay = keeping_keeps (λ row. is_least pay (arcs_in row))
-
--- and so is to keep the leaving arcs
-pub leaving_keeps : (set : ℕ → Bool) → IsKeeping (with_leaving set)
+-- so is to keep the leaving arcs
+leaving_keeps : (set : ℕ → Bool) → IsKeeping (with_leaving set)
 leaving_keeps set = record {
   less = λ row.
       elim (list_all (λ arc. set arc.server) (kept_in row)) as (λ b.
@@ -91,6 +92,12 @@ leaving_keeps set = record {
         | false ↦ λ same. refl
       ];
 }
+
+-- and so is whatever is to be kept
+pub all_keep : (which : Keep) → IsKeeping (kept_by which)
+all_keep (keep.Least extras) = keeping_keeps (λ row. is_least (pay_by extras.now) (arcs_in row))
+all_keep (keep.Near extras window) = keeping_keeps (λ row. is_near (pay_by extras.now) window (arcs_in row))
+all_keep (keep.Leaving set) = leaving_keeps (flag_at set.now)
 
 module _ (f : KeptRow → KeptRow) (keeps : IsKeeping f) where
   -- with more arcs kept no more are loose in all rows

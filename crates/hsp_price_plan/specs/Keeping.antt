@@ -1,10 +1,15 @@
 -- To keep more arcs of a row, by its entries.
-use Rattle.std.specs.Prelude.{◌≡◌, ◌≤◌, ◌+◌, ℕ, Bool, List, [], ◌∷◌, length, min, nat_le}
+use Rattle.std.specs.Prelude.{◌≡◌, ◌≤◌, ◌+◌, ℕ, ⊤, Bool, List, [], ◌∷◌, length, min, nat_le}
 use Rattle.std.specs.List.{list_all}
 use Rattle.hsp_instance.specs.declared.arc.Arc.{Arc}
-use Rattle.hsp_prices.specs.KeptRows.{KeptRow, arcs_in, keeping}
+use Rattle.hsp_transport.specs.Lists.{flag_at}
+use Rattle.hsp_prices.specs.KeptRows.{KeptRow, arcs_in, keeping, with_least, with_leaving}
+use Rattle.hsp_price_check.specs.Extras.{pay_by}
+use Rattle.hsp_price_check.specs.LeastPay.{AreLow}
 use Rattle.hsp_price_plan.specs.Entries.{arcs_by, loose_count}
 use Rattle.hsp_price_plan.specs.Regions.{RegionArcs}
+use Rattle.hsp_price_plan.specs.declared.keeping.Keep.{Keep}
+use Rattle.hsp_price_plan.specs.declared.keeping.Keep.TheVariants as keep
 use Rattle.hsp_price_plan.specs.declared.region.SiteCost.{SiteCost}
 
 -- the least of a number and what a query pays over each arc
@@ -19,6 +24,24 @@ is_near pay window arcs arc = list_all (λ other. nat_le (pay arc) (pay other + 
 -- with the arcs over which a query pays at most so much more than the least
 abbrev pub with_near : (Arc → ℕ) → ℕ → KeptRow → KeptRow
 with_near pay window row = keeping (is_near pay window (arcs_in row)) row
+
+-- what becomes of a row
+abbrev pub kept_by : Keep → KeptRow → KeptRow
+kept_by (keep.Least extras) = with_least (pay_by extras.now)
+kept_by (keep.Near extras window) = with_near (pay_by extras.now) window
+kept_by (keep.Leaving set) = with_leaving (flag_at set.now)
+
+-- how many servers have a number or a flag
+abbrev pub servers_in : Keep → ℕ
+servers_in (keep.Least extras) = length extras.now
+servers_in (keep.Near extras window) = length extras.now
+servers_in (keep.Leaving set) = length set.now
+
+-- each number is low enough for what a query pays
+abbrev pub IsLow : Keep → Type 0
+IsLow (keep.Least extras) = AreLow extras.now
+IsLow (keep.Near extras window) = AreLow extras.now
+IsLow (keep.Leaving set) = ⊤
 
 -- a row of a region, by its entries
 abbrev pub row_by : RegionArcs → List ℕ → ℕ → KeptRow

@@ -7,10 +7,21 @@ ghost use Rattle.hsp_price_check.specs.Extras.{pay_by};
 ghost use Rattle.hsp_price_check.specs.LeastPay.{AreLow};
 ghost use Rattle.hsp_prices.specs.KeptRows.{with_least, with_leaving};
 ghost use Rattle.hsp_price_plan.specs.Entries.{AreKept, LeadWithin, arcs_by, bare_arcs};
-ghost use Rattle.hsp_price_plan.specs.Keeping.{IsKeptBy, least_from, with_near};
+ghost use Rattle.hsp_price_plan.specs.Keeping.{IsKeptBy, IsLow, kept_by, least_from, servers_in, with_near};
 
 use crate::entries::{KEPT, keep_entry, leads_out, pay_over};
 use crate::region::SiteCost;
+
+/// Which arcs of a row are kept from now on. What a query pays is the cost of an arc and the number of its server.
+#[derive(Clone, Copy)]
+pub(crate) enum Keep<'a> {
+    /// Those over which a query pays least.
+    Least(&'a [u64]),
+    /// Those over which a query pays at most so much more than the least.
+    Near(&'a [u64], u64),
+    /// Those that lead out of a set of servers, where no arc that is kept does. Each server has a flag.
+    Leaving(&'a [bool]),
+}
 
 // The least that a query pays over one of the arcs, and the greatest number where there is none.
 fn least_pay(entries: &[u16], shape: &[SiteCost], extras: &[u64]) -> u64
@@ -43,8 +54,8 @@ fn keep_up_to(entries: &mut [u16], shape: &[SiteCost], extras: &[u64], most: u64
     kept
 }
 
-/// Keeps the arcs over which a query pays least, and returns how many weren't kept before.
-pub(crate) fn keep_least(entries: &mut [u16], shape: &[SiteCost], extras: &[u64]) -> u64
+// Keeps the arcs over which a query pays least, and returns how many weren't kept before.
+fn keep_least(entries: &mut [u16], shape: &[SiteCost], extras: &[u64]) -> u64
     requires many { length shape.now ≤ length entries.old }
     requires within { LeadWithin (length extras.now) shape.now entries.old }
     requires low { AreLow extras.now }
@@ -54,9 +65,8 @@ pub(crate) fn keep_least(entries: &mut [u16], shape: &[SiteCost], extras: &[u64]
     keep_up_to(entries, shape, extras, least)
 }
 
-/// Keeps the arcs over which a query pays at most so much more than the least, and returns how many weren't kept
-/// before.
-pub(crate) fn keep_near(entries: &mut [u16], shape: &[SiteCost], extras: &[u64], window: u64) -> u64
+// Keeps the arcs over which a query pays at most so much more than the least, and returns how many weren't kept before.
+fn keep_near(entries: &mut [u16], shape: &[SiteCost], extras: &[u64], window: u64) -> u64
     requires many { length shape.now ≤ length entries.old }
     requires within { LeadWithin (length extras.now) shape.now entries.old }
     requires low { AreLow extras.now }
@@ -97,9 +107,9 @@ fn keep_outside(entries: &mut [u16], shape: &[SiteCost], set: &[bool]) -> u64
     kept
 }
 
-/// Keeps the arcs that lead out of a set of servers, where no arc that is kept does, and returns how many weren't kept
-/// before.
-pub(crate) fn keep_leaving(entries: &mut [u16], shape: &[SiteCost], set: &[bool]) -> u64
+// Keeps the arcs that lead out of a set of servers, where no arc that is kept does, and returns how many weren't kept
+// before.
+fn keep_leaving(entries: &mut [u16], shape: &[SiteCost], set: &[bool]) -> u64
     requires many { length shape.now ≤ length entries.old }
     requires within { LeadWithin (length set.now) shape.now entries.old }
     ensures { IsKeptBy (with_leaving (flag_at set.now)) shape.now entries.old entries.new result }
@@ -108,5 +118,19 @@ pub(crate) fn keep_leaving(entries: &mut [u16], shape: &[SiteCost], set: &[bool]
         keep_outside(entries, shape, set)
     } else {
         0
+    }
+}
+
+/// Keeps more arcs, and returns how many weren't kept before.
+pub(crate) fn keep(entries: &mut [u16], shape: &[SiteCost], which: Keep<'_>) -> u64
+    requires many { length shape.now ≤ length entries.old }
+    requires within { LeadWithin (servers_in which) shape.now entries.old }
+    requires low { IsLow which }
+    ensures { IsKeptBy (kept_by which) shape.now entries.old entries.new result }
+{
+    match which {
+        Keep::Least(extras) => keep_least(entries, shape, extras),
+        Keep::Near(extras, window) => keep_near(entries, shape, extras, window),
+        Keep::Leaving(set) => keep_leaving(entries, shape, set),
     }
 }

@@ -6,13 +6,14 @@ ghost use Rattle.hsp_transport.specs.Lists.{flag_at};
 ghost use Rattle.hsp_price_check.specs.Extras.{pay_by};
 ghost use Rattle.hsp_price_check.specs.LeastPay.{AreLow};
 ghost use Rattle.hsp_prices.specs.KeptRows.{arcs_in, kept_in, loose_of, with_least, with_leaving};
-ghost use Rattle.hsp_price_plan.specs.Keeping.{with_near};
+ghost use Rattle.hsp_price_plan.specs.Entries.{arcs_by};
+ghost use Rattle.hsp_price_plan.specs.Keeping.{IsLow, kept_by, servers_in, with_near};
 ghost use Rattle.hsp_price_plan.specs.Held.{AreWithin, CanPush, no_rows, region_named, row_at, with_each, with_row};
 ghost use Rattle.hsp_price_plan.specs.Regions.{with_region};
 
 use crate::entries::{fill_arcs, fill_kept, push_entries};
-use crate::keeping::{keep_least, keep_leaving, keep_near};
-use crate::region::Region;
+use crate::keeping::{Keep, keep};
+use crate::region::{Region, SiteCost};
 use crate::row_hash::servers_number;
 use hsp_instance::Arc;
 use std::alloc::{AllocError, Global};
@@ -46,6 +47,13 @@ impl Model for KeptRows {
 
     ghost invariant = { λ t.
         AreInPlace t.sites t.regions.items t.row_regions.items t.counts.items t.places.items };
+}
+
+// The entries of a row, and the sites and costs of its arcs.
+#[derive(Clone, Copy)]
+struct HeldRow<'a> {
+    entries: &'a [u16],
+    shape: &'a [SiteCost],
 }
 
 // Adds the region of a row, where the number is that of none.
@@ -160,6 +168,20 @@ impl KeptRows {
         self.counts[row]
     }
 
+    // A row as it is held.
+    fn held(&self, row: usize) -> HeldRow<'_>
+        requires { row < length self.now.rows }
+        ensures short { length result.shape.now ≤ length result.entries.now }
+        ensures arcs { arcs_by result.shape.now result.entries.now ≡ (row_at self.now row).arcs }
+    {
+        let region = &self.regions[usize::from(self.row_regions[row])];
+        let entries = entries_of(&self.places, row, self.sites);
+        HeldRow {
+            entries,
+            shape: region.shape(),
+        }
+    }
+
     /// Writes the kept arcs of a row over what the list had.
     ///
     /// # Errors
@@ -169,12 +191,8 @@ impl KeptRows {
         requires { row < length self.now.rows }
         ensures { OnOk result (kept.new.items ≡ kept_in (row_at self.now row)) }
     {
-        let region = &self.regions[usize::from(self.row_regions[row])];
-        fill_kept(
-            kept,
-            entries_of(&self.places, row, self.sites),
-            region.shape(),
-        )
+        let held = self.held(row);
+        fill_kept(kept, held.entries, held.shape)
     }
 
     /// Writes all arcs of a row over what the list had.
@@ -186,12 +204,26 @@ impl KeptRows {
         requires { row < length self.now.rows }
         ensures { OnOk result (arcs.new.items ≡ arcs_in (row_at self.now row)) }
     {
-        let region = &self.regions[usize::from(self.row_regions[row])];
-        fill_arcs(
-            arcs,
-            entries_of(&self.places, row, self.sites),
-            region.shape(),
-        )
+        let held = self.held(row);
+        fill_arcs(arcs, held.entries, held.shape)
+    }
+
+    // Keeps more arcs of each row, and returns how many weren't kept before.
+    fn keep(&mut self, which: Keep<'_>) -> u64
+        requires within { AreWithin (servers_in which) self.old.rows }
+        requires low { IsLow which }
+        ensures kept { self.new ≡ with_each (kept_by which) self.old }
+        ensures count { result + loose_of self.new.rows ≡ loose_of self.old.rows }
+        ensures settled { result ≡ 0 → self.new ≡ self.old }
+    {
+        let mut kept = 0;
+        for row in 0..self.row_regions.len() {
+            let region = &self.regions[usize::from(self.row_regions[row])];
+            let start = row * self.sites;
+            let entries = &mut self.places[start..start + self.sites];
+            kept += keep(entries, region.shape(), which);
+        }
+        kept
     }
 
     /// Keeps of each row the arcs over which a query pays least, and returns how many weren't kept before. Each server
@@ -203,14 +235,7 @@ impl KeptRows {
         ensures count { result + loose_of self.new.rows ≡ loose_of self.old.rows }
         ensures settled { result ≡ 0 → self.new ≡ self.old }
     {
-        let mut kept = 0;
-        for row in 0..self.row_regions.len() {
-            let region = &self.regions[usize::from(self.row_regions[row])];
-            let start = row * self.sites;
-            let entries = &mut self.places[start..start + self.sites];
-            kept += keep_least(entries, region.shape(), extras);
-        }
-        kept
+        self.keep(Keep::Least(extras))
     }
 
     /// Keeps of each row the arcs that lead out of a set of servers, where no arc of it that is kept does, and returns
@@ -221,14 +246,7 @@ impl KeptRows {
         ensures count { result + loose_of self.new.rows ≡ loose_of self.old.rows }
         ensures settled { result ≡ 0 → self.new ≡ self.old }
     {
-        let mut kept = 0;
-        for row in 0..self.row_regions.len() {
-            let region = &self.regions[usize::from(self.row_regions[row])];
-            let start = row * self.sites;
-            let entries = &mut self.places[start..start + self.sites];
-            kept += keep_leaving(entries, region.shape(), set);
-        }
-        kept
+        self.keep(Keep::Leaving(set))
     }
 
     /// Keeps of each row the arcs over which a query pays at most `window` more than the least. Extras are as in
@@ -238,11 +256,6 @@ impl KeptRows {
         requires low { AreLow extras.now }
         ensures { self.new ≡ with_each (with_near (pay_by extras.now) window) self.old }
     {
-        for row in 0..self.row_regions.len() {
-            let region = &self.regions[usize::from(self.row_regions[row])];
-            let start = row * self.sites;
-            let entries = &mut self.places[start..start + self.sites];
-            keep_near(entries, region.shape(), extras, window);
-        }
+        self.keep(Keep::Near(extras, window));
     }
 }

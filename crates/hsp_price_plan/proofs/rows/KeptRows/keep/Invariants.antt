@@ -1,8 +1,7 @@
 use Rattle.std.proofs.Common.{◌≡◌}
-use Rattle.hsp_price_check.specs.Extras.{pay_by}
-use Rattle.hsp_prices.specs.KeptRows.{with_least}
+use Rattle.hsp_price_plan.specs.Keeping.{kept_by}
 use Rattle.hsp_price_plan.proofs.Passing.{ArePassed}
-use Rattle.hsp_price_plan.proofs.rows.KeptRows.keep_least.Given as goal
+use Rattle.hsp_price_plan.proofs.rows.KeptRows.keep.Given as goal
 
 abbrev pub invariant-loop-row : goal.invariant-loop-row
 invariant-loop-row l =
@@ -14,6 +13,6 @@ invariant-loop-row l =
       numbers : now.row_regions ≡ old.row_regions;
       counts : now.counts ≡ old.counts;
       passed :
-          ArePassed (with_least (pay_by l.extras)) old.sites old.regions.items old.row_regions.items old.counts.items
+          ArePassed (kept_by l.which) old.sites old.regions.items old.row_regions.items old.counts.items
           old.places.items now.places.items l.row l.kept;
     }

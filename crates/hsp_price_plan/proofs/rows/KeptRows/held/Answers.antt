@@ -1,9 +1,7 @@
-use Rattle.std.proofs.Common.{◌≡◌, ◌<◌, ◌*◌, ◌∙◌, ℕ, List, ap, arith, drop, length, map, sym}
+use Rattle.std.proofs.Common.{◌≡◌, ◌<◌, ◌*◌, ◌∙◌, ℕ, List, ap, arith, drop, length, sym}
 use Rattle.std.proofs.Common.{take}
 use Rattle.std.proofs.lemmas.List.{get_or_read}
-use Rattle.std.proofs.lemmas.Result.{IfOk-equal}
-use Rattle.hsp_instance.specs.declared.arc.Arc.{Arc}
-use Rattle.hsp_prices.specs.KeptRows.{KeptArc, KeptRow, arcs_in}
+use Rattle.hsp_prices.specs.KeptRows.{KeptRow}
 use Rattle.hsp_price_plan.specs.Entries.{arcs_by}
 use Rattle.hsp_price_plan.specs.Held.{HeldRows, no_row, row_at}
 use Rattle.hsp_price_plan.specs.Regions.{RegionArcs}
@@ -11,12 +9,8 @@ use Rattle.hsp_price_plan.specs.declared.region.SiteCost.{SiteCost}
 use Rattle.hsp_price_plan.proofs.Passing.{number_below, region_by, region_read, shape_short}
 use Rattle.hsp_price_plan.proofs.RowPlaces.{entries_at, get_or-rows_by, length-entries_at, length-rows_by}
 use Rattle.hsp_price_plan.proofs.RowPlaces.{place_within}
-use Rattle.hsp_price_plan.proofs.rows.KeptRows.fill_arcs.Goals as goal
-use Rattle.hsp_price_plan.proofs.rows.KeptRows.fill_arcs.Goals.{After-self, After-shape}
-
--- arcs, whichever are kept
-abbrev bare_all : List KeptArc → List Arc
-bare_all arcs = map (λ a. a.arc) arcs
+use Rattle.hsp_price_plan.proofs.rows.KeptRows.held.Goals as goal
+use Rattle.hsp_price_plan.proofs.rows.KeptRows.held.Goals.{After-self, After-shape}
 
 -- the row is one of those
 inside : (c : After-self) → c.args.row < length c.self.inside.row_regions.items
@@ -74,33 +68,27 @@ entries_are c =
     ∙ ap (λ (places : List ℕ). take c.self.inside.sites (drop (c.args.row * c.self.inside.sites) places))
     c.deref.ensures.value
 
-pub fill_arcs-requires : goal.fill_arcs-requires
-fill_arcs-requires c =
+pub returns-clause-short : goal.returns-clause-short
+returns-clause-short c =
     let t = c.self.inside in
-    let row_below = inside (goal.at.fill_arcs-requires c).After-self in
+    let d = (goal.at.returns-clause-short c).After-shape in
+    let row_below = inside (goal.at.returns-clause-short c).After-self in
     let own =
     length-entries_at (length t.row_regions.items) c.args.row t.sites t.places.items row_below
     c.self.invariant.many_places in
     let short =
     shape_short t.sites t.regions.items t.row_regions.items t.counts.items t.places.items c.args.row c.self.invariant
     row_below in
-    rw (shape_is c row_below, entries_are c, own) short
+    rw (shape_is d row_below, entries_are d, own) short
 
-pub returns : goal.returns
-returns c =
+pub returns-clause-arcs : goal.returns-clause-arcs
+returns-clause-arcs c =
     let t = c.self.inside in
-    let d = (goal.at.returns c).After-shape in
-    let row_below = inside (goal.at.returns c).After-self in
-    let arcs : arcs_by c.shape.result.now c.entries_of.result.now
-    ≡ arcs_by (region_by t.regions.items t.row_regions.items c.args.row).shape
-    (entries_at t.sites c.args.row t.places.items) =
+    let d = (goal.at.returns-clause-arcs c).After-shape in
+    let row_below = inside (goal.at.returns-clause-arcs c).After-self in
     ap (λ (shape : List SiteCost). arcs_by shape c.entries_of.result.now) (shape_is d row_below)
-    ∙ ap (arcs_by (region_by t.regions.items t.row_regions.items c.args.row).shape) (entries_are d) in
-    IfOk-equal c.fill_arcs.result c.fill_arcs.new.arcs.items
-    (bare_all (arcs_by c.shape.result.now c.entries_of.result.now))
-    (arcs_in (row_at c.args.self.now c.args.row)) c.fill_arcs.ensures
-    (ap bare_all arcs
-    ∙ ap (λ (row : KeptRow). arcs_in row)
+    ∙ ap (arcs_by (region_by t.regions.items t.row_regions.items c.args.row).shape) (entries_are d)
+    ∙ ap (λ (row : KeptRow). row.arcs)
     (sym (get_or-rows_by t.sites t.regions.items t.row_regions.items t.counts.items t.places.items c.args.row no_row
     row_below c.self.invariant.many_counts))
-    ∙ ap (λ (held : HeldRows). arcs_in (row_at held c.args.row)) c.self.view_is)
+    ∙ ap (λ (held : HeldRows). (row_at held c.args.row).arcs) c.self.view_is
