@@ -6,15 +6,12 @@ use Rattle.hsp_cli_orders.specs.Orders.{IsOrderOf, IsUsage}
 use Rattle.hsp_cli_orders.specs.declared.fault.CommandFault.{CommandFault}
 use Rattle.hsp_cli_orders.specs.declared.fault.CommandFault.TheVariants as command_fault
 use Rattle.hsp_cli_orders.specs.declared.order.InputFiles.{InputFiles}
-use Rattle.hsp_cli_orders.specs.declared.order.AskedReport.{AskedReport}
-use Rattle.hsp_cli_orders.specs.declared.order.AskedReport.TheVariants as kind
+use Rattle.hsp_report.specs.declared.kind.ReportKind.{ReportKind}
 use Rattle.hsp_cli_orders.specs.declared.order.Order.{Order}
 use Rattle.hsp_cli_orders.specs.declared.order.Order.TheVariants as order
 use Rattle.hsp_runs.specs.Locate.{AreLocated, placed}
 use Rattle.hsp_runs.specs.SiteText.{IsSiteRun}
 use Rattle.hsp_runs.specs.Report.{IsReported}
-use Rattle.hsp_runs.specs.declared.report.ReportKind.{ReportKind}
-use Rattle.hsp_runs.specs.declared.report.ReportKind.TheVariants.{Load, Region, Shortage}
 use Rattle.hsp_runs.specs.declared.inputs.Inputs.{Inputs}
 use Rattle.hsp_cli.specs.Answers.{Answered, IsAnswered, IsShownPlan, IsShownVerdict, fields_reply, plan_reply}
 use Rattle.hsp_cli.specs.Answers.{text_reply, verdict_reply}
@@ -70,17 +67,11 @@ AnswersCheck disk files plan answer =
     ⊎ ((inputs : Inputs) × (octets : List ℕ) × AreHeld disk files inputs × disk.holds plan octets
     × IsAnswered verdict_reply (IsShownVerdict inputs octets) answer)
 
--- the kind of report that is asked for
-abbrev pub kind_of_report : AskedReport → ReportKind
-kind_of_report kind.Load = Load
-kind_of_report kind.Region = Region
-kind_of_report kind.Shortage = Shortage
-
-abbrev pub AnswersReport : Disk → InputFiles → List ℕ → AskedReport → Answered → Type 0
+abbrev pub AnswersReport : Disk → InputFiles → List ℕ → ReportKind → Answered → Type 0
 AnswersReport disk files plan asked answer =
     LacksFile (OneFails disk files ⊎ disk.fails plan) answer
     ⊎ ((inputs : Inputs) × (octets : List ℕ) × AreHeld disk files inputs × disk.holds plan octets
-    × IsAnswered text_reply (IsReported inputs octets (kind_of_report asked)) answer)
+    × IsAnswered text_reply (IsReported inputs octets asked) answer)
 
 -- the answer to an order whose text is printed as one; a log's lines are not
 abbrev pub AnswersTo : Disk → Order → Answered → Type 0

@@ -4,7 +4,7 @@ ghost use Rattle.std.specs.Prelude.{◌≡◌, map, string_bytes};
 ghost use Rattle.hsp_runs.specs.Locate.{placed};
 ghost use Rattle.hsp_cli.specs.Answers.{IsAnswered, text_reply};
 ghost use Rattle.hsp_cli.specs.Commands.{AnswersCheck, AnswersPlan, AnswersReport, AnswersSite, AnswersSites};
-ghost use Rattle.hsp_cli.specs.Commands.{CarriesOut, Obeys, kind_of_report};
+ghost use Rattle.hsp_cli.specs.Commands.{CarriesOut, Obeys};
 ghost use Rattle.hsp_cli.specs.Printing.{IsHandedOn};
 
 use crate::answer::{
@@ -15,8 +15,9 @@ use crate::failure::Failure;
 use crate::files::{FileSource, read_whole};
 use crate::inputs::{read_inputs, read_named};
 use crate::output::Output;
-use hsp_cli_orders::{AskedReport, InputFiles, Order, Word, read_command};
-use hsp_runs::{Fault, Locate, ReportKind};
+use hsp_cli_orders::{InputFiles, Order, Word, read_command};
+use hsp_report::ReportKind;
+use hsp_runs::{Fault, Locate};
 use std::alloc::Global;
 
 // Carries out `locate` by a hash option and a number of servers.
@@ -95,30 +96,19 @@ fn check<S: FileSource>(
     check_answer(alloc, &inputs, &plan)
 }
 
-// The kind of report that is asked for.
-fn kind_of_report(kind: AskedReport) -> ReportKind
-    ensures { result ≡ kind_of_report kind }
-{
-    match kind {
-        AskedReport::Load => ReportKind::Load,
-        AskedReport::Region => ReportKind::Region,
-        AskedReport::Shortage => ReportKind::Shortage,
-    }
-}
-
 // Carries out `report`.
 fn report<S: FileSource>(
     alloc: Global,
     files: &S,
     named: &InputFiles<'_>,
     plan: &Word<'_>,
-    kind: AskedReport,
+    kind: ReportKind,
 ) -> Result<Answer, Failure<Fault>>
     ensures { AnswersReport (S.disk files.now) named.now plan.now kind result }
 {
     let inputs = read_inputs(alloc, files, named)?;
     let plan = read_whole(alloc, files, plan)?;
-    report_answer(alloc, &inputs, &plan, kind_of_report(kind))
+    report_answer(alloc, &inputs, &plan, kind)
 }
 
 // Carries out the order: prints its answer on `out`, or answers a log there, and returns what to end with.

@@ -5,8 +5,8 @@ use Rattle.hsp_cli_orders.specs.Commands.{hsplan_app}
 use Rattle.hsp_cli_orders.specs.declared.order.Order.{Order}
 use Rattle.hsp_cli_orders.specs.declared.order.InputFiles.{InputFiles}
 use Rattle.hsp_cli_orders.specs.declared.order.Order.TheVariants as order
-use Rattle.hsp_cli_orders.specs.declared.order.AskedReport.{AskedReport}
-use Rattle.hsp_cli_orders.specs.declared.order.AskedReport.TheVariants.{Load, Region, Shortage}
+use Rattle.hsp_report.specs.declared.kind.ReportKind.{ReportKind}
+use Rattle.hsp_report.specs.declared.kind.ReportKind.TheVariants.{Load, Region, Shortage}
 
 -- the files of the inputs
 pub record HasInputs (rows : List Row) (inputs : InputFiles) : Type 0 where
@@ -17,7 +17,7 @@ pub record HasInputs (rows : List Row) (inputs : InputFiles) : Type 0 where
   pub capacity : first_of (codes "capacity") rows ≡ Some inputs.capacity
 
 -- the word for a kind of report
-abbrev pub report_word : AskedReport → Text
+abbrev pub report_word : ReportKind → Text
 report_word Load = codes "load"
 report_word Region = codes "region"
 report_word Shortage = codes "shortage"

@@ -7,8 +7,8 @@ use Rattle.clap.specs.Words.{Row, Text, fault_of, first_of, subcommand_of}
 use Rattle.hsp_cli_orders.specs.Commands.{stream_app}
 use Rattle.hsp_cli_orders.specs.declared.fault.CommandFault.{CommandFault}
 use Rattle.hsp_cli_orders.specs.declared.fault.CommandFault.TheVariants as fault
-use Rattle.hsp_cli_orders.specs.declared.stream_order.AskedPriceReport.{AskedPriceReport}
-use Rattle.hsp_cli_orders.specs.declared.stream_order.AskedPriceReport.TheVariants as shown
+use Rattle.hsp_price_report.specs.declared.kind.PriceReportKind.{PriceReportKind}
+use Rattle.hsp_price_report.specs.declared.kind.PriceReportKind.TheVariants as shown
 use Rattle.hsp_cli_orders.specs.declared.stream_order.FaultsOf.{FaultsOf}
 use Rattle.hsp_cli_orders.specs.declared.stream_order.FaultsOf.TheVariants as of
 use Rattle.hsp_cli_orders.specs.declared.stream_order.FrontWords.{FrontWords}
@@ -66,7 +66,7 @@ pub record HasPriceFiles (rows : List Row) (files : PriceFiles) : Type 0 where
   pub prices : first_of (codes "prices") rows ≡ Some files.prices
 
 -- the word for a kind of report
-abbrev pub price_report_word : AskedPriceReport → Text
+abbrev pub price_report_word : PriceReportKind → Text
 price_report_word shown.Load = codes "load"
 price_report_word shown.Region = codes "region"
 

@@ -13,11 +13,10 @@ mod words;
 
 pub use commands::{hsplan_command, stream_command};
 pub use fault::CommandFault;
-pub use order::{AskedReport, InputFiles, Order, Word};
+pub use order::{InputFiles, Order, Word};
 pub use reading::read_command;
 pub use stream_order::{
-    AskedPriceReport, FaultsOf, FrontWords, PlaceFiles, PriceFiles, ServiceFiles, SiteFiles,
-    StreamOrder,
+    FaultsOf, FrontWords, PlaceFiles, PriceFiles, ServiceFiles, SiteFiles, StreamOrder,
 };
 pub use stream_reading::read_stream_command;
 pub use words::split_words;

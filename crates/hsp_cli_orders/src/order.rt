@@ -2,6 +2,7 @@
 
 ghost use Rattle.std.specs.Prelude.{◌≡◌, ℕ, List};
 
+use hsp_report::ReportKind;
 use std::marker::Model;
 
 /// The value of an option, or a word by its place: text among the words, seen as its octets.
@@ -49,17 +50,6 @@ pub struct InputFiles<'a> {
     pub capacity: Word<'a>,
 }
 
-/// What a report shows.
-#[derive(Debug, Clone, Copy, PartialEq, Eq)]
-pub enum AskedReport {
-    /// `load`: what each server takes by a plan.
-    Load,
-    /// `region`: what each region asks for, and what that costs by a plan.
-    Region,
-    /// `shortage`: the rows of a short set and the servers that they reach.
-    Shortage,
-}
-
 /// One command with its values.
 #[derive(Drop)]
 pub enum Order<'a> {
@@ -100,6 +90,6 @@ pub enum Order<'a> {
     Report {
         inputs: InputFiles<'a>,
         plan: Word<'a>,
-        kind: AskedReport,
+        kind: ReportKind,
     },
 }

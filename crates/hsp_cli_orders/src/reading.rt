@@ -8,14 +8,15 @@ ghost use Rattle.hsp_cli_orders.specs.Commands.{hsplan_app};
 ghost use Rattle.hsp_cli_orders.specs.Orders.{HasInputs, HasNoPlace, IsOrderIn, IsOrderOf, IsUsage, report_word};
 ghost use Rattle.hsp_cli_orders.specs.declared.fault.CommandFault.TheVariants as fault;
 ghost use Rattle.hsp_cli_orders.specs.declared.order.InputFiles.{InputFiles};
-ghost use Rattle.hsp_cli_orders.specs.declared.order.AskedReport.{AskedReport};
+ghost use Rattle.hsp_report.specs.declared.kind.ReportKind.{ReportKind};
 ghost use Rattle.hsp_cli_orders.specs.declared.order.Order.{Order};
 
 use crate::fault::CommandFault;
 use crate::hsplan_command;
-use crate::order::{AskedReport, InputFiles, Order, Word};
+use crate::order::{InputFiles, Order, Word};
 use clap::error::ErrorKind;
 use clap::{ArgMatches, Error};
+use hsp_report::ReportKind;
 use std::alloc::Global;
 
 // The value of this name, where it was given.
@@ -167,14 +168,14 @@ fn dispatch_of<'a>(matches: &ArgMatches<'a>) -> Option<Order<'a>>
 }
 
 // The report that is asked for by the word.
-fn asked_report(word: &str) -> Option<AskedReport>
+fn asked_report(word: &str) -> Option<ReportKind>
     ensures kind { IfSome result (λ kind. word.now ≡ report_word kind) }
-    ensures none { IfNone result ((kind : AskedReport) → word.now ≡ report_word kind → ⊥) }
+    ensures none { IfNone result ((kind : ReportKind) → word.now ≡ report_word kind → ⊥) }
 {
     match word {
-        "load" => Some(AskedReport::Load),
-        "region" => Some(AskedReport::Region),
-        "shortage" => Some(AskedReport::Shortage),
+        "load" => Some(ReportKind::Load),
+        "region" => Some(ReportKind::Region),
+        "shortage" => Some(ReportKind::Shortage),
         _ => None,
     }
 }

@@ -1,6 +1,7 @@
 // What `hsplan-stream` is asked to do.
 
 use crate::order::Word;
+use hsp_price_report::PriceReportKind;
 
 /// The number of fronts, and the number of one of them: `--fronts N --front K`.
 #[derive(Drop)]
@@ -38,15 +39,6 @@ pub struct ServiceFiles<'a> {
 pub struct PriceFiles<'a> {
     pub service: ServiceFiles<'a>,
     pub prices: Word<'a>,
-}
-
-/// What a report by prices shows.
-#[derive(Clone, Copy)]
-pub enum AskedPriceReport {
-    /// `load`: what each server takes.
-    Load,
-    /// `region`: what each region asks for, and what that costs.
-    Region,
 }
 
 /// What is looked at for faulty rows.
@@ -89,7 +81,7 @@ pub enum StreamOrder<'a> {
     /// `report` with a log, a certificate by prices and what it is checked by, and `--kind K`
     Report {
         files: PriceFiles<'a>,
-        kind: AskedPriceReport,
+        kind: PriceReportKind,
     },
     /// `interfaces` with the sites whose servers have them
     Interfaces {

@@ -9,7 +9,7 @@ ghost use Rattle.hsp_cli_orders.specs.StreamOrders.{HasPriceFiles, HasServiceFil
 ghost use Rattle.hsp_cli_orders.specs.StreamOrders.{IsStreamOrderIn, IsStreamOrdered};
 ghost use Rattle.hsp_cli_orders.specs.StreamOrders.{IsStreamUsage, asked, is_help, is_version, price_report_word};
 ghost use Rattle.hsp_cli_orders.specs.declared.fault.CommandFault.TheVariants as fault;
-ghost use Rattle.hsp_cli_orders.specs.declared.stream_order.AskedPriceReport.{AskedPriceReport};
+ghost use Rattle.hsp_price_report.specs.declared.kind.PriceReportKind.{PriceReportKind};
 ghost use Rattle.hsp_cli_orders.specs.declared.stream_order.FrontWords.{FrontWords};
 ghost use Rattle.hsp_cli_orders.specs.declared.stream_order.PlaceFiles.{PlaceFiles};
 ghost use Rattle.hsp_cli_orders.specs.declared.stream_order.PriceFiles.{PriceFiles};
@@ -22,10 +22,10 @@ use crate::fault::CommandFault;
 use crate::reading::{command_fault, text_of, word_of};
 use crate::stream_command;
 use crate::stream_order::{
-    AskedPriceReport, FaultsOf, FrontWords, PlaceFiles, PriceFiles, ServiceFiles, SiteFiles,
-    StreamOrder,
+    FaultsOf, FrontWords, PlaceFiles, PriceFiles, ServiceFiles, SiteFiles, StreamOrder,
 };
 use clap::ArgMatches;
+use hsp_price_report::PriceReportKind;
 use std::alloc::Global;
 
 fn is_help(word: &str) -> bool
@@ -167,14 +167,14 @@ fn check_of<'a>(matches: &ArgMatches<'a>) -> Option<StreamOrder<'a>>
 }
 
 // The report that is asked for by the word.
-fn asked_report(word: &str) -> Option<AskedPriceReport>
+fn asked_report(word: &str) -> Option<PriceReportKind>
     ensures kind { IfSome result (λ kind. word.now ≡ price_report_word kind) }
-    ensures none { IfNone result ((kind : AskedPriceReport)
+    ensures none { IfNone result ((kind : PriceReportKind)
         → word.now ≡ price_report_word kind → ⊥) }
 {
     match word {
-        "load" => Some(AskedPriceReport::Load),
-        "region" => Some(AskedPriceReport::Region),
+        "load" => Some(PriceReportKind::Load),
+        "region" => Some(PriceReportKind::Region),
         _ => None,
     }
 }

@@ -8,10 +8,10 @@ ghost use Rattle.hsp_price_report.specs.LoadReport.{full_worth, lines_by, load_r
 ghost use Rattle.hsp_price_report.specs.ValidPass.{HasValidPass, IsValidPass};
 
 use hsp_check::worth_of;
-use hsp_prices::plan_is_shown;
 use hsp_instance::{Instance, capacities_of, limits_of};
 use hsp_price_check::PriceCheck;
 use hsp_price_text::PricedPlan;
+use hsp_prices::plan_is_shown;
 use hsp_report::{LOAD_HEADER, push_difference, push_server};
 use std::alloc::{AllocError, Global};
 

@@ -10,20 +10,13 @@ use Rattle.hsp_prices.specs.Verdict.{IsVerdict}
 use Rattle.hsp_prices.specs.declared.verdict.PriceVerdict.TheVariants.{No, Yes}
 use Rattle.hsp_runs.specs.declared.fault.Fault.TheVariants.{WrongKind}
 use Rattle.hsp_runs.specs.declared.inputs.Inputs.{Inputs}
-use Rattle.hsp_price_report.specs.LoadReport.{load_report}
-use Rattle.hsp_price_report.specs.RegionReport.{region_report}
+use Rattle.hsp_price_report.specs.Kinds.{report_text}
+use Rattle.hsp_price_report.specs.declared.kind.PriceReportKind.{PriceReportKind}
 use Rattle.hsp_stream.specs.declared.fault.StreamFault.{StreamFault}
 use Rattle.hsp_stream.specs.declared.fault.StreamFault.TheVariants.{Input}
 use Rattle.hsp_price_runs.specs.PriceRun.{AnswersInputs}
 use Rattle.hsp_price_runs.specs.declared.report.PriceReport.{PriceReport}
 use Rattle.hsp_price_runs.specs.declared.report.PriceReport.TheVariants.{Refused, Shown}
-use Rattle.hsp_price_runs.specs.declared.report.PriceReportKind.{PriceReportKind}
-use Rattle.hsp_price_runs.specs.declared.report.PriceReportKind.TheVariants.{Load, Region}
-
--- the report of this kind
-abbrev pub report_text : PriceReportKind → Instance → Service → Best → List Row → List ℕ
-report_text Load it at plan rows = load_report it at plan rows
-report_text Region it at plan rows = region_report at plan rows
 
 -- the first reason against the certificate, or the report of a valid plan, or the fault of a short set
 abbrev pub IsReportBy : PriceReportKind → Instance → Service → PriceCertificate → List Row

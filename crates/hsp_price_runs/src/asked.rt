@@ -12,10 +12,10 @@ ghost use Rattle.hsp_price_check.specs.Classes.{service_of};
 ghost use Rattle.hsp_price_runs.specs.Asking.{HasPassed};
 ghost use Rattle.hsp_price_runs.specs.PriceRun.{IsVerdictBy};
 
-use hsp_prices::PriceVerdict;
 use hsp_instance::Instance;
 use hsp_price_check::PriceCheck;
 use hsp_price_text::PriceCertificate;
+use hsp_prices::PriceVerdict;
 use hsp_stream::StreamFault;
 use std::alloc::Global;
 

@@ -10,7 +10,7 @@ mod taking;
 mod verdict_text;
 
 pub use log_pass::pass_log;
-pub use report::{PriceReport, PriceReportKind, price_report_run};
+pub use report::{PriceReport, price_report_run};
 pub use run::{certificate_in, price_check_run};
 pub use taking::RowTaker;
 pub use verdict_text::{price_verdict_line, price_verdict_status};

@@ -1,34 +1,21 @@
 // Reports of certificates by prices.
 
-ghost use Rattle.std.specs.Prelude.{◌≡◌, ◌⊎◌, Err, IfErr, IfOk, List, Ok};
+ghost use Rattle.std.specs.Prelude.{◌⊎◌, Err, IfErr, IfOk, Ok};
 ghost use Rattle.hsp_stream.specs.LogRows.{OfLog};
 ghost use Rattle.hsp_stream.specs.Watching.{MayStopReading};
-ghost use Rattle.hsp_tables.specs.Costs.{CostEntry};
-ghost use Rattle.hsp_instance.specs.Instance.{Row};
-ghost use Rattle.hsp_price_check.specs.Classes.{service_of};
-ghost use Rattle.hsp_price_report.specs.ValidPass.{HasValidPass, IsValidPass};
-ghost use Rattle.hsp_price_runs.specs.PriceReport.{IsPriceReport, IsReportBy, report_text};
+ghost use Rattle.hsp_price_runs.specs.PriceReport.{IsPriceReport, IsReportBy};
 
 use crate::asked::Asked;
 use crate::run::ask_inputs;
-use hsp_prices::{PriceReason, PriceVerdict};
-use hsp_runs::{Fault, Inputs};
 use hsp_instance::Instance;
 use hsp_price_check::PriceCheck;
-use hsp_price_report::{price_load_report, price_region_report};
-use hsp_price_text::{PriceCertificate, PricedPlan};
+use hsp_price_report::PriceReportKind;
+use hsp_price_text::PriceCertificate;
+use hsp_prices::{PriceReason, PriceVerdict};
+use hsp_runs::{Fault, Inputs};
 use hsp_stream::StreamFault;
 use hsp_talk::Source;
-use std::alloc::{AllocError, Global};
-
-/// What a report shows.
-#[derive(Clone, Copy)]
-pub enum PriceReportKind {
-    /// What each server takes by a plan.
-    Load,
-    /// What each region asks for, and what that costs by a plan.
-    Region,
-}
+use std::alloc::Global;
 
 /// A report, or the reason why the certificate isn't valid.
 #[derive(Debug, PartialEq, Eq, Drop)]
@@ -37,28 +24,6 @@ pub enum PriceReport {
     Shown(Vec<u8>),
     /// The first reason that stands against the certificate.
     Refused(PriceReason),
-}
-
-impl PriceReportKind {
-    // The text of the report of a valid plan.
-    fn text(
-        self,
-        alloc: Global,
-        instance: &Instance,
-        plan: &PricedPlan,
-        check: &PriceCheck<'_>,
-    ) -> Result<Vec<u8>, AllocError>
-        requires { HasValidPass instance.now plan.now check.now }
-        ensures { IfOk result (λ text. (costs : List CostEntry) (rows : List Row)
-            → IsValidPass (service_of costs instance.now) plan.now rows check.now
-            → text.items
-            ≡ report_text self instance.now (service_of costs instance.now) plan.now rows) }
-    {
-        match self {
-            PriceReportKind::Load => price_load_report(alloc, instance, plan, check),
-            PriceReportKind::Region => price_region_report(alloc, plan, check),
-        }
-    }
 }
 
 impl Asked for PriceReportKind {

@@ -2,6 +2,7 @@
 #![tactic(auto)]
 
 mod columns;
+mod kind;
 pub mod laws;
 mod loads;
 mod naming;
@@ -9,6 +10,7 @@ mod regions;
 mod shortages;
 
 pub use columns::{Column, aligned, push_columns, push_difference};
+pub use kind::ReportKind;
 pub use loads::{LOAD_HEADER, load_report, push_server};
 pub use regions::{REGION_HEADER, region_report};
 pub use shortages::shortage_report;

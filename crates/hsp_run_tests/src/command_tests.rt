@@ -1,5 +1,6 @@
 use crate::same::is_same;
 use hsp_cli_orders::*;
+use hsp_report::ReportKind;
 use std::alloc::{AllocError, Global};
 use std::process::Abort;
 
@@ -97,7 +98,7 @@ fn shown_report(
     alloc: Global,
     inputs: &InputFiles<'_>,
     plan: &Word<'_>,
-    kind: AskedReport,
+    kind: ReportKind,
 ) -> Option<String> {
     let shown = shown_inputs(alloc, "report", inputs, plan.as_str())?;
     let shown = shown.as_str();

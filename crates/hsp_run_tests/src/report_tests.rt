@@ -2,6 +2,7 @@ use crate::run_tests::{BASE, CHEAPER_PLAN, LACKING, PLAN, SHORTAGE, Texts, UNASK
 use crate::same::is_same;
 use hsp_cert::CertFault;
 use hsp_check::Reason;
+use hsp_report::ReportKind;
 use hsp_runs::*;
 use hsp_tables::TableFault;
 use std::alloc::Global;

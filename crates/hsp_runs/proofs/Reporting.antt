@@ -9,7 +9,7 @@ use Rattle.hsp_report.specs.RegionReport.{IsRegionReport}
 use Rattle.hsp_report.specs.ShortageReport.{IsShortageReport}
 use Rattle.hsp_runs.specs.Accepted.{plan_in, shortage_in}
 use Rattle.hsp_runs.specs.Report.{report_of}
-use Rattle.hsp_runs.specs.declared.report.ReportKind.TheVariants.{Load, Region, Shortage}
+use Rattle.hsp_report.specs.declared.kind.ReportKind.TheVariants.{Load, Region, Shortage}
 
 -- a report of loads is that of its plan
 pub loads_shown : (it : Instance) (claim : Claim) (plan : Best) (text : List ℕ) → plan_in claim ≡ Ok plan

@@ -10,8 +10,8 @@ use Rattle.hsp_runs.specs.Accepted.{IsAcceptedOf, plan_in, shortage_in}
 use Rattle.hsp_runs.specs.declared.accepted.Accepted.{Accepted}
 use Rattle.hsp_runs.specs.declared.fault.Fault.{Fault}
 use Rattle.hsp_runs.specs.declared.inputs.Inputs.{Inputs}
-use Rattle.hsp_runs.specs.declared.report.ReportKind.{ReportKind}
-use Rattle.hsp_runs.specs.declared.report.ReportKind.TheVariants.{Load, Region, Shortage}
+use Rattle.hsp_report.specs.declared.kind.ReportKind.{ReportKind}
+use Rattle.hsp_report.specs.declared.kind.ReportKind.TheVariants.{Load, Region, Shortage}
 
 -- loads and regions are reported of a plan, and a shortage of a short set
 abbrev pub report_of : ReportKind → Instance → Claim → Result (List ℕ) Fault

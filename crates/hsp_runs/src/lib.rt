@@ -42,7 +42,7 @@ pub use instance::{costs_in, instance_in};
 pub use locate::{Locate, locate_run};
 pub use plan::{PlanText, plan_run};
 pub use readings::{settings_in, sites_in, sites_of, values_in};
-pub use report::{ReportKind, report_run};
+pub use report::report_run;
 pub use site::{push_address, site_run};
 pub use sums_text::sums_line;
 pub use verdict_text::{verdict_line, verdict_status};

@@ -8,19 +8,8 @@ ghost use Rattle.hsp_text.specs.Answers.{Stands};
 use crate::accepted::{Accepted, accepted_in};
 use crate::fault::Fault;
 use crate::inputs::Inputs;
-use hsp_report::{load_report, region_report, shortage_report};
+use hsp_report::{ReportKind, load_report, region_report, shortage_report};
 use std::alloc::Global;
-
-/// What a report shows.
-#[derive(Clone, Copy)]
-pub enum ReportKind {
-    /// What each server takes by a plan.
-    Load,
-    /// What each region asks for, and what that costs by a plan.
-    Region,
-    /// The rows of a short set and the servers that they reach.
-    Shortage,
-}
 
 // The report of a valid certificate.
 fn reported(alloc: Global, accepted: &Accepted, kind: ReportKind) -> Result<Vec<u8>, Fault>

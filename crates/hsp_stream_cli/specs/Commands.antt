@@ -2,7 +2,7 @@
 use Rattle.std.specs.Prelude.{◌≡◌, ◌⊎◌, ℕ, List, Option, Result, Ok, Err}
 use Rattle.hsp_cli_orders.specs.StreamOrders.{IsStreamOrdered}
 use Rattle.hsp_cli_orders.specs.declared.fault.CommandFault.{CommandFault}
-use Rattle.hsp_cli_orders.specs.declared.stream_order.AskedPriceReport.{AskedPriceReport}
+use Rattle.hsp_price_report.specs.declared.kind.PriceReportKind.{PriceReportKind}
 use Rattle.hsp_cli_orders.specs.declared.stream_order.FaultsOf.{FaultsOf}
 use Rattle.hsp_cli_orders.specs.declared.stream_order.FrontWords.{FrontWords}
 use Rattle.hsp_cli_orders.specs.declared.stream_order.PlaceFiles.{PlaceFiles}
@@ -24,7 +24,7 @@ use Rattle.hsp_stream_cli.specs.Files.{PricesFail, ServiceFails, SourcesFail}
 use Rattle.hsp_stream_cli.specs.Listing.{PrintsInterfaces}
 use Rattle.hsp_stream_cli.specs.Planning.{PrintsPlan}
 use Rattle.hsp_stream_cli.specs.Printing.{Ended, PrintsText}
-use Rattle.hsp_stream_cli.specs.Reporting.{PrintsReport, kind_of}
+use Rattle.hsp_stream_cli.specs.Reporting.{PrintsReport}
 use Rattle.hsp_stream_cli.specs.Talking.{EndsPlaces, EndsPriced, IsFront, TalksOver}
 use Rattle.hsp_stream_cli.specs.declared.files.Priced.{Priced}
 use Rattle.hsp_stream_cli.specs.declared.files.Sources.{Sources}
@@ -66,11 +66,11 @@ ChecksPrices disk MayFail files old new ended =
     PrintsVerdict (disk.fails files.service.log) MayFail priced left old new ended)
 
 -- a log is reported on by such a certificate
-abbrev pub ReportsPrices : Disk → Type 0 → PriceFiles → AskedPriceReport → Option (List ℕ) → Option (List ℕ) → Ended
+abbrev pub ReportsPrices : Disk → Type 0 → PriceFiles → PriceReportKind → Option (List ℕ) → Option (List ℕ) → Ended
     → Type 0
 ReportsPrices disk MayFail files kind old new ended =
     ByPrices disk files old new ended (λ priced left.
-    PrintsReport (disk.fails files.service.log) MayFail priced (kind_of kind) left old new ended)
+    PrintsReport (disk.fails files.service.log) MayFail priced kind left old new ended)
 
 -- the rows of a log are planned
 abbrev pub PlansLog : Disk → Type 0 → ServiceFiles → Option (List ℕ) → Option (List ℕ) → Ended → Type 0

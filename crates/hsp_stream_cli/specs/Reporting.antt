@@ -2,24 +2,16 @@
 use Rattle.std.specs.Prelude.{◌≡◌, ◌⊎◌, ℕ, List, Option, Ok, Err}
 use Rattle.hsp_prices.specs.declared.verdict.PriceVerdict.TheVariants.{No}
 use Rattle.hsp_cli.specs.declared.failure.Failure.TheVariants.{Refused}
-use Rattle.hsp_cli_orders.specs.declared.stream_order.AskedPriceReport.{AskedPriceReport}
-use Rattle.hsp_cli_orders.specs.declared.stream_order.AskedPriceReport.TheVariants as asked
+use Rattle.hsp_price_report.specs.declared.kind.PriceReportKind.{PriceReportKind}
 use Rattle.hsp_price_runs.specs.PriceReport.{IsPriceReport}
 use Rattle.hsp_price_runs.specs.declared.report.PriceReport.{PriceReport}
 use Rattle.hsp_price_runs.specs.declared.report.PriceReport.TheVariants as report
-use Rattle.hsp_price_runs.specs.declared.report.PriceReportKind.{PriceReportKind}
-use Rattle.hsp_price_runs.specs.declared.report.PriceReportKind.TheVariants as kind
 use Rattle.hsp_stream.specs.LogRows.{OfLog}
 use Rattle.hsp_stream.specs.Watching.{MayStopReading}
 use Rattle.hsp_stream.specs.declared.fault.StreamFault.{StreamFault}
 use Rattle.hsp_stream_cli.specs.Checking.{PrintsLine}
 use Rattle.hsp_stream_cli.specs.Printing.{Ended, PrintsText}
 use Rattle.hsp_stream_cli.specs.declared.files.Priced.{Priced}
-
--- the kind of report that was asked for
-abbrev pub kind_of : AskedPriceReport → PriceReportKind
-kind_of asked.Load = kind.Load
-kind_of asked.Region = kind.Region
 
 -- the report of a kind by a certificate, for a log with these octets left, where they are known
 abbrev pub IsShownReport : Priced → PriceReportKind → Option (List ℕ) → PriceReport → Type 0

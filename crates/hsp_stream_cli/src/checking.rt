@@ -7,10 +7,10 @@ ghost use Rattle.hsp_stream_cli.specs.Printing.{IsHandedOn};
 use crate::files::{Priced, read_prices};
 use crate::printing::print_with;
 use crate::program::Ended;
-use hsp_prices::PriceVerdict;
 use hsp_cli::{Failure, FileSource, OpenFile, Output};
 use hsp_cli_orders::PriceFiles;
 use hsp_price_runs::{price_check_run, price_verdict_line, price_verdict_status};
+use hsp_prices::PriceVerdict;
 use std::alloc::Global;
 
 /// Prints the line of a verdict. A no has status 3.

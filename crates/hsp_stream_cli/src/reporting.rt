@@ -3,27 +3,18 @@
 ghost use Rattle.std.specs.Prelude.{◌≡◌};
 ghost use Rattle.hsp_stream_cli.specs.Commands.{ReportsPrices};
 ghost use Rattle.hsp_stream_cli.specs.Printing.{IsHandedOn};
-ghost use Rattle.hsp_stream_cli.specs.Reporting.{PrintsReport, PrintsShown, kind_of};
+ghost use Rattle.hsp_stream_cli.specs.Reporting.{PrintsReport, PrintsShown};
 
 use crate::checking::print_line;
 use crate::files::{Priced, read_prices};
 use crate::printing::print;
 use crate::program::Ended;
-use hsp_prices::PriceVerdict;
 use hsp_cli::{Failure, FileSource, OpenFile, Output};
-use hsp_cli_orders::{AskedPriceReport, PriceFiles};
-use hsp_price_runs::{PriceReport, PriceReportKind, price_report_run};
+use hsp_cli_orders::PriceFiles;
+use hsp_price_report::PriceReportKind;
+use hsp_price_runs::{PriceReport, price_report_run};
+use hsp_prices::PriceVerdict;
 use std::alloc::Global;
-
-// The kind of report that was asked for.
-fn kind_of(asked: AskedPriceReport) -> PriceReportKind
-    ensures { result ≡ kind_of asked }
-{
-    match asked {
-        AskedPriceReport::Load => PriceReportKind::Load,
-        AskedPriceReport::Region => PriceReportKind::Region,
-    }
-}
 
 // Prints a report. Where the certificate isn't valid, it prints the line of the no, which has status 3.
 fn print_shown<O: Output>(alloc: Global, report: PriceReport, out: &mut O) -> Ended
@@ -62,7 +53,7 @@ pub(crate) fn report_prices<S: FileSource, O: Output>(
     alloc: Global,
     files: &S,
     named: &PriceFiles<'_>,
-    kind: AskedPriceReport,
+    kind: PriceReportKind,
     out: &mut O,
 ) -> Ended
     ensures reports { ReportsPrices (S.disk files.now) O.may_fail named.now kind
@@ -72,5 +63,5 @@ pub(crate) fn report_prices<S: FileSource, O: Output>(
 {
     let priced = read_prices(alloc, files, named)?;
     let log = files.open(&named.service.log)?;
-    print_report(alloc, &priced, kind_of(kind), log, out)
+    print_report(alloc, &priced, kind, log, out)
 }

@@ -2,9 +2,9 @@
 
 use crate::same::is_same;
 use crate::worked::BY_INDEX;
-use hsp_runs::Fault;
 use hsp_instance::BuildFault;
 use hsp_interfaces::interfaces_run;
+use hsp_runs::Fault;
 use hsp_tables::TableFault;
 use hsp_test_support::service::SETTINGS;
 use std::alloc::Global;

@@ -2,9 +2,9 @@
 
 use crate::same::is_same;
 use hsp_check::Reason;
+use hsp_names::HandleFault;
 use hsp_prices::PriceReason;
 use hsp_runs::Fault;
-use hsp_names::HandleFault;
 use hsp_stream::{RowFault, StreamFault, stream_fault_line, stream_status};
 use hsp_tables::TableFault;
 use std::alloc::{AllocError, Global};

@@ -4,9 +4,9 @@
 use crate::fakes::Rows;
 use crate::price_tests::{held_inputs, judged};
 use crate::same::is_same;
-use hsp_prices::PriceVerdict;
 use hsp_plan_runs::{PricesText, price_plan_run};
 use hsp_price_plan::{Progress, Silent};
+use hsp_prices::PriceVerdict;
 use hsp_stream::{RowFault, StreamFault};
 use hsp_test_support::service::DEMAND;
 use std::alloc::Global;

@@ -7,16 +7,16 @@ use crate::fakes::Rows;
 use crate::same::is_same;
 use crate::worked::owned;
 use hsp_cert::CertFault;
-use hsp_prices::{PriceReason, PriceVerdict};
-use hsp_runs::{Fault, Inputs, costs_in, instance_in};
 use hsp_instance::Instance;
 use hsp_names::HandleRef;
 use hsp_price_check::{PassFault, PriceCheck};
+use hsp_price_report::PriceReportKind;
 use hsp_price_runs::{
-    PriceReport, PriceReportKind, price_check_run, price_report_run, price_verdict_line,
-    price_verdict_status,
+    PriceReport, price_check_run, price_report_run, price_verdict_line, price_verdict_status,
 };
 use hsp_price_text::{PriceCertificate, read_prices};
+use hsp_prices::{PriceReason, PriceVerdict};
+use hsp_runs::{Fault, Inputs, costs_in, instance_in};
 use hsp_stream::{RowFault, StreamFault};
 use hsp_tables::Costs;
 use hsp_test_support::service::{CAPACITY, COSTS, DEMAND, SETTINGS};

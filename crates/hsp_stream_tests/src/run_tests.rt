@@ -3,8 +3,8 @@
 use crate::fakes::Rows;
 use crate::same::is_same;
 use crate::worked::{BY_INDEX, VALUES};
-use hsp_runs::Fault;
 use hsp_names::HandleFault;
+use hsp_runs::Fault;
 use hsp_stream::{RowFault, StreamFault, places_run};
 use hsp_tables::TableFault;
 use hsp_talk::Joined;

@@ -9,5 +9,5 @@ returns-clause-reports g c =
       _,
       c.in_ok-priced.ensures.held,
       c.in_ok-log.ensures.held,
-      prints_weaker _ _ _ _ _ _ c.in_ok-log.ensures.reads (rw c.kind_of.ensures at c.print_report.ensures.prints),
+      prints_weaker _ _ _ _ _ _ c.in_ok-log.ensures.reads c.print_report.ensures.prints,
     )

@@ -1,6 +1,6 @@
 use Rattle.std.proofs.lemmas.Result.{IfOk-weaker}
 use Rattle.hsp_price_check.specs.Classes.{service_of}
-use Rattle.hsp_price_runs.proofs.report.PriceReportKind.text.Goals as goal
+use Rattle.hsp_price_report.proofs.kind.PriceReportKind.text.Goals as goal
 
 pub price_region_report-requires : goal.price_region_report-requires
 price_region_report-requires c =
