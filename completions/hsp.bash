@@ -5,7 +5,7 @@ _hsp_commands() {
         "") echo "day demand doctor export fleet grow new plan sites steer survive view whatif where --help --version" ;;
         export) echo "haproxy --help" ;;
         fleet) echo "demand dispatch --help" ;;
-        "doctor --") echo "locate site plan check dispatch report kinds places answer interfaces faults" ;;
+        "doctor --") echo "locate site plan check dispatch report places answer interfaces faults" ;;
     esac
 }
 
@@ -32,9 +32,8 @@ _hsp_options() {
         "doctor -- check") echo "--settings --demand --costs --capacity --plan --values" ;;
         "doctor -- dispatch") echo "--settings --demand --costs --capacity --plan --log --values --fronts" ;;
         "doctor -- report") echo "--settings --demand --costs --capacity --plan --kind --values" ;;
-        "doctor -- kinds") echo "--settings --costs --log --values --unit --help" ;;
         "doctor -- places") echo "--settings --log --values --help" ;;
-        "doctor -- answer") echo "--settings --costs --capacity --log --values --demand --plan --prices --unit --fronts --front --help" ;;
+        "doctor -- answer") echo "--settings --costs --capacity --log --prices --values --fronts --front --help" ;;
         "doctor -- interfaces") echo "--settings --values --help" ;;
         "doctor -- faults") echo "--demand --costs --capacity --log --help" ;;
     esac

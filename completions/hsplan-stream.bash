@@ -2,16 +2,15 @@
 
 _hsplan_stream_commands() {
     case $1 in
-        "") echo "kinds places plan answer check report interfaces faults --help --version" ;;
+        "") echo "places plan answer check report interfaces faults --help --version" ;;
     esac
 }
 
 _hsplan_stream_options() {
     case $1 in
-        "kinds") echo "--settings --costs --log --values --unit --help" ;;
         "places") echo "--settings --log --values --help" ;;
         "plan") echo "--settings --costs --capacity --log --values --help" ;;
-        "answer") echo "--settings --costs --capacity --log --values --demand --plan --prices --unit --fronts --front --help" ;;
+        "answer") echo "--settings --costs --capacity --log --prices --values --fronts --front --help" ;;
         "check") echo "--settings --costs --capacity --log --prices --values --help" ;;
         "report") echo "--settings --costs --capacity --log --prices --kind --values --help" ;;
         "interfaces") echo "--settings --values --help" ;;
@@ -22,8 +21,8 @@ _hsplan_stream_options() {
 # What stands behind an option of a command: words, files (-f), folders (-d), or what isn't known (-).
 _hsplan_stream_values() {
     case $1 in
-        *" --settings" | *" --costs" | *" --log" | *" --values" | *" --capacity" | *" --demand" | *" --plan" | *" --prices") echo -f ;;
-        *" --unit" | *" --fronts" | *" --front") echo - ;;
+        *" --settings" | *" --log" | *" --values" | *" --costs" | *" --capacity" | *" --prices" | *" --demand") echo -f ;;
+        *" --fronts" | *" --front") echo - ;;
         *" --kind") echo "-W load region" ;;
     esac
 }

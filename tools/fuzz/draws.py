@@ -9,7 +9,7 @@ from typing import Any, NamedTuple
 
 from hypothesis import strategies as st
 
-from lib.oracle import GREATEST_COUNT, Row, Service, Site, Use, field_of
+from lib.oracle import Row, Service, Site, field_of
 
 Draw = Callable[["st.SearchStrategy[Any]"], Any]
 WORDS: list[bytes] = [
@@ -191,8 +191,7 @@ HANDLES = [
 ]
 ANY_HANDLES = [*HANDLES, "10/two\rlines", "10/two\nlines"]
 REGION, HANDLE, ANY_HANDLE = pick(REGIONS), pick(HANDLES), pick(ANY_HANDLES)
-NAMES = st.lists(st.tuples(REGION, ANY_HANDLE), max_size=8, unique=True)
-MOST, HOSTS = pick([2, 4, 10, GREATEST_COUNT]), pick([0, 0, 1, 3])
+HOSTS = pick([0, 0, 1, 3])
 SITE = st.tuples(st.integers(0, 2), PART, pick([1, 1, 2, 2, 3, 4, 7, 12]))
 SOME_SITES = st.lists(SITE, min_size=1, max_size=5)
 
@@ -205,46 +204,6 @@ def services(draw: Draw) -> Service:
     ]
     costs = {(region, site.name): draw(FEW) for region in REGIONS[:-1] for site in sites if draw(OFTEN)}
     return Service(tuple(sites), costs, not draw(OFTEN), draw(HOSTS))
-
-
-def cheapest(service: Service, region: str) -> tuple[int, list[int]]:
-    """The least cost of a region, and the sites of that cost."""
-    costs = [(service.costs[region, service.sites[at].name], at) for at in service.sites_of(region)]
-    least = min(costs, default=(0, 0))[0]
-    return least, [at for cost, at in costs if cost == least]
-
-
-class Planned(NamedTuple):
-    """A demand, and how much of it a cheapest plan sends to each site."""
-
-    rows: list[Row]
-    uses: list[Use]
-
-    def text(self, service: Service) -> bytes:
-        """The certificate. No server or host is full, so their prices are 0; that of a row is its least cost."""
-        least = [cheapest(service, region)[0] for region, _, _ in self.rows]
-        servers = sum(len(site.servers) for site in service.sites)
-        cost = sum(use.number * least[use.row] for use in self.uses)
-        lines = [f"HSPLAN {2 if service.hosts else 1}", "PLAN", f"cost {cost}"]
-        lines += [f"use {use.row} {use.site} {use.number}" for use in self.uses]
-        lines += [f"row {at} {price}" for at, price in enumerate(least)]
-        lines += [f"server {at} 0" for at in range(servers)] + [f"host {at} 0" for at in range(service.hosts)]
-        return "".join(f"{line}\n" for line in [*lines, "END"]).encode()
-
-
-@st.composite
-def plans(draw: Draw, service: Service) -> Planned:
-    """Sends each row to the sites of least cost, in drawn parts."""
-    most, made = draw(MOST), Planned([], [])
-    for at, (region, handle) in enumerate(draw(NAMES)):
-        sites = cheapest(service, region)[1]
-        left = at_random(draw, most) if sites else 0
-        made.rows.append((region, handle, left))
-        for site in sites:
-            sent = left if site == sites[-1] else at_random(draw, left)
-            left -= sent
-            made.uses.extend([Use(at, site, sent)] if sent else [])
-    return made
 
 
 class Entry(NamedTuple):
@@ -296,23 +255,22 @@ REFUSED = {
     False: pick([(b"eu", "Fields"), (b"eu,10/1,", "Fields"), *REFUSED_HANDLES]),
     True: pick([(b"eu", "Fields"), (b"eu,00,", "Fields"), *REFUSED_BODIES]),
 }
-COUNT, END = pick([0, 1, 7, 900, GREATEST_COUNT, 10**12]), pick([b"\n", b"\n", b"\n", b"\r\n"])
+END = pick([b"\n", b"\n", b"\n", b"\r\n"])
 MARK, BLANK, ROWS = pick([b"", b"", b"", b"\xef\xbb\xbf"]), pick([0, 0, 1, 5]), st.integers(0, 30)
 
 
 @st.composite
 def logs(draw: Draw, command: str, rows: Sequence[Row] = ()) -> Log:
-    """Logs whose rows are accepted, or by `answer` refused; many of a demand's rows are asked for."""
+    """Logs of `places`, whose rows are accepted, or of `answer`; many of some rows are asked for."""
     has_regions = command != "places" or draw(BOOLEAN)
-    has_counts = command == "kinds" and draw(BOOLEAN)
     has_bodies = command == "answer" and not draw(OFTEN)
-    log = Log([], has_regions, has_counts, has_bodies, draw(END), draw(MARK), draw(BLANK), draw(OFTEN))
+    log = Log([], has_regions, False, has_bodies, draw(END), draw(MARK), draw(BLANK), draw(OFTEN))
     named = [(region, handle) for region, handle, _ in rows if not set(handle) & set("\r\n")]
     for _ in range(draw(ROWS)):
         if command == "answer" and draw(TEN) == 0:
             log.entries.append(Entry("", "", 1, *draw(REFUSED[has_bodies])))
             continue
         if not named or not draw(OFTEN):
-            named.append((draw(REGION), draw(ANY_HANDLE if command == "kinds" else HANDLE)))
-        log.entries.append(Entry(*named[at_random(draw, len(named) - 1)], draw(COUNT) if has_counts else 1))
+            named.append((draw(REGION), draw(HANDLE)))
+        log.entries.append(Entry(*named[at_random(draw, len(named) - 1)]))
     return log

@@ -124,7 +124,7 @@ def judge_lines(answer: Answer, is_of_fronts: bool) -> None:
     assert all(map(form.fullmatch, lines)), f"a line: {answer}"
     assert sum(line.startswith("assigned") for line in lines) <= 12, f"more than the plan: {answer}"
     if not is_of_fronts and not answer.status:
-        assert answer.reported.decode() == oracle.sums_of(lines).replace(" refused 0", ""), f"sums: {answer}"
+        assert answer.reported.decode() == oracle.sums_of(lines), f"sums: {answer}"
 
 
 def judge_log(name: str, program: Runner, text: bytes, where: Where) -> None:

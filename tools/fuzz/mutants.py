@@ -202,7 +202,7 @@ class Room:
     def __init__(self, room: str, many: int, seconds: int) -> None:
         self.seconds = seconds
         self.cases = {case.name: case for case in cases.cases_in("hsplan")}
-        self.streams = [case for case in cases.cases_in("hsplan-stream") if b"--plan" not in (case.words or b"")]
+        self.streams = list(cases.cases_in("hsplan-stream"))
         self.data = os.path.join(programs.TOP, "examples", "base")
         self.service = os.path.join(room, "service")
         os.mkdir(self.service)

@@ -33,10 +33,9 @@ OWN = {
 0 assigned # spent # unknown #
 """,
     "hsplan-stream": """
-1 BadUnit|BadFront|plan: TooLarge|log: (BadName|BadNumber|TooManyRegions|TooManyKinds) row #
-1 log: (CountTooLarge row # unit #|BadHandle row # @)
+1 BadFront|plan: TooLarge|log: (BadName|BadNumber|TooManyRegions) row #
+1 log: BadHandle row # @
 3 check: NoSuchServer
-0 assigned # spent # unknown # refused #
 0 assigned # diverted # full # unknown # refused #
 """,
 }

@@ -6,9 +6,9 @@
 One service has 64 regions, 32 sites, 1,024 servers, 1,024 hosts and 8,192 rows of 1,000,000 queries, nearly all of
 them with handles of 4,096 octets; names, identifiers and costs are the longest and greatest. Every command runs over
 it, with a plan that sends each row to all sites, and with a shortage of all rows. Logs have 1,000,000 answers of each
-kind, by a dispatcher and by 64 fronts, and end with a bad row of seven digits. hsplan-stream joins a log of 8,192
-kinds, and refuses one of a kind more. It checks the same plan and shortage by prices, and reports the plan. It checks a
-certificate of 1,048,576 classes, and refuses one of a class more.
+kind, by a dispatcher and by 64 fronts, and end with a bad row of seven digits. hsplan-stream
+checks the same plan and shortage by prices, and reports the plan. It checks a certificate of 1,048,576 classes, and
+refuses one of a class more.
 
 Then files of each length from 0 to 8,193, and of 65,535 to 65,537 octets, are read whole.
 
@@ -268,31 +268,7 @@ def log_cases(folder: str, log: Log, header: str, bad: str, more: list[str]) -> 
         yield Case(LOG + [name] + more, printed, reported, status)
 
 
-def kinds() -> list[str]:
-    """Rows of as many kinds as there may be and of one more, in all regions by turns. At each site the responsible
-    server goes by one of the three hash options."""
-    rows: list[str] = []
-    seen: set[tuple[int, ...]] = set()
-    number = 0
-    while len(rows) <= ROWS:
-        handle = f"{number}/x{number}"
-        kind = (number % REGIONS, *(place_of(option, handle) for option in range(3)))
-        if kind not in seen:
-            seen.add(kind)
-            rows.append(f"{name_of('r', number % REGIONS)},{handle}")
-        number += 1
-    return rows
-
-
 def stream_cases(folder: str) -> Iterator[Case]:
-    rows = kinds()
-    table = lines(["region,handle,count", *(f"{row},1" for row in rows[:-1])])
-    fault = f"hsplan-stream: log: TooManyKinds row {ROWS}\n"
-    for name, log, printed, reported, status in [("kinds", rows[:-1], table, "", 0), ("more", rows, b"", fault, 1)]:
-        with open(os.path.join(folder, name), "wb") as file:
-            file.write(lines(["region,handle", *log]))
-        words = ["kinds", "--settings", "settings.toml", "--costs", "costs.csv", "--log", name]
-        yield Case(words, printed, reported, status)
     by = ["--settings", "settings.toml", "--costs", "costs.csv", "--log", "demand.csv", "--capacity"]
     check, report = ["check", *by], ["report", *by]
     plan, short = ["capacity.csv", "--prices", "plan.prices"], ["little.csv", "--prices", "short.prices"]

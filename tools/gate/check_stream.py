@@ -7,7 +7,7 @@ What has to be printed is computed by tools/lib/oracle.py. The worked cases stan
 tools/gate/check_program.py runs them. Here are tried:
 
 - the options that the help names;
-- random logs: the table of kinds with and without units, places, and answers by a plan, by each front and in units;
+- places of the handles of random logs;
 - answers to random logs by certificates by prices, by each front, also to logs that ask for more than there is room;
 - certificates by prices of random logs, made of plans and shortages of their kinds, and with a number changed; their
   reports, which are those of `hsplan report` of the table of the kinds; and those that `plan` prints, at the cost of
@@ -17,12 +17,10 @@ tools/gate/check_program.py runs them. Here are tried:
 - plans of logs whose handles are the whole table of kinds of a service that has 100,000 of them, and of rows that all
   tie, in a certificate and in one whose text would be too large;
 - the line that shows how far a plan is, which only a terminal gets;
-- a log in parts, whose tables are joined;
-- examples/twelve-sites, planned by rows and by kinds, at the same cost;
+- examples/twelve-sites, planned as a table and by prices, at the same cost;
 - a co-process over pipes: each row is answered within a second, before the next one is written;
-- a log of a million handles: its table, its plan, `check` and `report` of its certificate by prices, and `answer` over
-  the same log, line by line as `hsplan dispatch` answers the log with each handle replaced by its row's; none of its
-  runs takes more than 64 MB;
+- a log of a million handles: its plan, `check` and `report` of that, and `answer` over the same log, by which each row
+  is assigned; none of its runs takes more than 64 MB;
 - each open, read and write of some runs failing in turn.
 """
 from __future__ import annotations
@@ -51,17 +49,16 @@ from lib.price_verdicts import Bounds
 
 FILES = "--settings settings.toml --costs costs.csv"
 INPUTS = oracle.INPUTS
-ANSWER = f"answer {INPUTS} --plan plan.txt --log /dev/stdin"
 PLAN = f"plan {FILES} --capacity capacity.csv --log /dev/stdin"
 BY_PRICES = f"{FILES} --capacity capacity.csv --log /dev/stdin --prices plan.prices"
 CHECK = f"check {BY_PRICES}"
-ANSWER_BY_PRICES = f"answer {BY_PRICES}"
+ANSWER = f"answer {BY_PRICES}"
 KINDS_OF_REPORTS = ("load", "region")
 REPORTS = [f"report {BY_PRICES} --kind {kind}" for kind in KINDS_OF_REPORTS]
 LIMIT_KB = 64 * 1024
-HELP_BEGINS = "hsplan-stream: tables, places, plans, answers, checks and reports of logs\n"
+HELP_BEGINS = "hsplan-stream: places, plans, answers, checks and reports of logs\n"
 
-COMMANDS = ("kinds", "places", "plan", "answer", "check", "report", "interfaces", "faults")
+COMMANDS = ("places", "plan", "answer", "check", "report", "interfaces", "faults")
 
 Ended = tuple[bytes, bytes, int]
 
@@ -84,18 +81,17 @@ class Programs:
         )
         return ended.stdout, ended.stderr, ended.returncode
 
-    def plan(self, folder: str = "", demand: str = "demand.csv") -> bytes:
+    def plan(self) -> bytes:
         """The text of a plan by hsplan, also kept as plan.txt."""
-        words = ["plan", *INPUTS.replace("demand.csv", demand).split()]
-        text = subprocess.run([self.hsplan, *words], cwd=folder or self.folder, stdout=subprocess.PIPE).stdout
-        with open(os.path.join(folder or self.folder, "plan.txt"), "wb") as file:
-            file.write(text)
+        words = ["plan", *INPUTS.split()]
+        text = subprocess.run([self.hsplan, *words], cwd=self.folder, stdout=subprocess.PIPE).stdout
+        self.put("plan.txt", text)
         return text
 
-    def report(self, kind: str, folder: str = "") -> bytes:
+    def report(self, kind: str) -> bytes:
         """What hsplan reports by plan.txt."""
         words = ["report", *INPUTS.split(), "--plan", "plan.txt", "--kind", kind]
-        return subprocess.run([self.hsplan, *words], cwd=folder or self.folder, stdout=subprocess.PIPE).stdout
+        return subprocess.run([self.hsplan, *words], cwd=self.folder, stdout=subprocess.PIPE).stdout
 
     def plan_by_prices(self, table: bytes) -> None:
         """Keeps a plan of the table of demand as plan.txt, and its certificate by prices as plan.prices."""
@@ -117,13 +113,12 @@ def fault(what: str, got: object, wanted: object) -> list[str]:
 # ---- words
 
 PLACES = "places --settings settings.toml --log /dev/stdin"
-KINDS = f"kinds {FILES} --log /dev/stdin"
 
 
 def check_help(it: Programs) -> list[str]:
     """The help is the same however it is asked for, and names the options that the manual page names."""
     found = []
-    for words in ("--help", "kinds --help"):
+    for words in ("--help", "places --help"):
         out, line, status = it.run(words)
         found += fault(words, (out.decode().startswith(HELP_BEGINS), line, status), (True, b"", 0))
         found += fault(f"the options of {words}", options_in_help(out.decode()), options_in_manual())
@@ -159,25 +154,6 @@ def log_of(header: str, rows: Iterable[Iterable[object]]) -> bytes:
     return oracle.csv_of(header, rows)
 
 
-def check_kinds(it: Programs, draw: random.Random) -> list[str]:
-    """The table of random logs, whole, in units, and in parts."""
-    rows = [(*entry, draw.choice((0, 1, 7, 900))) for entry in oracle.entries(draw, 3_000)]
-    header = "region,handle,count"
-    found = []
-    for unit in (1, 7, 1_000_000):
-        wanted = log_of(header, oracle.THREE.table(rows, unit))
-        found += fault(
-            f"kinds in units of {unit}", it.run(f"{KINDS} --unit {unit}", log_of(header, rows)), (wanted, b"", 0)
-        )
-    ones = [(region, handle, 1) for region, handle, _ in rows]
-    wanted = log_of(header, oracle.THREE.table(ones))
-    log = log_of("region,handle", [row[:2] for row in rows])
-    found += fault("kinds of rows that count 1", it.run(KINDS, log), (wanted, b"", 0))
-    parts = [it.run(KINDS, log_of(header, rows[at : at + 700]))[0] for at in range(0, len(rows), 700)]
-    joined = parts[0] + b"".join(part.split(b"\n", 1)[1] for part in parts[1:])
-    return found + fault("kinds in parts", it.run(KINDS, joined), it.run(KINDS, log_of(header, rows)))
-
-
 def check_places(it: Programs, draw: random.Random) -> list[str]:
     rows = [entry for entry in oracle.entries(draw, 500) if "\r" not in entry[1]]
     wanted = log_of(
@@ -187,24 +163,6 @@ def check_places(it: Programs, draw: random.Random) -> list[str]:
     return found + fault(
         "places of handles", it.run(PLACES, log_of("handle", ([it] for _, it in rows))), (wanted, b"", 0)
     )
-
-
-def check_answers(it: Programs, draw: random.Random) -> list[str]:
-    """Answers to a random log by a plan, in units, and by each front, as the definition gives them."""
-    demand = oracle.THREE.table((*entry, draw.choice((0, 3, 40))) for entry in oracle.entries(draw, 60, 12))
-    oracle.put_files(it.folder, oracle.THREE.files(demand, 200))
-    uses = oracle.uses_of(it.plan())
-    found = fault("a plan of random rows", bool(uses), True)
-    rows = [entry for entry in oracle.entries(draw, 4_000) if "\r" not in entry[1]] + [("mars", "10/1")]
-    log = log_of("region,handle", rows)
-    for unit, fronts, front in ((1, 1, 0), (9, 1, 0), (1, 3, 0), (1, 3, 2), (5, 4, 1)):
-        words = f"{ANSWER} --unit {unit} --fronts {fronts} --front {front}"
-        share = oracle.Dispatcher.share(uses, fronts, front)
-        dispatcher = oracle.Dispatcher(oracle.THREE, demand, share, unit)
-        wanted = [dispatcher.answer(*row) for row in rows]
-        printed = "".join(f"{line}\n" for line in wanted).encode()
-        found += fault(words, it.run(words, log), (printed, oracle.sums_of(wanted).encode(), 0))
-    return found
 
 
 def check_prices(it: Programs, draw: random.Random) -> list[str]:
@@ -374,7 +332,7 @@ def check_price_answers(it: Programs, draw: random.Random) -> list[str]:
         draw.shuffle(asked)
         given: list[str] = []
         for front in range(fronts):
-            words = f"{ANSWER_BY_PRICES} --fronts {fronts} --front {front}"
+            words = f"{ANSWER} --fronts {fronts} --front {front}"
             own = price_answers.Front(plan, fronts, front)
             log = [row for row in asked[front::fronts] if "\r" not in row[1]]
             wanted = [own.answer(*row) for row in log]
@@ -414,15 +372,13 @@ def with_one_more(text: bytes, word: str) -> bytes:
 
 
 def check_twelve(it: Programs) -> list[str]:
-    """The plan of examples/twelve-sites costs the same by rows and by kinds."""
+    """The plan of examples/twelve-sites costs the same as a table and by prices."""
     with tempfile.TemporaryDirectory() as folder:
         examples.write(folder, examples.twelve_sites())
         here = Programs(it.stream, it.hsplan, folder)
-        table, _, status = here.run(f"kinds {FILES} --log demand.csv")
-        here.put("kinds.csv", table)
-        costs = [here.plan(folder, name).splitlines()[2] for name in ("demand.csv", "kinds.csv")]
-    rows = table.count(b"\n") - 1
-    return fault("twelve sites by rows and by kinds", (status, costs, rows), (0, [b"cost 17838403"] * 2, 3428))
+        text, _, status = here.run(PLAN.replace("/dev/stdin", "demand.csv"))
+        costs = [own.splitlines()[2] for own in (here.plan(), text)]
+    return fault("twelve sites as a table and by prices", (status, costs), (0, [b"cost 17838403"] * 2))
 
 
 # ---- a co-process
@@ -475,65 +431,56 @@ def measured(words: list[str], folder: str, given: str, out: str) -> tuple[int, 
     return os.waitstatus_to_exitcode(status), used.ru_maxrss, used.ru_utime + used.ru_stime
 
 
-def replaced(table: bytes, log: str, to: str) -> None:
-    """Writes a log whose handles are replaced by those of their rows in the table."""
-    rows = list(csv.reader(io.StringIO(table.decode())))[1:]
-    named = {oracle.THREE.kind(region, handle): handle for region, handle, _ in rows}
-    with open(log, encoding="utf-8") as lines, open(to, "w", encoding="utf-8") as out:
-        out.write(next(lines))
-        for line in lines:
-            region, handle = line.rstrip("\n").split(",")
-            out.write(f"{region},{named[oracle.THREE.kind(region, handle)]}\n")
+def table_in(log: str) -> bytes:
+    """The table of the kinds of a log whose rows are for one query each."""
+    with open(log, encoding="utf-8") as lines:
+        next(lines)
+        rows = (line.rstrip("\n").split(",") for line in lines)
+        return log_of("region,handle,count", oracle.THREE.table((region, handle, 1) for region, handle in rows))
 
 
 def check_million(it: Programs, number: int) -> list[str]:
     with tempfile.TemporaryDirectory() as folder:
-        names = ("log.csv", "demand.csv", "answers", "named.csv", "dispatched", "verdict")
-        path = [os.path.join(folder, it) for it in names]
+        log, answers, verdict = (os.path.join(folder, it) for it in ("log.csv", "answers", "verdict"))
         oracle.put_files(folder, oracle.THREE.files())
-        with open(path[0], "wb") as log:
-            log.writelines(oracle.many_rows(number))
-        status, memory, seconds = measured([it.stream, *KINDS.split()], folder, path[0], path[1])
-        found = fault("kinds of a million handles", (status, memory < LIMIT_KB), (0, True))
-        with open(path[1], "rb") as file:
-            table = file.read()
-        Programs(it.stream, it.hsplan, folder).plan_by_prices(table)
-        planned = measured([it.stream, *PLAN.split()], folder, path[0], os.path.join(folder, "plan.prices"))
-        found += fault("plan of a million handles", (planned[0], planned[1] < LIMIT_KB), (0, True))
-        checked = measured([it.stream, *CHECK.split()], folder, path[0], path[5])
+        with open(log, "wb") as file:
+            file.writelines(oracle.many_rows(number))
+        planned = measured([it.stream, *PLAN.split()], folder, log, os.path.join(folder, "plan.prices"))
+        found = fault("plan of a million handles", (planned[0], planned[1] < LIMIT_KB), (0, True))
+        checked = measured([it.stream, *CHECK.split()], folder, log, verdict)
         found += fault("check of a million handles", (checked[0], checked[1] < LIMIT_KB), (0, True))
-        for asked, kind in zip(REPORTS, KINDS_OF_REPORTS):
-            shown = measured([it.stream, *asked.split()], folder, path[0], path[5])
-            found += fault(f"report of {kind} of a million handles", (shown[0], shown[1] < LIMIT_KB), (0, True))
-            with open(path[5], "rb") as file:
-                found += fault(f"report of {kind} of a million handles", file.read(), it.report(kind, folder))
-        replaced(table, path[0], path[3])
-        reported = measured([it.stream, *ANSWER.split()], folder, path[0], path[2])
+        reported = measured([it.stream, *ANSWER.split()], folder, log, answers)
         found += fault("answers to a million handles", (reported[0], reported[1] < LIMIT_KB), (0, True))
-        words = ["dispatch", *INPUTS.split(), "--plan", "plan.txt", "--log", "/dev/stdin"]
-        found += fault("dispatch", measured([it.hsplan, *words], folder, path[3], path[4])[0], 0)
-        texts = [open(path[at], "rb").read().splitlines() for at in (2, 4)]
-    found += fault("every row is assigned", sum(line.startswith(b"assigned ") for line in texts[0]), number)
-    # The place is that of the handle itself; a row's handle has the same.
-    found += [] if texts[0] == texts[1] else ["the answers are not those of dispatch to the replaced log"]
+        with open(answers, "rb") as file:
+            lines = file.read().splitlines()
+        found += fault("every row is assigned", sum(line.startswith(b"assigned ") for line in lines), number)
+        shown = [
+            measured([it.stream, *asked.split()], folder, log, f"{verdict}.{at}") for at, asked in enumerate(REPORTS)
+        ]
+        # The memory of a run counts that of this process before it, and this takes much.
+        here = Programs(it.stream, it.hsplan, folder)
+        here.put("demand.csv", table_in(log))
+        here.plan()
+        for at, (ended, kind) in enumerate(zip(shown, KINDS_OF_REPORTS)):
+            found += fault(f"report of {kind} of a million handles", (ended[0], ended[1] < LIMIT_KB), (0, True))
+            with open(f"{verdict}.{at}", "rb") as file:
+                found += fault(f"report of {kind} of a million handles", file.read(), here.report(kind))
     speeds = ", ".join(
         f"{name} {number / taken:,.0f}"
-        for name, taken in (("kinds", seconds), ("plan", planned[2]), ("check", checked[2]), ("answer", reported[2]))
+        for name, taken in (("plan", planned[2]), ("check", checked[2]), ("answer", reported[2]))
     )
-    kinds, most = len(table.splitlines()) - 1, max(memory, planned[1], checked[1], reported[1])
-    print(f"{number:,} handles, {kinds} kinds: {speeds} rows a second of a processor, {most:,} kB at most")
+    most = max(planned[1], checked[1], reported[1])
+    print(f"{number:,} handles: {speeds} rows a second of a processor, {most:,} kB at most")
     return found
 
 
 # ---- failing calls
 
 FAILING = [
-    (f"kinds {FILES} --unit 2 --log log.csv", b""),
     ("places --settings settings.toml --log log.csv", b""),
-    (f"{ANSWER.replace('/dev/stdin', 'log.csv')} --unit 2", b""),
     (PLAN.replace("/dev/stdin", "log.csv"), b""),
     (CHECK.replace("/dev/stdin", "log.csv"), b""),
-    (ANSWER_BY_PRICES.replace("/dev/stdin", "log.csv"), b""),
+    (ANSWER.replace("/dev/stdin", "log.csv"), b""),
     (REPORTS[0].replace("/dev/stdin", "demand.csv"), b""),
     (REPORTS[1].replace("/dev/stdin", "demand.csv"), b""),
     ("faults --demand log.csv", b""),
@@ -588,11 +535,11 @@ def check_all(it: Programs, million: int, room: str) -> list[str]:
     oracle.put_cases(it.folder)
     with open(os.path.join(it.folder, "demand.csv"), "rb") as file:
         it.plan_by_prices(file.read())
-    found += check_help(it) + check_kinds(it, draw) + check_places(it, draw) + check_talk(it)
+    found += check_help(it) + check_places(it, draw) + check_talk(it)
     faults, tried = check_failing(it, room)
     found += faults + ([] if tried else ["failing calls: nothing was tried"])
     print(f"failing calls: {tried} runs")
-    found += check_answers(it, draw) + check_prices(it, draw) + check_price_answers(it, draw)
+    found += check_prices(it, draw) + check_price_answers(it, draw)
     found += check_many_rows(it, draw) + check_whole_table(it, draw) + check_ties(it)
     return found + check_progress(it) + check_twelve(it)
 

@@ -13,7 +13,6 @@ CRATES = Path(programs.TOP) / "crates"
 LIMITS = [
     "hsp_text/src/limits.rt",
     "hsp_talk/src/limits.rt",
-    "hsp_dispatch/src/portion.rt",
     "hsp_stream/src/kinds_log.rt",
     "hsp_price_text/src/ranges.rt",
 ]
@@ -21,7 +20,6 @@ LIMITS = [
 LOGS = {
     "dispatch": "hsp_dispatch/src/form.rt fn form_of",
     "fronts": "hsp_dispatch/src/form.rt fn event_form_of",
-    "kinds": "hsp_stream/src/kinds_log.rt fn form_of",
     "places": "hsp_stream/src/handle_rows.rt fn form_of",
     "answer": "hsp_stream/src/asking.rt fn form_of",
     "check": "hsp_stream/src/kinds_log.rt fn form_of",

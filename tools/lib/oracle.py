@@ -86,8 +86,8 @@ class Service(NamedTuple):
     def kind(self, region: str, handle: str) -> Kind:
         return region, tuple(self.sites[at].place(handle) for at in self.sites_of(region))
 
-    def sums(self, rows: Iterable[Row]) -> list[Row]:
-        """The kinds of rows: the name of the first row of each, and the sum of the counts."""
+    def table(self, rows: Iterable[Row]) -> list[Row]:
+        """The table of the kinds of rows: the name of the first row of each, and the sum of the counts."""
         named: dict[Kind, tuple[str, str]] = {}
         sums: dict[Kind, int] = {}
         for region, handle, count in rows:
@@ -95,10 +95,6 @@ class Service(NamedTuple):
             named.setdefault(kind, (region, handle))
             sums[kind] = sums.get(kind, 0) + count
         return [(*named[kind], number) for kind, number in sums.items()]
-
-    def table(self, rows: Iterable[Row], unit: int = 1) -> list[Row]:
-        """The table of the kinds of rows, in units."""
-        return [(region, handle, -(-number // unit)) for region, handle, number in self.sums(rows)]
 
     def places(self, handle: str) -> Iterator[tuple[str, str, int, int]]:
         """The lines of a handle's places."""
@@ -135,45 +131,10 @@ def uses_of(plan: bytes) -> list[Use]:
     return [Use(*map(int, words[1:])) for words in lines if words[:1] == ["use"]]
 
 
-class Dispatcher:
-    """Answers entries by the share that a front has in a plan, each query of which stands for `unit` answers."""
-
-    def __init__(self, service: Service, rows: list[Row], uses: Iterable[Use], unit: int = 1) -> None:
-        self.service = service
-        self.rows = {(region, handle): at for at, (region, handle, _) in reversed(list(enumerate(rows)))}
-        self.kinds: dict[Kind, int] = {}
-        for at, (region, handle, _) in enumerate(rows):
-            self.kinds.setdefault(service.kind(region, handle), at)
-        self.left: list[list[list[int]]] = [[] for _ in rows]
-        for row, site, number in uses:
-            self.left[row].append([site, unit * number])
-
-    @staticmethod
-    def share(uses: Iterable[Use], fronts: int, front: int) -> list[Use]:
-        """What a front has of a plan's uses."""
-        return [use._replace(number=use.number // fronts + (front < use.number % fronts)) for use in uses]
-
-    def row_of(self, region: str, handle: str) -> int | None:
-        own = self.rows.get((region, handle))
-        return self.kinds.get(self.service.kind(region, handle)) if own is None else own
-
-    def answer(self, region: str, handle: str) -> str:
-        row = self.row_of(region, handle)
-        if row is None:
-            return "unknown"
-        for cell in self.left[row]:
-            if cell[1]:
-                cell[1] -= 1
-                site = self.service.sites[cell[0]]
-                place = site.place(handle)
-                return f"assigned {site.name} {place} {site.servers[place]}"
-        return "spent"
-
-
 def sums_of(answers: Iterable[str]) -> str:
-    """The line of the sums of answers."""
+    """The line of the sums of the answers of `hsplan dispatch`."""
     first = [answer.split()[0] for answer in answers]
-    return " ".join(f"{word} {first.count(word)}" for word in ("assigned", "spent", "unknown", "refused")) + "\n"
+    return " ".join(f"{word} {first.count(word)}" for word in ("assigned", "spent", "unknown")) + "\n"
 
 
 # ---- the service of three sites that the cases and the checks share
@@ -196,11 +157,9 @@ def put_cases(folder: str) -> None:
     first = THREE.sites[0]
     more = {
         "log.csv": csv_of("region,handle", (row[:2] for row in demand)),
-        "unknown.csv": b"region,site,cost\neu,delta,1\n",
         "indexed.toml": f'[[site]]\nname = "{first.name}"\nindex = 1\n'.encode(),
         "values": (1).to_bytes(4, "big") + first.value(1),
         "cut.txt": b"HSPLAN 1\n",
-        "short.txt": b"HSPLAN 1\nSHORTAGE\ndemand 1\ncapacity 0\nrow 0\nEND\n",
     }
     put_files(folder, {**THREE.files(demand), **more})
 

@@ -1,17 +1,13 @@
 #!/usr/bin/env python3
-"""Measures a day of examples/twelve-sites that is answered hour by hour by the plan of the hour before, in three ways.
+"""Measures a day of examples/twelve-sites that is answered hour by hour by the plan of the hour before.
 
     tools/measure/day.py [--seed N] [--hours N] [--fronts 1,4,64] [--program FILE] [--hsplan FILE] [--model]
 
 A row's count is that of the example times a curve of its region's local time (0.35 in the night, 1 at 15 h), times a
 log-normal factor of mean 1 for each row and hour. All counts are scaled: before the factors are drawn, the busiest
 hour asks for the part PEAK of what the example asks for. The queries of an hour come in random order, and fronts take
-them in turn. Each hour is answered in these ways:
-
-- plan: `answer --plan`, and who is answered `spent` gets no server;
-- cheapest: the same, and who is answered `spent` asks the cheapest site of its region;
-- prices: `answer --prices`. The certificate is made of the same plan, and `check --prices` has to say yes to it for
-  the demand of the hour before. With --model the answers are those of tools/lib/price_answers.py.
+them in turn. Each hour is answered by `answer`. The certificate is made of a plan of the hour before, and `check` has to
+say yes to it for that hour's demand. With --model the answers are those of tools/lib/price_answers.py.
 
 A line of the table has the sums of the day. The fullest server is that of the worst hour. Queries above capacity are
 added up over servers and hours. Costs are those of a query that has a server, beside those of a query by the best plan
@@ -38,12 +34,11 @@ from lib.price_verdicts import Bounds
 
 SPREAD, PEAK, NIGHT, NOON = 0.3, 1.0, 0.35, 15
 INPUTS = "--settings settings.toml --costs costs.csv --capacity capacity.csv"
-WAYS = ("plan", "cheapest", "prices")
 HEAD = (
-    "| Fronts | Way | Assigned | `spent`, or diverted | `full` | Fullest server | Queries above capacity | Cost |\n"
-    "|---|---|---|---|---|---|---|---|"
+    "| Fronts | Assigned | Diverted | `full` | Fullest server | Queries above capacity | Cost |\n"
+    "|---|---|---|---|---|---|---|"
 )
-# Answers a log of these lines by the plan or the prices of the folder, as one of so many fronts.
+# Answers a log of these lines by the prices of the folder, as one of so many fronts.
 Answering = Callable[[Sequence[str], int, int], list[str]]
 # A server by its site and its identifier.
 Server = tuple[str, str]
@@ -76,11 +71,6 @@ class Scene:
     def capacity(self) -> dict[Server, int]:
         servers = [(site.name, str(own)) for site in self.service.sites for own in site.servers]
         return dict(zip(servers, self.bounds.capacities))
-
-    def cheapest(self, region: str, handle: str) -> Server:
-        """The responsible server at the cheapest site of a region."""
-        site = min(self.service.sites, key=lambda site: self.service.costs[region, site.name])
-        return site.name, str(site.servers[site.place(handle)])
 
 
 def rows_of(table: bytes) -> list[list[str]]:
@@ -136,10 +126,9 @@ def queries_of(rows: Iterable[oracle.Row], draw: random.Random, times: int = 1) 
 
 @dataclass
 class Hour:
-    """An hour's demand with its plan, the certificate by prices of the plan, and what the plan costs."""
+    """An hour's demand, the certificate by prices of its plan, and what the plan costs."""
 
     rows: list[oracle.Row]
-    plan: str
     prices: bytes
     cost: int
 
@@ -160,16 +149,17 @@ def planned(scene: Scene, rows: list[oracle.Row]) -> Hour:
     verdict = scene.run(scene.stream, f"check {INPUTS} --log demand.csv --prices plan.prices")
     if verdict != "yes\n":
         sys.exit(f"{verdict} to a certificate by prices that was made of a plan")
-    return Hour(rows, plan, text, prices.numbers_of(plan.encode(), "cost")[0][0])
+    return Hour(rows, text, prices.numbers_of(plan.encode(), "cost")[0][0])
 
 
-def by_program(scene: Scene, words: str) -> Answering:
+def by_program(scene: Scene) -> Answering:
     """Answers of the program."""
 
     def answering(lines: Sequence[str], fronts: int, front: int) -> list[str]:
         log = "\n".join(["region,handle", *lines, ""]).encode()
         more = f" --fronts {fronts} --front {front}" if fronts > 1 else ""
-        return scene.run(scene.stream, f"answer {INPUTS} {words} --log /dev/stdin{more}", log).splitlines()
+        words = f"answer {INPUTS} --prices plan.prices --log /dev/stdin{more}"
+        return scene.run(scene.stream, words, log).splitlines()
 
     return answering
 
@@ -205,28 +195,26 @@ class Sums:
     cost: int = 0
 
     def served(self) -> int:
-        return self.words["assigned"] + self.words["diverted"] + self.words["sent"]
+        return self.words["assigned"] + self.words["diverted"]
 
     def add_loads(self, loads: Counter[Server], capacity: dict[Server, int]) -> None:
         """Adds an hour's loads of the servers."""
         self.fullest = max(self.fullest, *(100 * load / capacity[it] for it, load in loads.items()))
         self.above += sum(max(0, load - capacity[it]) for it, load in loads.items())
 
-    def part(self, *words: str) -> str:
-        """How many answers have one of these words, and what part of all that is."""
-        number = sum(self.words[it] for it in words)
-        every = sum(self.words[it] for it in ("assigned", "spent", "diverted", "full", "unknown", "refused"))
-        return f"{number:,} ({100 * number / every:.1f}%)"
+    def part(self, word: str) -> str:
+        """How many answers have this word, and what part of all that is."""
+        return f"{self.words[word]:,} ({100 * self.words[word] / self.words.total():.1f}%)"
 
-    def line(self, fronts: int, way: str, best: float) -> str:
+    def line(self, fronts: int, best: float) -> str:
         cost = self.cost / self.served()
         return (
-            f"| {fronts} | {way} | {self.part('assigned')} | {self.part('spent', 'diverted')} | {self.part('full')} "
+            f"| {fronts} | {self.part('assigned')} | {self.part('diverted')} | {self.part('full')} "
             f"| {self.fullest:.1f}% | {self.above:,} | {100 * (cost / best - 1):+.1f}% |"
         )
 
 
-Day = dict[tuple[int, str], Sums]
+Day = dict[int, Sums]
 
 
 def answers_in_turn(answering: Answering, lines: Sequence[str], fronts: int) -> Counter[tuple[str, str]]:
@@ -240,45 +228,33 @@ def answers_in_turn(answering: Answering, lines: Sequence[str], fronts: int) -> 
     return found
 
 
-def count(scene: Scene, found: Counter[tuple[str, str]], sums: Sums, sends_spent: bool = False) -> None:
-    """Adds an hour's answers. Those that are spent may be sent to the cheapest site."""
+def count(scene: Scene, found: Counter[tuple[str, str]], sums: Sums) -> None:
+    """Adds an hour's answers."""
     loads: Counter[Server] = Counter()
     for (line, answer), number in found.items():
-        region, handle = line.split(",")
         word, *rest = answer.split()
         sums.words[word] += number
-        if word == "spent" and sends_spent:
-            server = scene.cheapest(region, handle)
-            sums.words["sent"] += number
-        elif rest:
-            server = (rest[0], rest[2])
-        else:
-            continue
-        loads[server] += number
-        sums.cost += number * scene.service.costs[region, server[0]]
+        if word in ("assigned", "diverted"):
+            loads[rest[0], rest[2]] += number
+            sums.cost += number * scene.service.costs[line.split(",")[0], rest[0]]
     sums.add_loads(loads, scene.capacity())
 
 
-def answer_hour(scene: Scene, lines: Sequence[str], answering: dict[str, Answering], day: Day) -> None:
-    """Answers an hour's queries in all ways, by each number of fronts."""
-    for fronts in dict.fromkeys(fronts for fronts, _ in day):
-        spent = answers_in_turn(answering["plan"], lines, fronts)
-        count(scene, spent, day[fronts, "plan"])
-        count(scene, spent, day[fronts, "cheapest"], True)
-        count(scene, answers_in_turn(answering["prices"], lines, fronts), day[fronts, "prices"])
+def answer_hour(scene: Scene, lines: Sequence[str], answering: Answering, day: Day) -> None:
+    """Answers an hour's queries by each number of fronts."""
+    for fronts, sums in day.items():
+        count(scene, answers_in_turn(answering, lines, fronts), sums)
 
 
-def answering_by(scene: Scene, hour: Hour, is_model: bool) -> dict[str, Answering]:
-    """How an hour's plan is answered by, in each way. The files of the plan are put into the folder."""
-    files = {"demand.csv": table_of(hour.rows), "plan.txt": hour.plan.encode(), "plan.prices": hour.prices}
-    oracle.put_files(scene.folder, files)
-    given = by_model(scene, hour.prices) if is_model else by_program(scene, "--prices plan.prices")
-    return {"plan": by_program(scene, "--demand demand.csv --plan plan.txt"), "prices": given}
+def answering_by(scene: Scene, hour: Hour, is_model: bool) -> Answering:
+    """What answers by an hour's plan. Its certificate is put into the folder."""
+    scene.put("plan.prices", hour.prices)
+    return by_model(scene, hour.prices) if is_model else by_program(scene)
 
 
 def ask_too_much(scene: Scene, given: argparse.Namespace, hour: Hour, draw: random.Random) -> bool:
     """Asks for three times a plan. Prints what becomes of it, and returns whether no server gets too much."""
-    answering, is_kept = answering_by(scene, hour, given.model)["prices"], True
+    answering, is_kept = answering_by(scene, hour, given.model), True
     lines = queries_of(hour.rows, draw, 3)
     for fronts in given.fronts:
         sums = Sums()
@@ -308,13 +284,13 @@ def answer_day(scene: Scene, given: argparse.Namespace, draw: random.Random, day
 def measure(scene: Scene, given: argparse.Namespace) -> bool:
     """Prints the table of the day, and what three times a plan comes to. Returns whether prices keep to capacities."""
     draw = random.Random(given.seed)
-    day: Day = {(fronts, way): Sums() for fronts in given.fronts for way in WAYS}
+    day: Day = {fronts: Sums() for fronts in given.fronts}
     hours = answer_day(scene, given, draw, day)
     queries = sum(hour.queries() for hour in hours)
     best = sum(hour.cost for hour in hours) / queries
     print(f"{len(hours)} hours, {queries:,} queries, {best:.2f} a query by the best plan of each hour\n\n{HEAD}")
-    print("\n".join(sums.line(fronts, way, best) for (fronts, way), sums in day.items()) + "\n")
-    is_kept = not any(sums.above for (_, way), sums in day.items() if way == "prices")
+    print("\n".join(sums.line(fronts, best) for fronts, sums in day.items()) + "\n")
+    is_kept = not any(sums.above for sums in day.values())
     return ask_too_much(scene, given, max(hours, key=Hour.queries), draw) and is_kept
 
 

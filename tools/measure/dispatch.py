@@ -2,7 +2,7 @@
 """Measures how many rows of a log the built program answers in a second, over an instance at the limits, and peers by
 turns with it.
 
-    tools/measure/dispatch.py [--rows N] [--turns N] [--times N] [--program FILE] [--stream FILE]
+    tools/measure/dispatch.py [--rows N] [--turns N] [--times N] [--program FILE]
 
 It measures without fronts and with 64 fronts, by turns. By default the log has 10,000,000 rows, and there are 7
 turns.
@@ -12,9 +12,9 @@ many (`--times N`). A log draws its rows at random by their counts, and with fro
 of it is assigned.
 
 The peers are tools/measure/dispatch_peer, in Rust over the crates csv and indexmap, where cargo and these crates of
-Debian are there (librust-csv-dev, librust-indexmap-dev). They are given the answers of each row, which hsplan-stream
-gives. Their answers to the log have to be those of hsplan, octet for octet. The log with fronts is also given to the
-fast peer, which passes over the front, and shares nothing out.
+Debian are there (librust-csv-dev, librust-indexmap-dev). They are given the answers of each row, which hsplan gives for
+the rows in their order. Their answers to the log have to be those of hsplan, octet for octet. The log with fronts is
+also given to the fast peer, which passes over the front, and shares nothing out.
 
 Factors are printed by the fastest runs, and by the median of the turns. On a busy machine these differ.
 
@@ -75,14 +75,14 @@ def peer_in(folder: str) -> str | None:
     return os.path.join(source, "target", "release", "dispatch_peer") if built.returncode == 0 else None
 
 
-def table_for(folder: str, stream: str, instance: instances.Instance, plan: str) -> str:
-    """The answers of each row in their order, as hsplan-stream gives them: each as a number and a line."""
+def table_for(folder: str, program: str, instance: instances.Instance, plan: str) -> str:
+    """The answers of each row in their order, as hsplan gives them: each as a number and a line."""
     rows, counts, files = instance
     asked = os.path.join(folder, "all.csv")
     with open(asked, "w") as file:
         file.write("region,handle\n")
         file.writelines((row + "\n") * count for row, count in zip(rows, counts))
-    words = [stream, "answer", *files, "--plan", plan, "--log", asked]
+    words = [program, "dispatch", *files, "--plan", plan, "--log", asked]
     with subprocess.Popen(words, stdout=subprocess.PIPE, stderr=subprocess.DEVNULL, text=True) as run:
         assert run.stdout
         lines = []
@@ -160,7 +160,7 @@ def ways_of(chosen: argparse.Namespace, peer: str | None, folder: str, draw: ran
         (f"{FRONTS} fronts", events + [no_events], events + [all_events]),
     ]
     if peer:
-        table = table_for(folder, chosen.stream, (rows, counts, files), plan)
+        table = table_for(folder, chosen.program, (rows, counts, files), plan)
         ways += [
             ("peer, plain", [peer, "plain", table, empty], [peer, "plain", table, full]),
             (FAST_PEER, [peer, "fast", table, empty], [peer, "fast", table, full]),
@@ -175,12 +175,11 @@ def main() -> int:
     arguments.add_argument("--turns", type=int, default=7)
     arguments.add_argument("--times", type=int, default=1)
     arguments.add_argument("--program", default=programs.tested("hsplan"))
-    arguments.add_argument("--stream", default=programs.tested("hsplan-stream"))
     chosen = arguments.parse_args()
     if programs.is_absent(chosen.program):
         return 1
     with tempfile.TemporaryDirectory() as folder:
-        peer = peer_in(folder) if os.access(chosen.stream, os.X_OK) else None
+        peer = peer_in(folder)
         if hasattr(os, "sched_setaffinity"):
             os.sched_setaffinity(0, {max(os.sched_getaffinity(0))})
         ways = ways_of(chosen, peer, folder, random.Random(1))

@@ -4,7 +4,7 @@ gets, as planned and where demand is other than planned.
 
     tools/measure/force.py [--seed N]
 
-The queries of the demand come in random order. `hsplan-stream answer` answers each. A query that is answered `spent` is
+The queries of the demand come in random order. `hsplan dispatch` answers each. A query that is answered `spent` is
 counted for the cheapest site of its region, which is what a resolver does that nobody steers. Demand other than planned is
 each row's count times a log-normal factor of mean 1. The script prints two tables in Markdown.
 """
@@ -74,19 +74,22 @@ def service_in(folder: str) -> Service:
     return found
 
 
-def answers(service: Service, queries: list[Row], fronts: int = 1, front: int = 0) -> list[list[str]]:
-    """The words of the answers to queries, by the plan or by a front's share of it."""
+def answers(service: Service, queries: list[Row], fronts: int = 0) -> list[list[str]]:
+    """The words of the answers to queries, by the plan or by so many fronts, which take them in turn."""
     log = f"{service.folder}/log.csv"
+    lines: list[tuple[object, ...]] = [("region", "handle"), *queries]
+    if fronts:
+        lines = [("front", *lines[0]), *((at % fronts, *row) for at, row in enumerate(queries))]
     with open(log, "w", encoding="utf-8", newline="") as file:
-        csv.writer(file, lineterminator="\n").writerows([("region", "handle"), *queries])
-    words = ["answer", *service.words(), "--plan", f"{service.folder}/plan.txt", "--log", log]
-    words += ["--fronts", str(fronts), "--front", str(front)] if fronts > 1 else []
-    return [line.split() for line in printed("hsplan-stream", words).splitlines()]
+        csv.writer(file, lineterminator="\n").writerows(lines)
+    words = ["dispatch", *service.words(), "--plan", f"{service.folder}/plan.txt", "--log", log]
+    words += ["--fronts", str(fronts)] if fronts else []
+    return [line.split() for line in printed("hsplan", words).splitlines()]
 
 
 def in_turn(service: Service, queries: list[Row], fronts: int) -> str:
     """How many of the queries, taken in turn by so many fronts, are answered `spent`."""
-    spent = sum(it[0] == "spent" for at in range(fronts) for it in answers(service, queries[at::fronts], fronts, at))
+    spent = sum(it[0] == "spent" for it in answers(service, queries, fronts))
     return f"{100 * spent / len(queries):.1f}%"
 
 

@@ -150,13 +150,6 @@ def answers(words: list[str], queries: list[Row]) -> list[list[str]]:
     return [line.split() for line in said.splitlines()]
 
 
-def by_plan(scene: Scene, queries: list[Row]) -> Loads:
-    """What servers get by `answer --plan`, where a query that is spent goes to the cheapest site."""
-    words = [*scene.service.inputs.words(), "--plan", scene.service.plan_file]
-    given = zip(queries, answers(words, queries))
-    return Counter(f"{it[1]}:{it[3]}" if it[0] == "assigned" else scene.cheapest(row) for row, it in given)
-
-
 def by_prices(scene: Scene, queries: list[Row]) -> Loads:
     """What servers get by `answer --prices`. A query that is answered `full` gets none."""
     service, inputs = scene.service, scene.service.inputs
@@ -177,7 +170,6 @@ def ways_of(scene: Scene, seed: int) -> dict[str, Way]:
     found: dict[str, Way] = {
         "each region its cheapest site": lambda queries: Counter(map(scene.cheapest, queries)),
         "weights by region, the plan's shares": lambda queries: by_regions(scene, queries, draw),
-        "`answer --plan`, `spent` to the cheapest site": lambda queries: by_plan(scene, queries),
         "`hsp export haproxy`": lambda queries: by_lot(scene, exported, queries, draw),
     }
     for steps in STEPS:
