@@ -21,7 +21,10 @@ use crate::shortfall::short_certificate;
 use crate::spreading::{GroupedRows, spread};
 use hsp_cert::Certificate;
 use hsp_instance::{Groups, Instance, groups};
-use hsp_network::{Frontier, HeapFrontier, Network, Outcome, SearchEffort, SimplexEffort, accepts, minimum_cost_flow, propose_counted};
+use hsp_network::{
+    Frontier, HeapFrontier, Network, Outcome, SearchEffort, SimplexEffort, accepts,
+    minimum_cost_flow, propose_counted,
+};
 use std::alloc::{AllocError, Global};
 
 /// How much work a run took: its searches, the accepted proposals of the network simplex, and the pivots of all

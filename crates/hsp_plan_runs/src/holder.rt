@@ -8,8 +8,8 @@ ghost use Rattle.hsp_price_check.specs.Classes.{service_of};
 ghost use Rattle.hsp_plan_runs.specs.Holding.{HasHeld, IsFresh};
 
 use hsp_instance::{Instance, RowArcs};
-use hsp_price_plan::{KeptRows, Progress};
 use hsp_price_check::PassFault;
+use hsp_price_plan::{KeptRows, Progress};
 use hsp_price_runs::RowTaker;
 use hsp_stream::LogRow;
 use hsp_tables::Costs;

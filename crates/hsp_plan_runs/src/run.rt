@@ -13,14 +13,14 @@ ghost use Rattle.hsp_plan_runs.specs.Taken.{AreTakenOfSome, IsTakenFault, IsVali
 
 use crate::holder::RowHolder;
 use crate::text::{PricesText, text_of};
-use hsp_prices::{plan_is_shown, shortage_is_shown};
-use hsp_price_plan::{KeptRows, PlanFault, Progress, keep_guessed, plan_rows};
-use hsp_runs::{Inputs, costs_in, instance_in};
-use hsp_runs::headline_laws::instances_are_defined;
 use hsp_instance::Instance;
 use hsp_price_check::{ServiceNumbers, numbers_of};
+use hsp_price_plan::{KeptRows, PlanFault, Progress, keep_guessed, plan_rows};
 use hsp_price_runs::pass_log;
 use hsp_price_text::PriceCertificate;
+use hsp_prices::{plan_is_shown, shortage_is_shown};
+use hsp_runs::headline_laws::instances_are_defined;
+use hsp_runs::{Inputs, costs_in, instance_in};
 use hsp_stream::StreamFault;
 use hsp_tables::Costs;
 use hsp_talk::Source;

@@ -10,9 +10,9 @@ ghost use Rattle.hsp_plan_tests.specs.Filling.{IsFilled};
 
 use crate::service::Held;
 use hsp_instance::{Arc, Instance, RowArcs};
-use hsp_price_plan::KeptRows;
 use hsp_names::HandleRef;
 use hsp_price_check::{ServiceNumbers, numbers_of};
+use hsp_price_plan::KeptRows;
 use hsp_tables::Costs;
 use hsp_text::limits::{MOST_REGIONS, MOST_SERVERS};
 use hsp_text::push_whole;

@@ -6,8 +6,8 @@ use crate::filling::{Filled, held_rows, row_of};
 use crate::keeping::keep_least;
 use crate::same::is_same;
 use crate::service::{ROOMY, hold};
-use hsp_price_plan::{GroupTable, RowGroup, groups_of};
 use hsp_instance::Arc;
+use hsp_price_plan::{GroupTable, RowGroup, groups_of};
 use std::alloc::{AllocError, Global};
 use std::process::Abort;
 

@@ -6,10 +6,10 @@ ghost use Rattle.hsp_price_check.specs.Checking.{IsOfSomeRows};
 use crate::filling::Asked;
 use crate::same::is_same;
 use crate::service::Held;
-use hsp_prices::PriceVerdict;
 use hsp_names::HandleRef;
 use hsp_price_check::{PassFault, PriceCheck};
 use hsp_price_text::{PriceCertificate, write_prices};
+use hsp_prices::PriceVerdict;
 use std::alloc::{AllocError, Global};
 use std::process::Abort;
 

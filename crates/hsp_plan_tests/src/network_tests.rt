@@ -12,10 +12,10 @@ ghost use Rattle.hsp_price_plan.specs.Solving.{HasArcsWithin, HasFewArcs, demand
 use crate::judging::says;
 use crate::same::is_same;
 use crate::service::{Held, NARROW, hold};
-use hsp_price_plan::{GroupTable, RowGroup, plan_of, reached_by, short_of, solve};
 use hsp_instance::Arc;
 use hsp_network::{Outcome, PricedFlow};
 use hsp_price_check::{ServiceNumbers, numbers_of};
+use hsp_price_plan::{GroupTable, RowGroup, plan_of, reached_by, short_of, solve};
 use hsp_price_text::{PriceCertificate, PricedPlan, ShortServers};
 use hsp_text::limits::MOST_SITES;
 use std::alloc::{AllocError, Global};

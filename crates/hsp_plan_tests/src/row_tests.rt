@@ -7,8 +7,8 @@ use crate::filling::{Filled, held_rows, row_of};
 use crate::keeping::{keep_least, keep_leaving, keep_near};
 use crate::same::is_same;
 use crate::service::{ROOMY, hold};
-use hsp_price_plan::{Silent, keep_guessed};
 use hsp_instance::Arc;
+use hsp_price_plan::{Silent, keep_guessed};
 use std::alloc::{AllocError, Global};
 use std::process::Abort;
 

@@ -20,4 +20,3 @@ mod plans;
 mod propose_tests;
 #[cfg(test)]
 mod same;
-

@@ -3,7 +3,9 @@ ghost use Rattle.hsp_network.specs.Layout.{IsSmall};
 ghost use Rattle.hsp_network.specs.Problem.{problem_of};
 
 use crate::same::is_same;
-use hsp_network::{Frontier, HeapFrontier, Network, Outcome, ScanFrontier, SearchEffort, minimum_cost_flow};
+use hsp_network::{
+    Frontier, HeapFrontier, Network, Outcome, ScanFrontier, SearchEffort, minimum_cost_flow,
+};
 use std::alloc::{AllocError, Global};
 use std::process::Abort;
 

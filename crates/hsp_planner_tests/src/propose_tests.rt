@@ -2,7 +2,9 @@
 // then, and has to succeed.
 
 use crate::same::is_same;
-use hsp_network::{Network, NetworkLists, Outcome, PricedFlow, SimplexEffort, propose, propose_counted};
+use hsp_network::{
+    Network, NetworkLists, Outcome, PricedFlow, SimplexEffort, propose, propose_counted,
+};
 use std::alloc::{AllocError, Global};
 use std::process::Abort;
 
