@@ -200,7 +200,7 @@ def unmarked() -> Found:
 
 def fault_words() -> list[str]:
     """The words that the line of a fault may have, from the sources."""
-    sources = [f"crates/hsp_faults/src/{it}" for it in ("fault_text.rt", "fault_words.rt", "verdict_text.rt")]
+    sources = [f"crates/hsp_runs/src/{it}" for it in ("fault_text.rt", "fault_words.rt", "verdict_text.rt")]
     sources += ["crates/hsp_stream/src/fault_text.rt", "crates/hsp_price_runs/src/verdict_text.rt"]
     found = [word for it in sources for word in re.findall(r'b"(?:\d+ )?([A-Z][A-Za-z0-9]+)', programs.text_of(it))]
     return sorted(set(found) | {"Usage", "read failed", "write failed"})

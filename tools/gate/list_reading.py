@@ -34,7 +34,7 @@ RUNS = os.path.join(programs.TOP, "crates", "hsp_runs")
 # How many words of definitions and clauses are read in a minute.
 RATE = 130
 LOGS, RUNS_OVER_LOGS, LAWS = (f"Rattle.hsp_runs.specs.{it}" for it in ("Logs", "Dispatch", "Laws"))
-HEADLINE, PAGE_LAWS = (f"Rattle.hsp_headline.specs.{it}" for it in ("Headline", "Laws"))
+HEADLINE, PAGE_LAWS = (f"Rattle.hsp_runs.specs.{it}" for it in ("Headline", "HeadlineLaws"))
 # The calls of the headline, and their clauses that are of the page: without the order of faults.
 CALLS = (
     ("plan.rt", "plan_run", ("shows", "always")),
@@ -183,9 +183,8 @@ def promised(file: str, call: str, names: tuple[str, ...]) -> list[str]:
 
 
 def page_file(name: str) -> str:
-    """Where a file of the page stands: in `hsp_headline`, or with the runs over logs in `hsp_runs`."""
-    paths = [os.path.join(programs.TOP, "crates", crate, "specs", name) for crate in ("hsp_headline", "hsp_runs")]
-    return next(path for path in paths if os.path.exists(path))
+    """Where a file of the page stands."""
+    return os.path.join(RUNS, "specs", name)
 
 
 def figures() -> list[str]:

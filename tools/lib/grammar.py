@@ -13,7 +13,7 @@ CRATES = Path(programs.TOP) / "crates"
 LIMITS = [
     "hsp_text/src/limits.rt",
     "hsp_talk/src/limits.rt",
-    "hsp_stream/src/kinds_log.rt",
+    "hsp_stream/src/log_rows.rt",
     "hsp_price_text/src/ranges.rt",
 ]
 # The function that knows the headers of a command's log.
@@ -22,8 +22,8 @@ LOGS = {
     "fronts": "hsp_dispatch/src/form.rt fn event_form_of",
     "places": "hsp_stream/src/handle_rows.rt fn form_of",
     "answer": "hsp_stream/src/asking.rt fn form_of",
-    "check": "hsp_stream/src/kinds_log.rt fn form_of",
-    "report": "hsp_stream/src/kinds_log.rt fn form_of",
+    "check": "hsp_stream/src/log_rows.rt fn form_of",
+    "report": "hsp_stream/src/log_rows.rt fn form_of",
 }
 TABLES = ("demand", "costs", "capacity")
 
@@ -79,7 +79,7 @@ def own_options() -> dict[str, dict[str, Option]]:
     of no program those of both."""
     pattern = r"^// (?:([\w-]+) )?--(\w+) ([^\s:]+): ([^\n]*)$"
     found: dict[str, dict[str, Option]] = {}
-    for line in matched(pattern, source("hsp_cli_options/src/tables.rt"), "options of tables.rt"):
+    for line in matched(pattern, source("hsp_cli_orders/src/tables.rt"), "options of tables.rt"):
         found.setdefault(line[1] or "", {})[line[2]] = Option(line[2], line[3], line[4])
     return found
 
@@ -92,10 +92,10 @@ def options(program: str = "") -> dict[str, Option]:
 
 def commands() -> list[Command]:
     """The commands of both programs, in the order of their tables."""
-    tables = source("hsp_cli_options/src/tables.rt")
+    tables = source("hsp_cli_orders/src/tables.rt")
     lists = {it[1]: it[2] for it in matched(r"^const (\w+): \[Argument.*?\] = \[(.*?)\];", tables, "inputs")}
     programs = matched(
-        r'Command::new\(alloc, "([\w-]+)"\).*?&(\w+)\)', source("hsp_cli_options/src/commands.rt"), "programs"
+        r'Command::new\(alloc, "([\w-]+)"\).*?&(\w+)\)', source("hsp_cli_orders/src/commands.rt"), "programs"
     )
     found = []
     for program in programs:

@@ -1,5 +1,5 @@
-// The command lines of the programs: their commands with their options, built for clap, their words, and the orders that
-// these give.
+// The command lines of the programs: their commands with their options, built for clap, their words, and the orders
+// that these give.
 #![tactic(auto)]
 
 mod commands;

@@ -7,7 +7,8 @@ use Rattle.hsp_instance.specs.RowArcs.{IsWithin}
 use Rattle.hsp_instance.specs.declared.arc.Arc.{Arc}
 use Rattle.hsp_prices.specs.Rows.{Service}
 use Rattle.hsp_prices.specs.Least.{is_least}
-use Rattle.hsp_prices.specs.KeptRows.{IsRow, KeptArc, KeptRow, arcs_in, kept_if, kept_in, keeping, with_least, with_leaving}
+use Rattle.hsp_prices.specs.KeptRows.{IsRow, KeptArc, KeptRow, arcs_in, kept_if, kept_in, keeping, with_least}
+use Rattle.hsp_prices.specs.KeptRows.{with_leaving}
 use Rattle.hsp_price_plan.specs.Held.{AreWithin}
 use Rattle.hsp_price_plan.specs.Keeping.{is_near, with_near}
 

@@ -17,8 +17,8 @@ use Rattle.hsp_check.specs.Network.{IsNetwork, Network, site_of, transport}
 use Rattle.hsp_check.proofs.RowLinks.{link, rows_below}
 use Rattle.hsp_prices.specs.Kinds.{AreKinds, ArePricesOfKinds, HasOneArcASite}
 use Rattle.hsp_prices.specs.Rows.{Service, network_by, network_for}
-use Rattle.hsp_prices.proofs.ByTables.{are_kinds, in_rows, links_are, no_row, one_arc, place_of, place_same, place_there}
-use Rattle.hsp_prices.proofs.ByTables.{row_at}
+use Rattle.hsp_prices.proofs.ByTables.{are_kinds, in_rows, links_are, no_row, one_arc, place_of, place_same}
+use Rattle.hsp_prices.proofs.ByTables.{place_there, row_at}
 use Rattle.hsp_price_text.specs.Claim.{Best}
 use Rattle.hsp_prices.specs.Bounds.{HasNoNegativeReducedCost}
 use Rattle.hsp_prices.specs.Classes.{Keep}
