@@ -57,7 +57,7 @@ CASES: list[tuple[str, list[str]]] = [
     ("hsplan-stream report --pl", []),
     ("hsplan-stream places --settings set", ["settings.toml"]),
     ("hsplan-stream answer --fr", ["--front", "--fronts"]),
-    ("hsplan-stream answer --costs cos", ["costs.csv"]),
+    ("hsplan-stream answer --costs dem", ["demand.csv"]),
     ("hsplan-stream answer --pl", []),
     ("hsplan-stream answer --un", []),
     (

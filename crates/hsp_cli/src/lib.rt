@@ -18,7 +18,7 @@ pub use commands::obey;
 pub use ending::{end_with, last_line};
 pub use failure::{Failure, Unread};
 pub use files::{FileSource, OpenFile, read_whole};
-pub use inputs::{read_inputs, read_named};
+pub use inputs::read_named;
 pub use output::Output;
 pub use program::{Hsplan, Program};
 pub use words::take_words;
