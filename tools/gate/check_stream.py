@@ -21,6 +21,7 @@ tools/gate/check_program.py runs them. Here are tried:
 - a co-process over pipes: each row is answered within a second, before the next one is written;
 - a log of a million handles: its plan, `check` and `report` of that, and `answer` over the same log, by which each row
   is assigned; none of its runs takes more than 64 MB;
+- a plan of 100,000 rows with 3,200,000 arcs within 64 MB, since hardly any of the arcs is kept;
 - each open, read and write of some runs failing in turn.
 """
 from __future__ import annotations
@@ -43,7 +44,7 @@ from pathlib import Path
 sys.path.insert(0, str(Path(__file__).resolve().parents[1]))
 
 from lib import examples, failing, preload, programs
-from lib import oracle, price_answers, price_verdicts, prices
+from lib import oracle, price_answers, price_cases, price_verdicts, prices
 from lib.price_verdicts import Bounds
 
 
@@ -474,6 +475,22 @@ def check_million(it: Programs, number: int) -> list[str]:
     return found
 
 
+def check_many_arcs(it: Programs, rows: int = 100_000) -> list[str]:
+    """The memory of a plan of rows that are all new, at 32 sites with 1,024 servers that are three quarters full. Rows
+    that kept all their arcs would take several times as much."""
+    service = price_cases.service_of(price_cases.Case(32, 1024, 32, 32, 64, 1000, 0))
+    regions = sorted({region for region, _ in service.costs})
+    with tempfile.TemporaryDirectory() as folder:
+        oracle.put_files(folder, service.files(capacity=rows // 1024 * 4 // 3))
+        log, plan = (os.path.join(folder, name) for name in ("log.csv", "plan.prices"))
+        with open(log, "w", encoding="utf-8") as lines:
+            lines.write("region,handle\n")
+            lines.writelines(f"{regions[at % len(regions)]},20.500.{at % 1000}/object-{at}\n" for at in range(rows))
+        status, memory, _ = measured([it.stream, *PLAN.split()], folder, log, plan)
+    print(f"{rows:,} rows of 32 sites: planned in {memory:,} kB")
+    return fault("plan of many arcs", (status, memory < LIMIT_KB), (0, True))
+
+
 # ---- failing calls
 
 FAILING = [
@@ -531,7 +548,7 @@ def check_failing(it: Programs, room: str) -> tuple[list[str], int]:
 def check_all(it: Programs, million: int, room: str) -> list[str]:
     draw = random.Random(49)
     # The memory of a run counts that of this process before it, so this comes while it is small.
-    found = check_million(it, million)
+    found = check_million(it, million) + check_many_arcs(it)
     oracle.put_cases(it.folder)
     with open(os.path.join(it.folder, "demand.csv"), "rb") as file:
         it.plan_by_prices(file.read())
