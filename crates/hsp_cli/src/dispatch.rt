@@ -27,7 +27,7 @@ struct OpenLog<F: OpenFile> {
 }
 
 // Reads the files of the inputs and then that of the certificate, and opens that of the log.
-fn open_log<S: FileSource>(
+pub(crate) fn open_log<S: FileSource>(
     alloc: Global,
     files: &S,
     named: &InputFiles<'_>,

@@ -27,7 +27,7 @@ pub fn read_named<S: FileSource>(
 }
 
 /// The files of inputs, read in their order.
-pub fn read_inputs<S: FileSource>(
+pub(crate) fn read_inputs<S: FileSource>(
     alloc: Global,
     files: &S,
     named: &InputFiles<'_>,

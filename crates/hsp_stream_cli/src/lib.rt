@@ -17,4 +17,4 @@ mod talking;
 mod texts;
 
 pub use commands::obey;
-pub use program::{Ended, HsplanStream, Sums};
+pub use program::{Ended, HsplanStream};
