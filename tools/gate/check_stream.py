@@ -140,8 +140,7 @@ def options_in_help(text: str) -> dict[str, list[list[str]]]:
 def options_in_manual() -> dict[str, list[list[str]]]:
     """The same in the synopsis of the manual page."""
     page = programs.text_of("docs", "use", "hsplan-stream.1").replace("\\-", "-")
-    synopsis, inputs = page.split(".SH SYNOPSIS\n")[1].split(".SH DESCRIPTION\n")[0].split(".I inputs\nare\n")
-    parts = [it.replace(".I inputs\n", inputs) for it in synopsis.split(".SY hsplan-stream\n.B ")[1:]]
+    parts = page.split(".SH SYNOPSIS\n")[1].split(".SH DESCRIPTION\n")[0].split(".SY hsplan-stream\n.B ")[1:]
     return {
         command: [re.findall(r"--([a-z]+)", part) for part in parts if part.split()[0] == command]
         for command in COMMANDS
@@ -452,9 +451,9 @@ def check_million(it: Programs, number: int) -> list[str]:
         found += fault("check of a million handles", (checked[0], checked[1] < LIMIT_KB), (0, True))
         reported = measured([it.stream, *ANSWER.split()], folder, log, answers)
         found += fault("answers to a million handles", (reported[0], reported[1] < LIMIT_KB), (0, True))
-        with open(answers, "rb") as file:
-            lines = file.read().splitlines()
-        found += fault("every row is assigned", sum(line.startswith(b"assigned ") for line in lines), number)
+        with open(answers, "rb") as lines:
+            every = sum(line.startswith(b"assigned ") for line in lines)
+        found += fault("every row is assigned", every, number)
         shown = [
             measured([it.stream, *asked.split()], folder, log, f"{verdict}.{at}") for at, asked in enumerate(REPORTS)
         ]

@@ -48,5 +48,3 @@ by_fault sites (row.BadName number) events so = so
 by_fault sites (row.BadHandle number fault) events so = so
 by_fault sites (row.BadNumber number) events so = so
 by_fault sites (row.TooManyRegions number) events so = so
-by_fault sites (row.TooManyKinds number) events so = so
-by_fault sites (row.CountTooLarge number unit) events so = so

@@ -49,7 +49,6 @@ ArePlacedUntil settings values old new (fault.Log e) =
 ArePlacedUntil settings values old new fault.OutOfMemory =
     (new ≡ old)
     ⊎ ((sites : List Site) × AreSitesIn settings values (Ok sites) × Went old new (HasStopped sites stop.OutOfMemory))
-ArePlacedUntil settings values old new fault.BadUnit = ⊥
 ArePlacedUntil settings values old new fault.BadFront = ⊥
 ArePlacedUntil settings values old new (fault.Refused reason) = ⊥
 ArePlacedUntil settings values old new fault.TooLarge = ⊥

@@ -1,4 +1,4 @@
--- The rows of the logs of `kinds` and `places`, read by themselves.
+-- The rows of logs with counts, and of the logs of `places`, read by themselves.
 use Rattle.std.specs.Prelude.{ℕ, [], ◌∷◌, Bool, Option, Some, None, Result, Ok, Err, codes}
 use Rattle.hsp_csv.specs.Header.{same_fields}
 use Rattle.hsp_csv.specs.Records.{Fields}

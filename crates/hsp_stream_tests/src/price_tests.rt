@@ -181,7 +181,7 @@ fn reported<R: Read + Copy + Drop>(
 fn shows(rt: &impl Abort, alloc: Global, kind: PriceReportKind, log: &[u8], wanted: &[u8]) {
     match reported(rt, alloc, PLAN, kind, Rows::only(log)) {
         Ok(PriceReport::Shown(text)) => is_same(rt, text.as_slice(), wanted),
-        ended => is_same(rt, ended, Err(StreamFault::BadUnit)),
+        ended => is_same(rt, ended, Err(StreamFault::BadFront)),
     }
 }
 
