@@ -20,7 +20,7 @@ use std::alloc::Global;
 
 // What a log is answered by, and the log, of which nothing was read yet.
 #[derive(Drop)]
-struct OpenLog<F: OpenFile> {
+pub(crate) struct OpenLog<F: OpenFile> {
     inputs: Inputs,
     certificate: Vec<u8>,
     log: F,
