@@ -122,7 +122,7 @@ fn keep_leaving(entries: &mut [u16], shape: &[SiteCost], set: &[bool]) -> u64
 }
 
 /// Keeps more arcs, and returns how many weren't kept before.
-pub(crate) fn keep(entries: &mut [u16], shape: &[SiteCost], which: Keep<'_>) -> u64
+pub(crate) fn keep_more(entries: &mut [u16], shape: &[SiteCost], which: Keep<'_>) -> u64
     requires many { length shape.now ≤ length entries.old }
     requires within { LeadWithin (servers_in which) shape.now entries.old }
     requires low { IsLow which }

@@ -12,7 +12,7 @@ ghost use Rattle.hsp_price_plan.specs.Held.{AreWithin, CanPush, no_rows, region_
 ghost use Rattle.hsp_price_plan.specs.Regions.{with_region};
 
 use crate::entries::{fill_arcs, fill_kept, push_entries};
-use crate::keeping::{Keep, keep};
+use crate::keeping::{Keep, keep_more};
 use crate::region::{Region, SiteCost};
 use crate::row_hash::servers_number;
 use hsp_instance::Arc;
@@ -221,7 +221,7 @@ impl KeptRows {
             let region = &self.regions[usize::from(self.row_regions[row])];
             let start = row * self.sites;
             let entries = &mut self.places[start..start + self.sites];
-            kept += keep(entries, region.shape(), which);
+            kept += keep_more(entries, region.shape(), which);
         }
         kept
     }

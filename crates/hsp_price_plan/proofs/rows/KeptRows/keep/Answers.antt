@@ -26,10 +26,10 @@ shape_is c =
     c.index-region.result.now (inside c) below c.from.ensures (rw c.loop-row.invariant.numbers at c.index.ensures)
     (rw c.loop-row.invariant.regions at c.index-region.ensures))
 
-pub keep-kept-requires-clause-within : goal.keep-kept-requires-clause-within
-keep-kept-requires-clause-within c =
+pub keep_more-kept-requires-clause-within : goal.keep_more-kept-requires-clause-within
+keep_more-kept-requires-clause-within c =
     let t = c.self.inside in
-    let d = (goal.at.keep-kept-requires-clause-within c).After-shape in
+    let d = (goal.at.keep_more-kept-requires-clause-within c).After-shape in
     within_next (kept_by c.args.which) t.sites t.regions.items t.row_regions.items
     t.counts.items t.places.items c.self.invariant (servers_in c.args.which)
     c.loop-row.self-inside.places.items c.deref_mut.result.now c.shape.result.now c.loop-row.row
@@ -51,13 +51,13 @@ loop-row-preserved c =
       passed =
           passed_next (kept_by c.args.which) t.sites t.regions.items t.row_regions.items
           t.counts.items t.places.items c.self.invariant c.loop-row.self-inside.places.items
-          c.deref_mut.result.now c.keep-kept.new.entries _ c.shape.result.now c.loop-row.row
-          c.loop-row.kept c.keep-kept.result c.loop-row.self-inside.sites
+          c.deref_mut.result.now c.keep_more-kept.new.entries _ c.shape.result.now c.loop-row.row
+          c.loop-row.kept c.keep_more-kept.result c.loop-row.self-inside.sites
           (c.loop-row.row * c.loop-row.self-inside.sites + c.loop-row.self-inside.sites
           - c.loop-row.row * c.loop-row.self-inside.sites) c.loop-row.self-inside.places.len (inside d)
           c.loop-row.invariant.sites (omega (arith, c.loop-row.invariant.sites))
           c.loop-row.self-inside.places.ok.0 c.deref_mut.ensures.value (shape_is d)
-          c.keep-kept.auto.entries c.keep-kept.ensures c.loop-row.invariant.passed;
+          c.keep_more-kept.auto.entries c.keep_more-kept.ensures c.loop-row.invariant.passed;
     }
 
 pub returns-clause-kept : goal.returns-clause-kept
