@@ -14,12 +14,12 @@ import click
 
 from hsp.base.bounds import whole
 from hsp.base.files import Outputs, create, locked, refuse_clashes, replace_all, together
-from hsp.base.grammar import GREATEST_CAPACITY, GREATEST_UNIT, LOG_HEAD
+from hsp.base.grammar import GREATEST_CAPACITY, LOG_HEAD
 from hsp.base.numbers import listed, some
 from hsp.base.options import ANY_FILE, PathName, apart, idle
 from hsp.base.options import given as words_given
 from hsp.base.paths import path_in, shell_word
-from hsp.base.programs import Inputs, Programs
+from hsp.base.programs import Programs
 from hsp.base.text import give, is_utf8, say, show_progress
 from hsp.base.unfit import Unfit
 from hsp.intake import skeleton
@@ -30,7 +30,6 @@ from hsp.intake.hour_folders import folders_of, in_folders, tables_in, write_hou
 from hsp.intake.hour_tally import HourTally
 from hsp.intake.hours import CYCLES, Chosen, Cycle, chosen
 from hsp.intake.joining import block, capacity_rows, joined, lines_of, read_back
-from hsp.intake.outlook import may_be_long, outlook, refuse_unit
 from hsp.intake.progress import Gauge, Progress
 from hsp.intake.queries import Judge, Reading
 from hsp.intake.regions import is_table, named_in, regions_in
@@ -201,43 +200,17 @@ def skipped_lines(reading: Reading) -> list[str]:
     return [f"skipped {some(reading.skipped.sum, 'line')}", *lines]
 
 
-def service_of(folder: str | None, given: dict[str, Any]) -> Inputs | None:
-    """The sites and the costs by which handles of one kind are joined, where both are there. Refuses one of them, and a
-    value list, where the other one lacks."""
-
-    def path_of(role: str, name: str) -> str | None:
-        beside = path_in(folder, name) if folder else ""
-        return given[role] or (beside if os.path.isfile(beside) else None)
-
-    settings, costs = path_of("settings", NAMES["settings"]), path_of("costs", NAMES["costs"])
-    if settings is None or costs is None:
-        for option in sorted(SERVICE & words_given()):
-            lack = "sites" if settings is None else "costs"
-            raise click.UsageError(f"{option} does nothing without {lack}: handles are joined by sites and costs")
-        return None
-    return Inputs(settings, "", costs, "", path_of("values", VALUES))
-
-
 def expect(lines: list[str]) -> None:
     """Says what is lacking before logs are read, which takes long."""
     for line in lines:
         say(f"hsp: {line}", err=True)
 
 
-def foreseen(
-    regions: str, into: str | None, given: dict[str, Any], is_long: bool, programs: Programs
-) -> Inputs | None:
-    """The sites and the costs of a service. Before logs are read it refuses what can't be joined or noted at their
-    end, and says what long logs will likely need."""
-    inputs, output = service_of(into, given), output_of(given, into)
-    if output:
-        of_folder(into, output, Mark(KINDS))
-    named = named_in(regions, given["elsewhere"])
-    if given["unit"]:
-        refuse_unit(inputs, named)
-    if is_long or given["unit"]:
-        expect(outlook(inputs, named, into, programs))
-    return inputs
+def without_costs(tally: Tally, into: str | None) -> list[str]:
+    """Says which regions have no cost yet in the folder's table of costs, where it has one."""
+    costs = path_in(into, NAMES["costs"]) if into else ""
+    lacking = tally.without_costs(costs) if os.path.isfile(costs) else []
+    return [f"{costs} has no cost yet of {listed(lacking)}"] if lacking else []
 
 
 def twice(paths: Sequence[str]) -> list[str]:
@@ -311,20 +284,15 @@ def summary(logs: tuple[str, ...], reading: Reading, tally: Tally, of_any_prefix
     return [first, *skipped_lines(reading), *(tally.prefixes.lines() if of_any_prefix else [])]
 
 
-def rows_lines(output: str | None, own: Demand, lacking: tuple[str, list[str]] | None) -> list[str]:
-    """How many rows the demand has, what each stands for, and which regions a file of costs lacks."""
-    kinds = ", each for the handles that have the same servers" if own.is_joined else ""
-    log = ", each for a region and a handle" if own.why_log and not own.is_joined else ""
-    lines = [f"{output or 'the table'} has {some(own.rows, 'row')}{kinds}{log}"]
-    lines += [f"no table holds it, as {own.why_log}: it is a log, and is planned by prices"] if own.why_log else []
-    return lines + ([f"{lacking[0]} has no cost yet of {listed(lacking[1])}"] if lacking and lacking[1] else [])
+def rows_lines(output: str | None, own: Demand) -> list[str]:
+    """How many rows the demand has, and whether it is a log."""
+    lines = [f"{output or 'the table'} has {some(own.rows, 'row')}"]
+    return lines + ([f"no table holds it, as {own.why_log}: it is a log, and is planned by prices"] if own.why_log else [])
 
 
-def hours_lines(
-    found: Chosen, folders: list[str], output: str | None, own: Demand, lacking: tuple[str, list[str]] | None
-) -> list[str]:
+def hours_lines(found: Chosen, folders: list[str], output: str | None, own: Demand) -> list[str]:
     """The same of the demands of all hours, and which of them the folder itself has."""
-    first, *lines = rows_lines(f"each {NAMES['demand']} of {folders[0]} to {folders[-1]}", own, lacking)
+    first, *lines = rows_lines(f"each {NAMES['demand']} of {folders[0]} to {folders[-1]}", own)
     return [first, f"{output} has the rows of {found.cycle.names[found.busiest]} that aren't 0", *lines]
 
 
@@ -405,27 +373,12 @@ FORM_OPTIONS = [
     click.option("--prefix", metavar="PREFIX", multiple=True, help="count only handles of this prefix"),
     click.option("--elsewhere", metavar="REGION", help="of clients that have no region"),
 ]
-# The options that name files by which handles are joined.
-SERVICE = {"--settings", "--values", "--costs"}
-KINDS_OPTIONS = [
-    click.option(
-        "--unit",
-        type=click.IntRange(1, GREATEST_UNIT),
-        metavar="N",
-        help="join rows by kinds, and count in units of N queries, rounded up",
-    ),
-    click.option("--settings", type=FILE, metavar="FILE", help="the sites, in place of DIR's"),
-    click.option("--values", type=FILE, metavar="FILE", help="a value list, in place of DIR's"),
-    click.option("--costs", type=FILE, metavar="FILE", help="by which handles are joined, in place of DIR's"),
-]
-
-
 def with_forms(command: Command, by: Callable[[Any], Any] = OF_DATABASE) -> Command:
-    """Adds the options that say how logs are read, and how their rows are joined."""
+    """Adds the options that say how logs are read."""
     command = apart("--handle", "--path", "a line has either a handle or a path")(command)
     for word in sorted({"--format", *FIELDS}):
         command = idle(word, "--regex", why="its groups say what a line has")(command)
-    for option in reversed([*FORM_OPTIONS, by, *KINDS_OPTIONS]):
+    for option in reversed([*FORM_OPTIONS, by]):
         command = option(command)
     return command
 
@@ -435,12 +388,11 @@ def with_hours(command: Command) -> Command:
     return with_forms(command, BY_HOURS)
 
 
-def refuse_own(logs: Sequence[str], regions: str, into: str | None, outputs: Sequence[str], given: Any) -> None:
+def refuse_own(logs: Sequence[str], regions: str, into: str | None, outputs: Sequence[str]) -> None:
     """Refuses outputs that are inputs, or one another, or in the place of another file of DIR."""
     others = [name for role, name in NAMES.items() if role != "demand"] + [VALUES, TITLES]
     beside = [path_in(into, name) for name in others] if into else []
-    own = [given[role] for role in ("settings", "values", "costs") if given[role]]
-    refuse_clashes([*logs, regions, *beside, *own], outputs)
+    refuse_clashes([*logs, regions, *beside], outputs)
 
 
 def output_of(given: dict[str, Any], into: str | None) -> str | None:
@@ -498,7 +450,7 @@ def demand(logs: tuple[str, ...], regions: str, into: str | None, kept: str | No
     if by.cycle and (kept or given["busiest_hour"]):
         raise click.UsageError(f"--log and --busiest-hour are of one demand, and --by {by.cycle.word} makes many")
     output, folders = output_of(given, into), folders_of(into, by.cycle)
-    refuse_own(logs, regions, into, [own for own in (output, kept, *tables_in(folders)) if own], given)
+    refuse_own(logs, regions, into, [own for own in (output, kept, *tables_in(folders)) if own])
     refuse_clashes([path_in(into, NAMES["demand"])] if into else [], [kept] if kept else [])
     reading = reading_of(logs, regions, given, programs)
     expect(twice(logs))
