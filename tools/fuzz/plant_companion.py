@@ -54,7 +54,7 @@ TESTS = {
     "plans/page": "test_page test_text",
     "plans/charts": "test_exact test_whatif test_text",
     "plans/answering": "test_units test_plan",
-    "plans/marks": "test_marks test_bounds",
+    "plans/titles": "test_titles test_bounds",
     "plans/": "test_exact test_plan test_whatif test_units test_shares test_text",
     "base/bounds": "test_bounds",
     "base/": "test_exact test_text test_writes test_units test_sites test_plan",

@@ -8,7 +8,7 @@ from collections.abc import Iterable, Iterator
 from hsp.base.paths import path_in
 from hsp.base.spelling import near
 from hsp.doctor.findings import WARNING, Finding, Place, Words, found, quoted, read_text
-from hsp.plans.marks import TITLES
+from hsp.plans.titles import TITLES
 from hsp.plans.service import Service
 
 

@@ -25,8 +25,8 @@ from hsp.doctor.mark_doubts import mark_doubts
 from hsp.doctor.proxy_doubts import proxy_doubts
 from hsp.doctor.rows import Row, Table, table_of
 from hsp.doctor.toml_places import value_of
-from hsp.plans.marks import KEYS as MARK_KEYS
-from hsp.plans.marks import TABLE, TITLES
+from hsp.plans.titles import KEYS as MARK_KEYS
+from hsp.plans.titles import TABLE, TITLES
 from hsp.plans.proxied import PROXY, PROXY_KEYS, proxied_of
 from hsp.plans.answering import less_reserve
 from hsp.plans.service import ACCEPT, NAMES, TITLE_KEYS, VALUES, Service, dotted, is_of_hour, newer_than

@@ -18,7 +18,7 @@ from hsp.doctor.guard import SECONDS, guarded
 from hsp.doctor.question import Diagnosis, Draft, Question, Said, Show, draft_of
 from hsp.doctor.toml_places import value_of
 from hsp.plans.counted import is_log
-from hsp.plans.marks import MOST_OF_TITLES, TABLE, TITLES, bad_keys
+from hsp.plans.titles import MOST_OF_TITLES, TABLE, TITLES, bad_keys
 from hsp.plans.service import NAMES, VALUES, Service, inputs_in, mark_of, service_of, titles_in
 
 

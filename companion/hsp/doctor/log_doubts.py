@@ -15,7 +15,7 @@ from hsp.doctor.mark_doubts import JOINED, looks_joined
 from hsp.doctor.question import Question
 from hsp.doctor.rows import Row, Table
 from hsp.plans.answering import answer_command, kept_beside
-from hsp.plans.marks import Mark, mark_in
+from hsp.plans.titles import Mark, mark_in
 from hsp.plans.service import NAMES, Service
 from hsp.plans.service import Row as Asked
 

@@ -11,7 +11,7 @@ from hsp.base.paths import path_in
 from hsp.doctor.findings import WARNING, Finding, Place, Text, Words, found, read_text
 from hsp.doctor.toml_places import value_of
 from hsp.intake.kinds import most_of_region
-from hsp.plans.marks import TABLE, TITLES
+from hsp.plans.titles import TABLE, TITLES
 from hsp.plans.service import Service
 
 # From this share on, what rounding adds is worth a smaller unit.

@@ -19,7 +19,7 @@ from hsp.doctor import examined
 from hsp.doctor.doubts import OLD_PLAN
 from hsp.doctor.mark_doubts import MUCH_ADDED
 from hsp.doctor.printing import lines as finding_lines
-from hsp.plans.marks import TITLES
+from hsp.plans.titles import TITLES
 from hsp.plans.service import NAMES, VALUES, Service
 
 Command = TypeVar("Command", bound=Callable[..., Any])

@@ -16,7 +16,7 @@ from hsp.doctor.findings import WARNING, Finding, Place, Text, Words, found, quo
 from hsp.doctor.log_doubts import absent_in, mark_of_words, of_absent, of_mark
 from hsp.doctor.question import Question
 from hsp.doctor.rows import Row, Table, table_of
-from hsp.plans.marks import Mark
+from hsp.plans.titles import Mark
 from hsp.plans.service import NAMES, Service, Titles, service_of, titles_in
 
 # A log may be long: so many octets of it are looked at.

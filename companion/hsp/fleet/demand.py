@@ -43,7 +43,7 @@ from hsp.intake.queries import Judge, Reading
 from hsp.intake.regions import regions_in
 from hsp.intake.tally import Tally
 from hsp.intake.times import Span
-from hsp.plans.marks import Mark
+from hsp.plans.titles import Mark
 
 # So many tables are added up by one part.
 WIDTH = 8

@@ -29,7 +29,7 @@ from hsp.fleet.session import Targets, place_of, session, with_cluster
 from hsp.fleet.split import Parted
 from hsp.intake.bring import FOLDER
 from hsp.plans.answering import less_reserve
-from hsp.plans.marks import Mark, mark_in
+from hsp.plans.titles import Mark, mark_in
 from hsp.plans.service import NAMES, inputs_in, newer_than
 
 SUFFIX = ".answers"

@@ -37,7 +37,7 @@ from hsp.intake.side_by_side import MOST_JOBS, parts_of
 from hsp.intake.sitefiles import Files, Found
 from hsp.intake.tally import Demand, Tally
 from hsp.intake.times import FIRST, LAST, Span, iso_seconds
-from hsp.plans.marks import KINDS, TITLES, Mark, marked
+from hsp.plans.titles import KINDS, TITLES, Mark, marked
 from hsp.plans.service import NAMES, VALUES
 
 FOLDER = PathName(exists=True, file_okay=False)

@@ -15,7 +15,7 @@ from hsp.base.programs import Missing
 from hsp.base.signals import uncut
 from hsp.intake.hour_tally import HourTally
 from hsp.intake.hours import Cycle
-from hsp.plans.marks import KINDS, Mark, marked
+from hsp.plans.titles import KINDS, Mark, marked
 from hsp.plans.service import NAMES
 
 

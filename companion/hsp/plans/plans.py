@@ -14,7 +14,7 @@ from typing import Any
 from hsp.base.grammar import GREATEST_COST, HEADERS, MOST_SERVERS, MOST_SITES
 from hsp.base.numbers import some
 from hsp.base.programs import Bound, Certificate, Class, Inputs, Missing, Programs
-from hsp.base.units import hosts_text, settings_text
+from hsp.base.settings import hosts_text, settings_text
 from hsp.plans.flows import classes_of, flows_of, loads_of, servers_of
 from hsp.plans.flows import shares_of as shares_of_classes
 from hsp.plans.joined import joined

@@ -11,7 +11,7 @@ from hsp.base.files import refuse_no_file
 from hsp.base.paths import path_in
 from hsp.base.programs import Certificate, Load, Missing, Refused
 from hsp.base.unfit import Unfit
-from hsp.plans.marks import mark_in
+from hsp.plans.titles import mark_in
 from hsp.plans.service import NAMES, OF_DAY, OF_WEEK, Row, Service, table
 from hsp.scenarios.judged import Judged, side_by_side
 

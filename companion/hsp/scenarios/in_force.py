@@ -13,8 +13,8 @@ from hsp.base.numbers import some
 from hsp.base.paths import path_in
 from hsp.base.programs import Certificate, Inputs, Missing, Programs, Refused
 from hsp.base.unfit import Unfit
-from hsp.base.units import hosts_text, settings_text
-from hsp.plans.marks import TITLES, mark_in
+from hsp.base.settings import hosts_text, settings_text
+from hsp.plans.titles import TITLES, mark_in
 from hsp.plans.plans import capacity_file, servers_at
 from hsp.plans.service import NAMES, VALUES, Row, Service, service_of
 from hsp.scenarios.nearest import PRICED, Homes, Key, homes_by, homes_of, keys_of
