@@ -37,7 +37,7 @@ from hsp.intake.side_by_side import MOST_JOBS, parts_of
 from hsp.intake.sitefiles import Files, Found
 from hsp.intake.tally import Demand, Tally
 from hsp.intake.times import FIRST, LAST, Span, iso_seconds
-from hsp.plans.titles import KINDS, TITLES, Mark, marked
+from hsp.plans.titles import TITLES, uncounted
 from hsp.plans.service import NAMES, VALUES
 
 FOLDER = PathName(exists=True, file_okay=False)
@@ -200,12 +200,6 @@ def skipped_lines(reading: Reading) -> list[str]:
     return [f"skipped {some(reading.skipped.sum, 'line')}", *lines]
 
 
-def expect(lines: list[str]) -> None:
-    """Says what is lacking before logs are read, which takes long."""
-    for line in lines:
-        say(f"hsp: {line}", err=True)
-
-
 def without_costs(tally: Tally, into: str | None) -> list[str]:
     """Says which regions have no cost yet in the folder's table of costs, where it has one."""
     costs = path_in(into, NAMES["costs"]) if into else ""
@@ -213,10 +207,9 @@ def without_costs(tally: Tally, into: str | None) -> list[str]:
     return [f"{costs} has no cost yet of {listed(lacking)}"] if lacking else []
 
 
-def twice(paths: Sequence[str]) -> list[str]:
-    """Names the files that are given twice, by one path or by two."""
+def say_twice(paths: Sequence[str]) -> None:
+    """Names the files that are given twice, by one path or by two, before they are read, which takes long."""
     seen: dict[tuple[int, int], str] = {}
-    lines = []
     for path in paths:
         if not os.path.isfile(path):
             continue
@@ -224,8 +217,7 @@ def twice(paths: Sequence[str]) -> list[str]:
         first = seen.setdefault((found.st_dev, found.st_ino), path)
         if first is not path:
             what = f"{path} is given twice" if first == path else f"{first} and {path} are one file"
-            lines.append(f"{what}: its queries count twice")
-    return lines
+            say(f"hsp: {what}: its queries count twice", err=True)
 
 
 def counted(logs: tuple[str, ...], reading: Reading, tally: Tally, into: Any) -> None:
@@ -286,7 +278,7 @@ def summary(logs: tuple[str, ...], reading: Reading, tally: Tally, of_any_prefix
 
 def rows_lines(output: str | None, own: Demand) -> list[str]:
     """How many rows the demand has, and whether it is a log."""
-    lines = [f"{output or 'the table'} has {some(own.rows, 'row')}"]
+    lines = [f"{output or 'the demand'} has {some(own.rows, 'row')}"]
     return lines + ([f"no table holds it, as {own.why_log}: it is a log, and is planned by prices"] if own.why_log else [])
 
 
@@ -296,15 +288,10 @@ def hours_lines(found: Chosen, folders: list[str], output: str | None, own: Dema
     return [first, f"{output} has the rows of {found.cycle.names[found.busiest]} that aren't 0", *lines]
 
 
-def mark_of(tally: Tally, logs: tuple[str, ...], unit: int | None) -> Mark:
-    """What the rows of a joined table stand for."""
-    return Mark(KINDS, unit or 1, logs, tally.asked, tally.handles)
-
-
-def of_folder(folder: str | None, output: str, mark: Mark) -> dict[str, bytes]:
-    """The folder's hsp.toml with a mark, where its own demand is written."""
+def of_folder(folder: str | None, output: str | None) -> dict[str, bytes]:
+    """The folder's hsp.toml without a table of the demand before it, where its own demand is written."""
     own = path_in(folder, NAMES["demand"]) if folder else ""
-    return marked(folder, mark) if folder and os.path.realpath(own) == os.path.realpath(output) else {}
+    return uncounted(folder) if folder and output and os.path.realpath(own) == os.path.realpath(output) else {}
 
 
 def give_demand(own: Demand) -> None:
@@ -313,12 +300,12 @@ def give_demand(own: Demand) -> None:
         give(piece)
 
 
-def write_demand(own: Demand, output: str, into: str | None, mark: Mark, files: Outputs) -> None:
-    """Writes a demand, and what its rows stand for into the folder's hsp.toml."""
+def write_demand(own: Demand, output: str, into: str | None, files: Outputs) -> None:
+    """Writes a demand, and the folder's hsp.toml where that tells of another one."""
     file = files.open(output)
     for piece in own.pieces():
         file.write(piece)
-    for path, octets in of_folder(into, output, mark).items():
+    for path, octets in of_folder(into, output).items():
         files.open(path).write(octets)
 
 
@@ -346,7 +333,7 @@ BY_HOURS = click.option(
     default=[BY_FIELD],
     show_default=True,
     callback=by_of,
-    help="of a MaxMind database; or hour or weekday-hour: a table of each",
+    help="of a MaxMind database; or hour or weekday-hour: a demand of each",
 )
 # The options that name fields of JSON and of tables.
 FIELDS = {"--client", "--handle", "--path", "--time"}
@@ -396,7 +383,7 @@ def refuse_own(logs: Sequence[str], regions: str, into: str | None, outputs: Seq
 
 
 def output_of(given: dict[str, Any], into: str | None) -> str | None:
-    """The file of the table, where one is named."""
+    """The file of the demand, where one is named."""
     return given["output"] or (path_in(into, NAMES["demand"]) if into else None)
 
 
@@ -432,7 +419,7 @@ def reading_of(logs: tuple[str, ...], regions: str, given: dict[str, Any], progr
     "--regions", metavar="FILE", type=ANY_FILE, required=True, help="a table network,region, or a MaxMind database"
 )
 @click.option("--into", metavar="DIR", type=FOLDER, help="the folder whose demand.csv is written")
-@click.option("-o", "--output", metavar="FILE", type=ANY_FILE, help="the table, in place of DIR/demand.csv")
+@click.option("-o", "--output", metavar="FILE", type=ANY_FILE, help="the demand, in place of DIR/demand.csv")
 @click.option("--log", "kept", metavar="FILE", type=ANY_FILE, help="also the queries, as a log for hsplan dispatch")
 @click.option("--jobs", type=click.IntRange(1, MOST_JOBS), metavar="N", help=JOBS)
 @with_hours
@@ -440,9 +427,9 @@ def demand(logs: tuple[str, ...], regions: str, into: str | None, kept: str | No
     """Counts the queries of access logs by region and handle.
 
     A LOG may be packed by gzip, bzip2 or xz; - is standard input. Its form is that of a handle server (server), of an
-    HTTP proxy (proxy), JSON lines (json) or a table (csv). Without --into and -o the table is printed.
+    HTTP proxy (proxy), JSON lines (json) or a table (csv). Without --into and -o the demand is printed.
 
-    With --by hour or --by weekday-hour each hour has a table, as DIR/h09/demand.csv or DIR/mon-h09/demand.csv. It has
+    With --by hour or --by weekday-hour each hour has a demand, as DIR/h09/demand.csv or DIR/mon-h09/demand.csv. It has
     the counts of the day with most queries in this hour. All have the same rows, with 0 where nothing came. Hours are
     those of one clock: that of the first time in the logs. DIR/demand.csv has the busiest hour.
     """
@@ -453,25 +440,23 @@ def demand(logs: tuple[str, ...], regions: str, into: str | None, kept: str | No
     refuse_own(logs, regions, into, [own for own in (output, kept, *tables_in(folders)) if own])
     refuse_clashes([path_in(into, NAMES["demand"])] if into else [], [kept] if kept else [])
     reading = reading_of(logs, regions, given, programs)
-    expect(twice(logs))
-    inputs = foreseen(regions, into, given, any(map(may_be_long, logs)), programs)
+    of_folder(into, output)
+    say_twice(logs)
     found = by_hours(logs, reading, given, by.cycle) if by.cycle else None
     lines = found.lines() if found else by_time(logs, reading, given)
     tally = HourTally(programs, found) if found else Tally(programs)
-    tally.joins_by(inputs)
     with in_folders(folders), together() as files:
         counted(logs, reading, tally, files.open(kept) if kept else None)
-        own = tally.demand(inputs, given["unit"])
-        lacking = (inputs.costs, tally.without_costs(inputs)) if inputs else None
-        mark = mark_of(tally, logs, given["unit"]) if own.is_joined else Mark()
+        own, lacking = tally.demand(), without_costs(tally, into)
         if isinstance(tally, HourTally):
-            mark = write_hours(tally, folders, mark, files)
+            write_hours(tally, folders, files)
         if output:
-            write_demand(own, output, into, mark, files)
+            write_demand(own, output, into, files)
         else:
             give_demand(own)
-    closing = hours_lines(found, folders, output, own, lacking) if found else rows_lines(output, own, lacking)
-    for line in [*lines, *summary(logs, reading, tally, not given["prefix"]), *closing]:
+    lines += summary(logs, reading, tally, not given["prefix"])
+    lines += hours_lines(found, folders, output, own) if found else rows_lines(output, own)
+    for line in [*lines, *lacking]:
         say(line, err=output is None)
 
 
