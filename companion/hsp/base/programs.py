@@ -380,9 +380,10 @@ class Programs:
         return dict(zip(handles, places))
 
     def where(self, inputs: Inputs, plan: str, region: str, handle: str) -> str:
-        """What a query is answered by a certificate by prices: the line of `hsplan-stream answer`."""
-        log = self.put_table(LOG_HEADERS["answer"][0], [[region, handle]])
-        return asked("hsplan-stream", "answer", *inputs.priced(plan), "--log", log).rstrip("\n")
+        """What a query is answered by a certificate: the line of `hsplan dispatch`, or of `hsplan-stream answer`."""
+        log = self.put_table(LOG_HEADERS["dispatch"][0], [[region, handle]])
+        words = ["answer", *inputs.priced(plan)] if inputs.is_log else ["dispatch", *inputs.words(), "--plan", plan]
+        return asked(inputs.program, *words, "--log", log).rstrip("\n")
 
     def fault_of_log(self, log: str) -> str:
         """The first fault of a log in which any sites and costs could be; nothing where it has none."""

@@ -111,15 +111,14 @@ def _near(words: str | None, service: Service, programs: Judged) -> tuple[Portio
     programs.hold(files_beside(words or path))
     try:
         held = in_force(path, service, programs)
-        homes, by_kind, name = held.homes, held.by_kind, held.path
+        homes, name = held.homes, held.path
     except (Missing, Unfit):
         if words:
             raise
-        by_kind = service.mark.is_joined
-        homes, name = homes_of(service, service.certificate, by_kind), "the plan that hsp plan makes"
+        homes, name = homes_of(service, service.certificate), "the plan that hsp plan makes"
         name += f", as {path} is no plan of these files" if os.path.lexists(path) else ""
     try:
-        return Portions(service, homes, programs, by_kind), f"near {name}"
+        return Portions(service, homes, programs), f"near {name}"
     except TooMany as fault:
         return None, f"{fault}, more than tables hold, so fallbacks are plain plans"
 
