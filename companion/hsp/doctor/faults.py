@@ -81,8 +81,6 @@ def _of_log(question: Question, said: Said) -> Explained | None:
         return answer_faults.streams(question, said)
     if said.word == "LogTooLong":
         return Explained(header_faults.log_too_long(question, said))
-    if said.word == "CountTooLarge":
-        return answer_faults.count_too_large(question, said)
     if "row" not in said.numbers:
         return None
     faulty = numbered_row(question, "log", said)

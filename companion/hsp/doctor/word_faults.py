@@ -9,7 +9,6 @@ from hsp.base.grammar import (
     COMMANDS,
     FILES,
     GREATEST_ID,
-    GREATEST_UNIT,
     LONGEST_HANDLE,
     MOST_FRONTS,
     MOST_SERVERS,
@@ -262,14 +261,12 @@ def not_utf8(line: Line, word: Word) -> Finding:
 
 
 def value_fault(line: Line, word: str) -> Finding:
-    """A value that its option doesn't take: `BadOption`, `BadServers`, `BadIndex`, `BadFronts`, `BadUnit` or
-    `BadFront`."""
+    """A value that its option doesn't take: `BadOption`, `BadServers`, `BadIndex`, `BadFronts` or `BadFront`."""
     advised = {
         "BadOption": ("option", "write na, local or handle"),
         "BadServers": ("servers", f"write the number of the site's servers, 1 to {MOST_SERVERS}"),
         "BadIndex": ("index", f"write the index of the value, a whole number up to {GREATEST_ID}"),
         "BadFronts": ("fronts", f"write how many dispatchers there are, 1 to {MOST_FRONTS}"),
-        "BadUnit": ("unit", f"write a whole number from 1 to {GREATEST_UNIT}, as 1000"),
         "BadFront": ("front", "write a number below that of --fronts: the first front is 0"),
     }
     name, remedy = advised[word]

@@ -5,13 +5,13 @@ from __future__ import annotations
 import os
 import re
 import tomllib
-from typing import Any
+from typing import Any, NamedTuple
 
 from hsp.base.bounds import whole
 from hsp.base.paths import path_in
 from hsp.base.unfit import Unfit
 
-TITLES, TABLE = "hsp.toml", "demand"
+TITLES, TABLE, DEMAND = "hsp.toml", "demand", "demand.csv"
 HEAD = re.compile(r"\s*\[\s*[\"']?demand[\"']?\s*\]\s*(#.*)?")
 # A text between quotes; and no more points stand beside such texts in a line, since long keys take long to be read.
 QUOTED = re.compile(r"\"(?:\\.|[^\"\\])*\"|'[^']*'")
@@ -35,23 +35,31 @@ def titles_of(folder: str) -> dict[str, Any]:
         raise Unfit(f"{path}: not TOML: {error}") from error
 
 
-def outdated(said: dict[str, Any]) -> tuple[str, str]:
-    """What hsp.toml says of a demand that hsp plans no longer, and the key that says it; nothing of another demand."""
-    table = said.get(TABLE)
+class Outdated(NamedTuple):
+    """A hsp.toml that says of the demand beside it what hsp plans no longer, the key that says it, and what it says."""
+
+    path: str
+    key: str
+    message: str
+
+
+def outdated(demand: str) -> Outdated | None:
+    """What says that a demand is outdated; nothing of any other demand."""
+    folder, name = os.path.split(demand)
+    table = titles_of(folder).get(TABLE) if name == DEMAND else None
     own = table if isinstance(table, dict) else {}
     if own.get("rows") == "kinds":
-        return "the demand was joined by kinds, and hsp plans none of these", "rows"
+        return Outdated(path_in(folder, TITLES), "rows", "the demand was joined by kinds, and hsp plans rows of handles")
     if own.get("unit", 1) != 1:
-        return "the demand counts in units, and hsp plans queries", "unit"
-    return "", ""
+        return Outdated(path_in(folder, TITLES), "unit", "the demand counts in units, and hsp plans queries")
+    return None
 
 
 def insist_counted(demand: str) -> None:
-    """Refuses a demand that is outdated by the hsp.toml beside it."""
-    folder, name = os.path.split(demand)
-    message, _ = outdated(titles_of(folder)) if name == "demand.csv" else ("", "")
-    if message:
-        raise Unfit(f"{path_in(folder, TITLES)}: {message}; {REMEDY}")
+    """Refuses a demand that is outdated."""
+    old = outdated(demand)
+    if old:
+        raise Unfit(f"{old.path}: {old.message}; {REMEDY}")
 
 
 def uncounted(folder: str) -> dict[str, bytes]:

@@ -11,8 +11,8 @@ from hsp.base.bounds import whole
 from hsp.base.numbers import some
 from hsp.base.paths import path_in
 from hsp.base.programs import Certificate, Inputs, Missing, Programs, Refused
-from hsp.base.unfit import Unfit
 from hsp.base.settings import hosts_text, settings_text
+from hsp.base.unfit import Unfit
 from hsp.plans.plans import capacity_file, servers_at
 from hsp.plans.service import NAMES, VALUES, Service, service_of
 from hsp.plans.titles import TITLES, insist_counted
