@@ -26,7 +26,7 @@ from hsp.plans.whatif import Changes, standard
 
 from conftest import Hsp
 from test_sites import invoke
-from test_units import Place, random_service, written
+from services import Place, random_service, rows, written
 
 Example = Callable[[str], Path]
 HEAD = "region,handle,count\n"
@@ -161,7 +161,7 @@ def test_a_plan_has_the_sums_of_the_reports(hsp: Hsp, wide: Path) -> None:
     wanted = [{"region": name, "queries": int(asked), "cost": int(cost)} for asked, cost, name in regions[:-1]]
     assert said["regions"] == wanted
     assert regions[-1] == ["total", str(said["queries"]), str(said["cost"])]
-    assert (said["rows_are"], said["unit"]) == ("log", 1)
+    assert said["rows_are"] == "log"
     rows = list(csv.DictReader(io.StringIO(hsp("plan", str(wide), "--csv", "--no-save").stdout)))
     for asked, _, name in regions[:-1]:
         assert sum(int(it["queries"]) for it in rows if it["region"] == name) == int(asked)
@@ -210,14 +210,20 @@ def test_a_log_is_planned_as_the_table_of_its_rows(
 
 
 def test_a_shorter_log_has_a_row_for_each_kind(tmp_path: Path, small: None) -> None:
-    """As hsplan-stream joins the rows of the table."""
+    """With the handle of the kind's first row, and the sum of all."""
     service = random_service(tmp_path, 3, 300)
     invoke("demand", service.log, "--regions", tmp_path / "networks.csv", "--into", service.folder)
     own, programs = read(service.folder)
-    kinds = sorted(csv.reader(io.StringIO(programs.kinds(own.inputs, own.inputs.demand, None))))
+    asked = rows(Path(own.inputs.demand))
+    places = programs.places(own.inputs, dict.fromkeys(handle for _, handle, _ in asked))
+    kinds: dict[tuple[object, ...], tuple[str, str, int]] = {}
+    for region, handle, count in asked:
+        kind = region, *(places[handle, site.name] for site in own.sites)
+        first = kinds.get(kind, (region, handle, 0))
+        kinds[kind] = (*first[:2], first[2] + int(count))
     shorter = joined(own, programs).demand
-    assert shorter != own.inputs.demand and len(kinds) < own.log.rows  # type: ignore[union-attr]
-    assert sorted(csv.reader(io.StringIO(Path(shorter).read_text()))) == kinds
+    assert shorter != own.inputs.demand and len(kinds) < len(asked)
+    assert rows(Path(shorter)) == [[region, handle, str(count)] for region, handle, count in kinds.values()]
     assert joined(own, programs).demand == shorter
 
 

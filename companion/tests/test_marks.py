@@ -21,7 +21,7 @@ from hsp.plans.service import read_service
 from conftest import Hsp
 from test_fleet import worker
 from test_sites import invoke
-from test_units import random_service, rows
+from services import random_service, rows
 
 assert worker  # a fixture, which is found by its name here too
 JOINED = Mark(KINDS, 1000, ("access.log", 'odd "name"\\.log'), 109_614, 36_419)

@@ -13,7 +13,7 @@ from typing import Any
 
 import pytest
 
-from hsp.base import files, signals, units
+from hsp.base import files, signals
 
 from hsp.intake import forms, logs, regions
 
@@ -28,7 +28,7 @@ from hsp.plans import service
 
 from conftest import TOP
 from test_sites import invoke
-from test_units import OTHER, TWO_IN_ONE, Place, host, written
+from services import OTHER, TWO_IN_ONE, Place, host, written
 
 Example = Callable[[str], Path]
 
@@ -172,23 +172,6 @@ def test_signals_of_several_steps(monkeypatch: pytest.MonkeyPatch) -> None:
             signals._late.append(15)
         assert raised == []
     assert (raised, signals._late, signals._depth) == ([15], [], [])
-
-
-def test_numbers_that_units_do_not_divide() -> None:
-    assert units.capacities_in_units(b"a,b\nx,1999\ny,0\nz,01\n\nw,-5\n", 1000) == b"a,b\nx,1\ny,0\nz,01\n\nw,-5\n"
-    limit = csv.field_size_limit(131_072)  # as in a process that reads no faulty rows
-    try:
-        for odd in (b"\xff,1\n", b'"' + b"x" * 200_000 + b'",5\n'):
-            assert units.capacities_in_units(odd, 10) == odd
-    finally:
-        csv.field_size_limit(limit)
-    assert [units.has_hosts(it) for it in (b"[[host]]\n", b"host = []\n", b"[[", b"\xff", b"a=" + b"[" * 9999)] == [
-        True,
-        False,
-        False,
-        False,
-        False,
-    ]
 
 
 def test_costs_that_are_no_table(tmp_path: Path) -> None:

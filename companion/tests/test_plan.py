@@ -187,13 +187,12 @@ def test_a_part_is_nothing_or_all_only_where_it_is(share: float, words: str) -> 
 
 NEAR = {"near/demand.csv", "near/costs.csv", "near/plan.txt"}
 LESS = {"capacity-less-reserve.csv", "settings-less-reserve.toml"}
-UNITS = {"capacity-in-units.csv", "settings-in-units.toml"}
 
 
 def kept_in(folder: Path) -> set[str]:
     """The files that runs have kept beside a plan."""
     names = {str(path.relative_to(folder)) for path in folder.rglob("*") if path.is_file()}
-    return names & (NEAR | LESS | UNITS | {"near/mine"})
+    return names & (NEAR | LESS | {"near/mine"})
 
 
 @pytest.fixture
@@ -213,14 +212,6 @@ def test_a_plain_plan_takes_away_what_an_earlier_one_kept(hsp: Hsp, limited: Pat
         assert kept_in(limited) == NEAR | LESS, "another plan still stands by them"
     hsp("plan", str(limited), "--reserve", "1")
     assert kept_in(limited) == LESS and not (limited / "near").exists()
-    counted = re.sub(r",(\d+)$", r",\g<1>0", (limited / "capacity.csv").read_text(), flags=re.M)
-    (limited / "capacity.csv").write_text(counted)
-    settings = (limited / "settings.toml").read_text()
-    (limited / "settings.toml").write_text(settings.replace("limit = 2000", "limit = 20000"))
-    (limited / "hsp.toml").write_text('[demand]\nrows = "handles"\nunit = 10\n')
-    hsp("plan", str(limited))
-    assert kept_in(limited) == UNITS
-    (limited / "hsp.toml").unlink()
     hsp("plan", str(limited))
     assert kept_in(limited) == set()
 
