@@ -71,8 +71,8 @@ def measured(room: Path, *words: object) -> tuple[int, str, int]:
     return done.returncode, done.stderr, 1024 * int((room / "octets").read_text())
 
 
-def test_no_file_is_read_whole_beyond_the_limit(tmp_path: Path, example: Example) -> None:
-    large, log, folder = sparse(tmp_path / "large", LARGEST + 1), tmp_path / "log", example("two-sites")
+def test_no_file_is_read_whole_beyond_the_limit(tmp_path: Path) -> None:
+    large, log = sparse(tmp_path / "large", LARGEST + 1), tmp_path / "log"
     log.write_text("client,handle\n192.0.2.1,20.500.1/a\n")
     networks = tmp_path / "networks.csv"
     networks.write_text("network,region\n192.0.2.0/24,eu\n")
@@ -80,16 +80,13 @@ def test_no_file_is_read_whole_beyond_the_limit(tmp_path: Path, example: Example
     site.write_bytes(PARIS)
     empty = tmp_path / "empty"
     empty.mkdir()
-    sparse(empty / "settings.toml", LARGEST + 1)
+    for name in ("settings.toml", "costs.csv"):
+        sparse(empty / name, LARGEST + 1)
     for path in (large, Path("/dev/zero")):
-        for words in (
-            ["sites", path],
-            ["demand", log, "--regions", path],
-            ["demand", log, "--regions", networks, "--into", folder, "--costs", path],
-            ["fleet", "demand", log, "--regions", path],
-        ):
-            if not (path == Path("/dev/zero") and "--costs" in words):  # which is no file
-                assert invoke(*words, status=1).stderr.endswith(f"{path}: {TOO_LARGE}\n")
+        for words in (["sites", path], ["demand", log, "--regions", path], ["fleet", "demand", log, "--regions", path]):
+            assert invoke(*words, status=1).stderr.endswith(f"{path}: {TOO_LARGE}\n")
+    said = invoke("demand", log, "--regions", networks, "--into", empty, status=1).stderr
+    assert said.endswith(f"costs.csv: {TOO_LARGE}\n")
     assert invoke("sites", site, "--into", empty, status=1).stderr.endswith(f"settings.toml: {TOO_LARGE}\n")
     assert len(whole(str(sparse(tmp_path / "most", LARGEST)))) == LARGEST
 

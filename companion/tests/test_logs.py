@@ -149,7 +149,7 @@ def test_a_handle_with_a_line_end_is_refused(tmp_path: Path, end: str) -> None:
 
 
 def test_a_plan_has_the_sums_of_the_reports(hsp: Hsp, wide: Path) -> None:
-    """Of 8,300 kinds, which no table holds."""
+    """Of 8,300 rows, which no table holds."""
     said = json.loads(hsp("plan", str(wide), "--json").stdout)
     words = [*priced(wide), "--log", str(wide / "demand.csv")]
     assert stream("check", *words) == "yes\n"
@@ -316,13 +316,6 @@ def test_where_says_which_file_lacks_what(hsp: Hsp, example: Example) -> None:
     demand.write_text("region,handle,count\nus,20.500.1234/film-5,3\nus,20.500.1234/film-6,0\n")
     for region, handle, answer, why in [
         ("US", "20.500.1234/film-5", "unknown", f"{costs} has no cost of US at any site; did you mean us?"),
-        ("asia", "20.500.1234/film-5", "unknown", f"{demand} has no row of asia"),
-        (
-            "us",
-            "20.500.1234/dataset-7",
-            "unknown",
-            f"{demand} has no row of us for this handle, nor for one with the same servers",
-        ),
         ("us", "20.500.1234/film-6", "spent", f"{demand} counts 0 queries for it"),
         ("us", "film", "refused BadHandle NoSlash", None),
     ]:
@@ -332,6 +325,15 @@ def test_where_says_which_file_lacks_what(hsp: Hsp, example: Example) -> None:
         said = json.loads(hsp("where", str(folder), region, handle, "--json", status=1).stdout)
         assert (said["answer"], said["why"]) == (answer, why)
     assert json.loads(hsp("where", str(folder), "us", "20.500.1234/film-5", "--json").stdout)["why"] is None
+
+
+def test_where_of_a_handle_that_a_table_lacks_is_by_prices(hsp: Hsp, example: Example) -> None:
+    folder = example("two-sites")
+    said = json.loads(hsp("where", str(folder), "eu", "20.500.1234/dataset-24", "--json").stdout)
+    assert said["why"] == f"{folder}/demand.csv has no row of it, so this is by prices of the same demand"
+    (folder / "own.prices").write_text(stream("plan", *priced(folder)[:-2], "--log", folder / "demand.csv"))
+    (folder / "asked.csv").write_text("region,handle\neu,20.500.1234/dataset-24\n")
+    assert said["answer"] == stream("answer", *priced(folder, "own.prices"), "--log", folder / "asked.csv").strip()
 
 
 def test_a_changed_capacity_makes_a_plan_old(hsp: Hsp, wide: Path, tmp_path: Path) -> None:
