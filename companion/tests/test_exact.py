@@ -17,7 +17,6 @@ from hsp.base import text
 
 from hsp.base.programs import Programs
 from hsp.base.unfit import Unfit
-from hsp.doctor import mark_doubts
 from hsp.fleet import engine
 from hsp.fleet.answers import blocks
 from hsp.intake import logs, prefixes, progress, reader, tally

@@ -255,7 +255,7 @@ def without_answers(question: Question) -> Question:
 
     A check by prices has no demand, and reads its other inputs first.
     """
-    if question.command not in ("check", "dispatch", "report", "answer", "plan") or "demand" not in question.files:
+    if question.command not in ("check", "dispatch", "report", "plan") or "demand" not in question.files:
         return question
     files = {role: draft for role, draft in question.files.items() if role not in ("plan", "log", "file")}
     if "values" in question.absent:

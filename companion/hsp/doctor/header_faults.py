@@ -75,7 +75,7 @@ def _of_names(text: Text, wanted: list[str]) -> Cause | None:
     names = [name.strip().strip('"') for name in first.split(",")]
     mended = "\n".join([want, *text.lines[1:]])
     if first == LOG_HEADERS["dispatch"][0] and want == HEADERS["demand"]:
-        remedy = f"count it: hsp demand {shell_word(text.path)}; or plan it by hsplan-stream plan, which counts it"
+        remedy = "write a row for each region and handle, with its count; or hsplan-stream plan takes the log as it is"
         return Cause("this is a log, whose rows aren't counted yet", remedy)
     if first.casefold() in wanted or ",".join(names).casefold() in wanted:
         return Cause("another case of letters", f"write {want}", mended)
