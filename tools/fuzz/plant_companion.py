@@ -59,10 +59,8 @@ TESTS = {
     "base/bounds": "test_bounds",
     "base/": "test_exact test_text test_writes test_units test_sites test_plan",
     "intake/site": "test_sites test_bounds test_text",
-    "intake/bring": "test_demand test_sites test_writes test_marks test_demand_time",
-    "intake/kinds": "test_kinds",
-    "intake/outlook": "test_exact test_kinds test_demand",
-    "intake/": "test_exact test_demand test_demand_time test_bounds test_marks test_sites test_writes",
+    "intake/bring": "test_demand test_sites test_writes test_demand_time",
+    "intake/": "test_exact test_demand test_demand_time test_bounds test_sites test_writes",
     "": "test_plan test_sites test_whatif test_units",
 }
 SWAPPED: dict[type, type] = {
