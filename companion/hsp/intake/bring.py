@@ -279,7 +279,9 @@ def summary(logs: tuple[str, ...], reading: Reading, tally: Tally, of_any_prefix
 def rows_lines(output: str | None, own: Demand) -> list[str]:
     """How many rows the demand has, and whether it is a log."""
     lines = [f"{output or 'the demand'} has {some(own.rows, 'row')}"]
-    return lines + ([f"no table holds it, as {own.why_log}: it is a log, and is planned by prices"] if own.why_log else [])
+    if own.why_log:
+        lines.append(f"no table holds it, as {own.why_log}: it is a log, and is planned by prices")
+    return lines
 
 
 def hours_lines(found: Chosen, folders: list[str], output: str | None, own: Demand) -> list[str]:
