@@ -422,7 +422,7 @@ def test_a_page_without_scripts_has_its_hours(browser: Any, page_of_day: Path, t
     plain = tmp_path / "plain.html"
     plain.write_text(text, encoding="utf-8")
     page = Page(browser, plain, 1200, "light")
-    assert "Everyone is served at every hour." in page.text() and "hsplan-stream answer" in page.text()
+    assert "Everyone is served at every hour." in page.text() and "hsplan dispatch" in page.text()
 
 
 def test_hours_and_losses_of_a_log(hsp: Hsp, day: Path, monkeypatch: pytest.MonkeyPatch) -> None:

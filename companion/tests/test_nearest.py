@@ -222,7 +222,7 @@ def test_beyond_the_tables_a_line_says_so(hsp: Hsp, example: Example, monkeypatc
     monkeypatch.setattr("hsp.scenarios.nearest.MOST_DEMAND_ROWS", 30)
     with pytest.raises(TooMany, match="38 portions and 6 regions with their homes"):
         service = read_service(str(folder), Programs(), {})
-        Portions(service, homes_of(service, service.certificate, False), Judged())
+        Portions(service, homes_of(service, service.certificate), Judged())
 
 
 def test_what_had_a_server_that_is_gone_is_moved(hsp: Hsp, example: Example) -> None:
@@ -230,11 +230,11 @@ def test_what_had_a_server_that_is_gone_is_moved(hsp: Hsp, example: Example) -> 
     counts as moved, and no portion is at home."""
     folder = example("two-sites")
     service = read_service(str(folder), Programs(), {})
-    homes = homes_of(service, service.certificate, False)
+    homes = homes_of(service, service.certificate)
     renamed = {
         key: {(site, server + 10): number for (site, server), number in own.items()} for key, own in homes.items()
     }
-    assert all(it.home is None for it in portions_of(service, renamed, False))
+    assert all(it.home is None for it in portions_of(service, renamed))
     assert moved_between(service, renamed, service.certificate) == service.asked == 6_282
     programs = Judged()
     portions = Portions(service, renamed, programs)
@@ -331,7 +331,7 @@ def test_a_plan_of_other_capacities_is_a_plan_in_force(tmp_path: Path, seed: int
     settings = (folder / "settings.toml").read_text()
     (folder / "settings.toml").write_text(re.sub(r"(limit = \d+)", r"\g<1>0", settings))
     now = read_service(str(folder), programs, {})
-    assert in_force(str(folder), now, programs).homes == homes_of(then, then.certificate, False)
+    assert in_force(str(folder), now, programs).homes == homes_of(then, then.certificate)
 
 
 def test_json_has_what_moves_and_what_lies_ahead(hsp: Hsp, example: Example) -> None:

@@ -105,7 +105,7 @@ def test_fallbacks_move_the_fewest(tmp_path: Path, seed: int) -> None:
     service = read_service(str(folder), programs, {})
     if not service.certificate.is_plan:
         return
-    portions = Portions(service, homes_of(service, service.certificate, False), programs)
+    portions = Portions(service, homes_of(service, service.certificate), programs)
     old = {(row, site): queries for row, site, queries in service.certificate.uses}
     for found in survived(service, programs, portions):
         if found.cost is None or found.moved is None:

@@ -57,7 +57,7 @@ def _beforehand(service: Service, programs: Judged, read: float, regions: int, p
     if not service.log or number * read / lanes() <= SAID:
         return
     of = f"all demand, {some(regions, 'region')} and {some(purchases, 'purchase')}"
-    rows = f"{service.rows_words} are joined by kinds, about {max(1, round(read)):,} seconds"
+    rows = f"{service.rows_words} are joined where they have the same servers, about {max(1, round(read)):,} seconds"
     say(f"hsp: {rows}; then some {number:,} plans are made, of {of}", err=True)
     inputs, begun = joined(service, programs), time.monotonic()
     programs.put_away(programs.plan(inputs)[1])

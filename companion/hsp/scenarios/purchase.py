@@ -53,10 +53,7 @@ class Lack:
 
 @dataclass
 class Purchase:
-    """Room that serves every loss; the least that does by the weighted sets; and losses that no room serves.
-
-    `spare` is what a server's capacity has beyond whole units: so much less has to be bought there.
-    """
+    """Room that serves every loss; the least that does by the weighted sets; and losses that no room serves."""
 
     bought: dict[Server, int] = field(default_factory=dict)
     lacks: list[Lack] = field(default_factory=list)
