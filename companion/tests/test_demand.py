@@ -543,3 +543,14 @@ def test_a_row_that_hsplan_refuses_is_shown() -> None:
     refused = "hsplan refuses this demand: demand: BadName row 1 in the row 'no name,20.500.1/b,1'"
     with pytest.raises(Exception, match=refused):
         tally.demand()
+
+
+@pytest.mark.parametrize("log", ["log", "absent"])
+def test_what_tells_of_an_older_demand_is_taken_out_or_named(tmp_path: Path, log: str) -> None:
+    """Before a log is read."""
+    (tmp_path / "log").write_text(server_line(asked(1, 5)[0]))
+    folder = service(tmp_path)
+    (folder / "hsp.toml").write_text('demand = {rows = "kinds"}\n')
+    said = invoke("demand", tmp_path / log, "--regions", regions_file(tmp_path), "--into", folder, status=1).stderr
+    assert said.startswith(f"hsp: {folder}/hsp.toml: its table [demand] can't be taken out")
+    assert not (folder / "demand.csv").exists()

@@ -59,8 +59,8 @@ TESTS = {
     "base/bounds": "test_bounds",
     "base/": "test_exact test_text test_writes test_sites test_plan",
     "intake/site": "test_sites test_bounds test_text",
-    "intake/bring": "test_demand test_sites test_writes test_titles test_demand_time",
-    "intake/": "test_exact test_demand test_demand_time test_bounds test_titles test_sites test_writes",
+    "intake/bring": "test_demand test_sites test_writes test_demand_time",
+    "intake/": "test_exact test_demand test_demand_time test_bounds test_sites test_writes",
     "": "test_plan test_sites test_whatif",
 }
 SWAPPED: dict[type, type] = {

@@ -125,7 +125,7 @@ def demand(logs: tuple[str, ...], regions: str, into: str | None, keep: str | No
     seek = regions_in(regions, given["by"], given["elsewhere"], programs)
     reading, tally = Reading(form, seek, Judge(programs)), Tally(programs)
     say_twice([log.path for log in named if not log.host])
-    of_folder(into, output)
+    of_folder(into, output)  # what can't be written is refused before logs are read, which takes long
     asked = {"form": fields_of_form(form), "by": given["by"], "elsewhere": given["elsewhere"], "span": astuple(span)}
     files = {"networks": whole(regions), **kit.programs(), "hsp.zip": kit.companion()}
     targets: Targets = [(log.kept, log.host) for log in named]

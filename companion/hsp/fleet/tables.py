@@ -33,8 +33,8 @@ class Table:
         self.octets += weight(itertools.islice(reversed(counts), len(counts) - before))
         if len(counts) > MOST_PAIRS or self.octets > MOST_HELD:
             raise Unfit(
-                f"{self.log}: a part passes on {MOST_PAIRS:,} pairs of region and handle at most, fewer where handles are "
-                "long, and this log has more; hsp demand counts any number"
+                f"{self.log}: a part passes on {MOST_PAIRS:,} pairs of region and handle at most, fewer where handles "
+                "are long, and this log has more; hsp demand counts any number"
             )
 
     @property

@@ -208,7 +208,7 @@ def without_costs(tally: Tally, into: str | None) -> list[str]:
 
 
 def say_twice(paths: Sequence[str]) -> None:
-    """Names the files that are given twice, by one path or by two, before they are read, which takes long."""
+    """Names the files that are given twice, by one path or by two."""
     seen: dict[tuple[int, int], str] = {}
     for path in paths:
         if not os.path.isfile(path):
@@ -279,7 +279,9 @@ def summary(logs: tuple[str, ...], reading: Reading, tally: Tally, of_any_prefix
 def rows_lines(output: str | None, own: Demand) -> list[str]:
     """How many rows the demand has, and whether it is a log."""
     lines = [f"{output or 'the demand'} has {some(own.rows, 'row')}"]
-    return lines + ([f"no table holds it, as {own.why_log}: it is a log, and is planned by prices"] if own.why_log else [])
+    if own.why_log:
+        lines.append(f"no table holds it, as {own.why_log}: it is a log, and is planned by prices")
+    return lines
 
 
 def hours_lines(found: Chosen, folders: list[str], output: str | None, own: Demand) -> list[str]:
@@ -440,7 +442,7 @@ def demand(logs: tuple[str, ...], regions: str, into: str | None, kept: str | No
     refuse_own(logs, regions, into, [own for own in (output, kept, *tables_in(folders)) if own])
     refuse_clashes([path_in(into, NAMES["demand"])] if into else [], [kept] if kept else [])
     reading = reading_of(logs, regions, given, programs)
-    of_folder(into, output)
+    of_folder(into, output)  # what can't be written is refused before logs are read, which takes long
     say_twice(logs)
     found = by_hours(logs, reading, given, by.cycle) if by.cycle else None
     lines = found.lines() if found else by_time(logs, reading, given)
