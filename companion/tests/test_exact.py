@@ -3,13 +3,11 @@
 from __future__ import annotations
 
 import doctest
-import io
 import os
 import time
 from collections import Counter
 from collections.abc import Iterator
 from pathlib import Path
-from types import SimpleNamespace
 
 import pytest
 

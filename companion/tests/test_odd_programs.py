@@ -3,7 +3,6 @@
 from __future__ import annotations
 
 import contextlib
-import csv
 import errno
 import os
 from collections.abc import Callable
@@ -17,7 +16,7 @@ from hsp.base import files, signals
 
 from hsp.intake import forms, logs, regions
 
-from hsp.base.programs import Inputs, Missing, Programs
+from hsp.base.programs import Missing, Programs
 from hsp.base.unfit import Unfit
 from hsp.commands import shared
 from hsp.doctor import examined, examined_words, faults, guard

@@ -47,11 +47,11 @@ def outdated(demand: str) -> Outdated | None:
     """What says that a demand is outdated; nothing of any other demand."""
     folder, name = os.path.split(demand)
     table = titles_of(folder).get(TABLE) if name == DEMAND else None
-    own = table if isinstance(table, dict) else {}
+    own, path = table if isinstance(table, dict) else {}, path_in(folder, TITLES)
     if own.get("rows") == "kinds":
-        return Outdated(path_in(folder, TITLES), "rows", "the demand was joined by kinds, and hsp plans rows of handles")
+        return Outdated(path, "rows", "the demand was joined by kinds, and hsp plans rows of handles")
     if own.get("unit", 1) != 1:
-        return Outdated(path_in(folder, TITLES), "unit", "the demand counts in units, and hsp plans queries")
+        return Outdated(path, "unit", "the demand counts in units, and hsp plans queries")
     return None
 
 
