@@ -1,18 +1,15 @@
-"""What tests share: small services as texts, a random one with the queries of its log, and the loads of a plan."""
+"""What tests share: small services as texts, and a random one with the queries of its log."""
 
 from __future__ import annotations
 
 import csv
 import ipaddress
 import random
-from collections import Counter
 from dataclasses import dataclass
 from pathlib import Path
 
-from hsp.base.programs import Programs
 from hsp.intake.records import Interface, ServerRecord, SiteRecord
 from hsp.intake.skeleton import BOTH
-from hsp.plans.service import read_service
 
 NETWORKS = "network,region\n10.1.0.0/16,eu\n10.2.0.0/16,us\n10.3.0.0/16,asia\n"
 CLIENTS = {"10.1.0.1": "eu", "10.2.0.1": "us", "10.3.0.1": "asia"}
@@ -55,19 +52,6 @@ def written(folder: Path, **texts: str) -> Path:
 
 def rows(path: Path) -> list[list[str]]:
     return list(csv.reader(path.read_text().splitlines()))[1:]
-
-
-def loads_of(folder: Path) -> Counter[tuple[str, int]]:
-    """The load of each server by the uses of plan.txt and the places of hsplan-stream."""
-    demand = rows(folder / "demand.csv")
-    places = Programs().places(read_service(str(folder), Programs(), {}).inputs, [it[1] for it in demand])
-    sites = [it.name for it in read_service(str(folder), Programs(), {}).sites]
-    loads: Counter[tuple[str, int]] = Counter()
-    for line in (folder / "plan.txt").read_text().splitlines():
-        if line.startswith("use "):
-            row, site, queries = map(int, line.split()[1:])
-            loads[sites[site], places[demand[row][1], sites[site]] + 1] += queries
-    return loads
 
 
 TWO_IN_ONE = Place("north", 2, ["192.0.2.1", "192.0.2.1"])
@@ -122,14 +106,3 @@ def random_service(tmp_path: Path, seed: int, handles: int = 400, share: float =
     )
     (tmp_path / "networks.csv").write_text(NETWORKS)
     return Random(folder, log, hosts, sites)
-
-
-def machines(service: Random, loads: Counter[tuple[str, int]]) -> Counter[str]:
-    """What each machine takes."""
-    sums: Counter[str] = Counter()
-    for it in service.sites:
-        for at, address in enumerate(it.addresses, 1):
-            sums[address] += loads[it.name, at]
-    return sums
-
-
