@@ -100,7 +100,7 @@ LOG_HEADERS: dict[str, tuple[str, ...]] = {
     "answer": ("region,handle", "region,body"),
     "check": ("region,handle", "region,handle,count"),
     "report": ("region,handle", "region,handle,count"),
-    "faults": ("region,handle", "region,body", "front,region,handle", "region,handle,count", "handle"),
+    "faults": ("region,handle", "region,body", "front,region,handle", "handle", "region,handle,count"),
 }
 LOG_HEAD = LOG_HEADERS["dispatch"][0].encode() + b"\n"
 

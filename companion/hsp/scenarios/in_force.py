@@ -82,7 +82,7 @@ def _of_rows(service: Service, text: str, path: str) -> Certificate:
 
 def _beside(path: str, now: Service, programs: Programs) -> Service:
     """The service whose files lie beside a certificate. A file that isn't there is today's."""
-    folder = os.path.dirname(path)
+    folder = os.path.dirname(path) or "."
     there = {role: path_in(folder, name) for role, name in {**NAMES, "values": VALUES}.items()}
     there = {role: own for role, own in there.items() if os.path.isfile(own)}
     if all(os.path.realpath(own) == os.path.realpath(getattr(now.inputs, role) or "") for role, own in there.items()):
