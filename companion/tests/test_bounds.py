@@ -32,7 +32,7 @@ from hsp.intake import forms
 from hsp.intake.forms import Remembered
 from hsp.intake.logs import MOST_OF_LINE, Skipped, numbered, opened
 from hsp.intake.queries import Judge
-from hsp.intake.regions import DATABASE_MARK, named_in
+from hsp.intake.regions import DATABASE_MARK, regions_in
 from hsp.intake.sitefiles import Files
 from hsp.intake.tally import Tally
 from hsp.plans.service import settings_in, table
@@ -92,12 +92,13 @@ def test_no_file_is_read_whole_beyond_the_limit(tmp_path: Path) -> None:
 
 
 def test_a_database_may_be_larger_than_what_is_read_whole(tmp_path: Path) -> None:
+    pytest.importorskip("maxminddb")
     path = sparse(tmp_path / "large.mmdb", LARGEST + 1)
     with open(path, "ab") as file:
         file.write(DATABASE_MARK)
-    assert named_in(str(path), None) == []
-    with pytest.raises(Unfit, match="at most"):
-        named_in(str(sparse(tmp_path / "table", LARGEST + 1)), None)
+    for other, why in ((path, "not a MaxMind database"), (sparse(tmp_path / "table", LARGEST + 1), "at most")):
+        with pytest.raises(Unfit, match=why):
+            regions_in(str(other), "a", None)
 
 
 def test_standard_input_has_the_limit_too() -> None:

@@ -28,7 +28,7 @@ from hsp.fleet.session import Targets, place_of, session, with_cluster
 from hsp.fleet.split import Parted
 from hsp.intake.bring import FOLDER
 from hsp.plans.answering import less_reserve
-from hsp.plans.service import NAMES, inputs_in, newer_than
+from hsp.plans.service import inputs_in, newer_than
 
 SUFFIX = ".answers"
 # How a certificate by prices begins.

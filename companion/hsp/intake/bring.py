@@ -32,7 +32,7 @@ from hsp.intake.hours import CYCLES, Chosen, Cycle, chosen
 from hsp.intake.joining import block, capacity_rows, joined, lines_of, read_back
 from hsp.intake.progress import Gauge, Progress
 from hsp.intake.queries import Judge, Reading
-from hsp.intake.regions import is_table, named_in, regions_in
+from hsp.intake.regions import is_table, regions_in
 from hsp.intake.side_by_side import MOST_JOBS, parts_of
 from hsp.intake.sitefiles import Files, Found
 from hsp.intake.tally import Demand, Tally
