@@ -12,11 +12,11 @@ _hsp_commands() {
 _hsp_options() {
     case $1 in
         "day") echo "--settings --costs --capacity --values --week --reserve --near --unit --all --output --no-save --csv --help" ;;
-        "demand") echo "--regions --into --output --log --jobs --format --regex --client --handle --path --from --to --busiest-hour --time --prefix --elsewhere --by --unit --settings --values --costs --help" ;;
+        "demand") echo "--regions --into --output --log --jobs --format --regex --client --handle --path --from --to --busiest-hour --time --prefix --elsewhere --by --help" ;;
         "doctor") echo "--settings --demand --costs --capacity --values --strict --json --help" ;;
         "export haproxy") echo "--settings --demand --costs --capacity --values --into --regions --elsewhere --listen --certificate --trusted --watch --socket --proxy --reserve --help" ;;
-        "fleet demand") echo "--regions --into --output --keep --format --regex --client --handle --path --from --to --busiest-hour --time --prefix --elsewhere --by --unit --settings --values --costs --workers --scheduler --tls-ca --tls-cert --tls-key --installed --patience --help" ;;
-        "fleet dispatch") echo "--fronts --plan --any-handle --unit --workers --scheduler --tls-ca --tls-cert --tls-key --installed --patience --help" ;;
+        "fleet demand") echo "--regions --into --output --keep --format --regex --client --handle --path --from --to --busiest-hour --time --prefix --elsewhere --by --workers --scheduler --tls-ca --tls-cert --tls-key --installed --patience --help" ;;
+        "fleet dispatch") echo "--fronts --plan --workers --scheduler --tls-ca --tls-cert --tls-key --installed --patience --help" ;;
         "grow") echo "--settings --demand --costs --capacity --values --percent --unit --json --help" ;;
         "new") echo "--example --help" ;;
         "plan") echo "--settings --demand --costs --capacity --values --unit --reserve --near --more --all --output --no-save --csv --json --help" ;;

@@ -27,15 +27,15 @@ from hsp.base.programs import Programs
 from hsp.base.unfit import Unfit
 from hsp.doctor import guard
 from hsp.doctor.findings import Place, Words, found
-from hsp.fleet import answers, tables
+from hsp.fleet import answers
 from hsp.intake import forms
 from hsp.intake.forms import Remembered
 from hsp.intake.logs import MOST_OF_LINE, Skipped, numbered, opened
 from hsp.intake.queries import Judge
-from hsp.intake.regions import DATABASE_MARK, named_in
+from hsp.intake.regions import DATABASE_MARK, regions_in
 from hsp.intake.sitefiles import Files
 from hsp.intake.tally import Tally
-from hsp.plans.service import read_service, settings_in, table
+from hsp.plans.service import settings_in, table
 
 from conftest import variables
 from test_sites import PARIS, invoke, site_json
@@ -71,8 +71,8 @@ def measured(room: Path, *words: object) -> tuple[int, str, int]:
     return done.returncode, done.stderr, 1024 * int((room / "octets").read_text())
 
 
-def test_no_file_is_read_whole_beyond_the_limit(tmp_path: Path, example: Example) -> None:
-    large, log, folder = sparse(tmp_path / "large", LARGEST + 1), tmp_path / "log", example("two-sites")
+def test_no_file_is_read_whole_beyond_the_limit(tmp_path: Path) -> None:
+    large, log = sparse(tmp_path / "large", LARGEST + 1), tmp_path / "log"
     log.write_text("client,handle\n192.0.2.1,20.500.1/a\n")
     networks = tmp_path / "networks.csv"
     networks.write_text("network,region\n192.0.2.0/24,eu\n")
@@ -80,27 +80,25 @@ def test_no_file_is_read_whole_beyond_the_limit(tmp_path: Path, example: Example
     site.write_bytes(PARIS)
     empty = tmp_path / "empty"
     empty.mkdir()
-    sparse(empty / "settings.toml", LARGEST + 1)
+    for name in ("settings.toml", "costs.csv"):
+        sparse(empty / name, LARGEST + 1)
     for path in (large, Path("/dev/zero")):
-        for words in (
-            ["sites", path],
-            ["demand", log, "--regions", path],
-            ["demand", log, "--regions", networks, "--into", folder, "--costs", path],
-            ["fleet", "demand", log, "--regions", path],
-        ):
-            if not (path == Path("/dev/zero") and "--costs" in words):  # which is no file
-                assert invoke(*words, status=1).stderr.endswith(f"{path}: {TOO_LARGE}\n")
+        for words in (["sites", path], ["demand", log, "--regions", path], ["fleet", "demand", log, "--regions", path]):
+            assert invoke(*words, status=1).stderr.endswith(f"{path}: {TOO_LARGE}\n")
+    said = invoke("demand", log, "--regions", networks, "--into", empty, status=1).stderr
+    assert said.endswith(f"costs.csv: {TOO_LARGE}\n")
     assert invoke("sites", site, "--into", empty, status=1).stderr.endswith(f"settings.toml: {TOO_LARGE}\n")
     assert len(whole(str(sparse(tmp_path / "most", LARGEST)))) == LARGEST
 
 
 def test_a_database_may_be_larger_than_what_is_read_whole(tmp_path: Path) -> None:
+    pytest.importorskip("maxminddb")
     path = sparse(tmp_path / "large.mmdb", LARGEST + 1)
     with open(path, "ab") as file:
         file.write(DATABASE_MARK)
-    assert named_in(str(path), None) == []
-    with pytest.raises(Unfit, match="at most"):
-        named_in(str(sparse(tmp_path / "table", LARGEST + 1)), None)
+    for other, why in ((path, "not a MaxMind database"), (sparse(tmp_path / "table", LARGEST + 1), "at most")):
+        with pytest.raises(Unfit, match=why):
+            regions_in(str(other), "a", None)
 
 
 def test_standard_input_has_the_limit_too() -> None:
@@ -175,10 +173,9 @@ def test_long_lines_take_little_memory(tmp_path: Path) -> None:
     assert "6,000  not a handle (TooLong)" in said
 
 
-def test_queries_are_written_out_by_their_octets(monkeypatch: pytest.MonkeyPatch, example: Example) -> None:
-    """The table is that of one count over everything."""
-    draw, folder, programs = random.Random(3), example("two-sites"), Programs()
-    inputs = read_service(str(folder), programs, {}).inputs
+def test_queries_are_written_out_by_their_octets(monkeypatch: pytest.MonkeyPatch) -> None:
+    """The sums are those of one count over everything."""
+    draw, programs = random.Random(3), Programs()
     asked = [(draw.choice((b"eu", b"us")), b"20.500.1/%d" % draw.randrange(600)) for _ in range(3000)]
     monkeypatch.setattr("hsp.intake.tally.MOST_HELD", 20_000)
     monkeypatch.setattr(bounds, "MOST_AT_ONCE", 50)
@@ -188,22 +185,12 @@ def test_queries_are_written_out_by_their_octets(monkeypatch: pytest.MonkeyPatch
     monkeypatch.setattr("hsp.intake.tally.MOST_HELD", 1 << 40)
     assert len(list(many.add(asked))) == 60
     assert one._spilled and not many._spilled
-    assert list(one.demand(inputs, 1).pieces()) == list(many.demand(inputs, 1).pieces())
-    whole_table = list(Counter(asked).values())
-    counts = [int(it.rpartition(b",")[2]) for it in b"".join(one.demand(inputs, 1).pieces()).split(b"\n")[1:-1]]
-    assert sum(counts) == sum(whole_table) == 3000
-
-
-def test_tables_of_a_fleet_are_joined_by_their_octets(monkeypatch: pytest.MonkeyPatch, example: Example) -> None:
-    programs = Programs()
-    inputs = read_service(str(example("two-sites")), programs, {}).inputs
-    monkeypatch.setattr(tables, "MOST_HELD", 40_000)
-    held = tables.Table(programs, inputs)
-    held.add(((b"eu", b"20.500.1/%d" % number), 1) for number in range(50))
-    assert not held.is_joined and held.octets == weight(held.counts)
-    held.add(((b"eu", b"20.500.1/%d" % number), 1) for number in range(50, 100))
-    assert held.is_joined and sum(held.counts.values()) == 100
-    assert held.octets == weight(held.counts) < 20_000
+    for own in (one, many):
+        sums: Counter[tuple[bytes, ...]] = Counter()
+        for row in b"".join(own.demand().pieces()).split(b"\n")[1:-1]:
+            region, handle, count = row.split(b",")
+            sums[region, handle] += int(count)
+        assert sums == Counter(asked)
 
 
 def test_pieces_are_small_and_lose_nothing(monkeypatch: pytest.MonkeyPatch) -> None:

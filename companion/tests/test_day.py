@@ -130,8 +130,8 @@ def test_a_chain_moves_the_fewest_from_hour_to_hour(hsp: Hsp, tmp_path: Path, se
         flows = Flows(now)
         assert certificate.cost == flows.cheapest() == int(it["cost"])
         if before is not None:
-            homes = homes_of(before, before.certificate, False)
-            old = {(own.row, own.home): own.units for own in portions_of(now, homes, False) if own.home is not None}
+            homes = homes_of(before, before.certificate)
+            old = {(own.row, own.home): own.queries for own in portions_of(now, homes) if own.home is not None}
             assert int(it["moved"]) == flows.fewest_moved(certificate.cost, old)
         else:
             assert it["moved"] == ""
@@ -188,7 +188,8 @@ def test_what_is_no_day(hsp: Hsp, day: Path, tmp_path: Path) -> None:
     )
     (day / "h05/demand.csv").write_text((day / "h04/demand.csv").read_text())
     (day / "h05/hsp.toml").write_text('[demand]\nrows = "kinds"\n')
-    assert "its rows or its unit are others" in hsp("day", str(day), status=1).stderr
+    said = hsp("day", str(day), status=1).stderr
+    assert said.startswith(f"hsp: {day}/h05/hsp.toml: the demand was joined by kinds") and said.count("\n") == 1
     (day / "h05/hsp.toml").unlink()
 
 
@@ -221,21 +222,19 @@ def test_a_week_has_its_own_hours(hsp: Hsp, day: Path) -> None:
     assert "plans through the week" in (day / "day.html").read_text()
 
 
-def test_hours_in_units_are_answered_in_units(hsp: Hsp, day: Path) -> None:
-    """Each hour counts in units of ten, and so do the capacities that are kept."""
-    for hour in range(24):
-        (day / f"h{hour:02}/hsp.toml").write_text('[demand]\nrows = "handles"\nunit = 10\n')
+def test_hours_are_answered_by_their_commands(hsp: Hsp, day: Path) -> None:
+    """By the plan of an hour and by that of a block, with the capacities less a reserve that are kept."""
     rooms = re.sub(r",(\d+)$", r",\g<1>0", (day / "capacity.csv").read_text(), flags=re.M)
     (day / "capacity.csv").write_text(rooms)
-    hsp("day", str(day))
+    hsp("day", str(day), "--reserve", "10")
     page = (day / "day.html").read_text()
     first = min((day / "blocks").iterdir()).name
     for name in ("h13", f"blocks/{first}"):
-        command = re.search(rf"hsplan-stream answer [^\"<]*{name}/plan.txt --unit 10 --log /dev/stdin", page)
-        assert command and "capacity-in-units.csv" in command[0] and f"{name}/demand.csv" in command[0]
+        command = re.search(rf"hsplan dispatch [^\"<]*{name}/plan.txt --log /dev/stdin", page)
+        assert command and "capacity-less-reserve.csv" in command[0] and f"{name}/demand.csv" in command[0]
         words = command[0].replace("\\u0026", "&").split()[1:]
         done = subprocess.run(
-            [program("hsplan-stream"), *words],
+            [program("hsplan"), *words],
             input="region,handle\neu,20.500.1234/film-5\n",
             capture_output=True,
             text=True,
@@ -423,7 +422,7 @@ def test_a_page_without_scripts_has_its_hours(browser: Any, page_of_day: Path, t
     plain = tmp_path / "plain.html"
     plain.write_text(text, encoding="utf-8")
     page = Page(browser, plain, 1200, "light")
-    assert "Everyone is served at every hour." in page.text() and "hsplan-stream answer" in page.text()
+    assert "Everyone is served at every hour." in page.text() and "hsplan dispatch" in page.text()
 
 
 def test_hours_and_losses_of_a_log(hsp: Hsp, day: Path, monkeypatch: pytest.MonkeyPatch) -> None:

@@ -18,22 +18,21 @@ import sys
 from collections import Counter
 from collections.abc import Callable
 from pathlib import Path
-from typing import Any, NamedTuple
+from typing import NamedTuple
 from urllib.parse import quote
 
 import pytest
 from click.testing import CliRunner
 
-from lib import examples
 import maxmind
-from hsp.base.programs import Inputs, Programs, Refused
+from hsp.base.programs import Programs
 from hsp.cli import main
 from hsp.intake.forms import Form
 from hsp.intake.logs import LONGEST, Skipped, numbered
 from hsp.intake.queries import Judge, Reading
 from hsp.intake.regions import Database, Networks, Seek, regions_in
 from hsp.intake.side_by_side import parts_of
-from hsp.intake.tally import Tally, advice
+from hsp.intake.tally import Tally
 
 from conftest import TOP, Hsp, variables
 from test_sites import invoke
@@ -380,117 +379,74 @@ def many(tmp_path: Path) -> tuple[Path, Counter[str]]:
     return path, Counter(str(region_of(it.client)) for it in rows)
 
 
-def test_any_number_of_handles_is_joined_by_kinds(tmp_path: Path) -> None:
+def test_any_number_of_handles_is_counted(tmp_path: Path) -> None:
+    """Above 8,192 rows as a log. What hsp.toml says of an older demand is taken out, and all else stays."""
     path, counts = many(tmp_path)
     folder = service(tmp_path)
+    (folder / "hsp.toml").write_text('title = "Many"\n\n[demand]\nrows = "kinds"\nunit = 5\n')
     words = ("demand", path, "--regions", regions_file(tmp_path))
-    assert "more than 8,192 rows of demand; hsplan takes 8,192" in invoke(*words, status=1).stderr
     result = invoke(*words, "--into", folder, "--log", folder / "log.csv")
+    assert result.stderr == "" and result.stdout.splitlines() == [
+        "1 log, 20,000 lines: 20,000 queries of 3 regions for 20,000 handles",
+        f"{folder}/demand.csv has 20,000 rows",
+        "no table holds it, as it has more than 8,192 rows: it is a log, and is planned by prices",
+    ]
     table = counts_of((folder / "demand.csv").read_text())
-    assert len(table) == 3 * 6  # by whole handle, sites of 2 and 3 servers have 6 kinds in each region
-    sums: Counter[str] = Counter()
-    for (region, _), count in table.items():
-        sums[region] += count
-    assert sums == counts
-    assert "has 18 rows, each for the handles that have the same servers" in result.stdout
+    assert len(table) == 20_000 and set(table.values()) == {1} and Counter(region for region, _ in table) == counts
+    assert (folder / "hsp.toml").read_text().strip() == 'title = "Many"'
     log = (folder / "log.csv").read_text().splitlines()
     assert log[0] == "region,handle" and log[2] == "us,20.500.1234/n1" and len(log) == 20_001
-    programs = Programs()
-    direct = programs.kinds(inputs_of(folder), str(folder / "log.csv"), None)
-    assert direct == (folder / "demand.csv").read_text()
-    files = ("--settings", folder / "settings.toml", "--costs", folder / "costs.csv")
-    assert invoke(*words, *files).stdout == direct
-    (folder / "costs.csv").write_text("region,site,cost\neu,paris,1\n")
-    assert "no cost of asia and us. Put in the costs first" in invoke(*words, "--into", folder, status=1).stderr
+    assert invoke(*words).stdout == (folder / "demand.csv").read_text()
 
 
-def inputs_of(folder: Path) -> Inputs:
-    return Inputs(*(str(folder / f"{it}") for it in ("settings.toml", "demand.csv", "costs.csv", "capacity.csv")))
-
-
-def test_counts_beyond_memory_give_the_same_table(tmp_path: Path) -> None:
+@pytest.mark.parametrize("is_long", [True, False])
+def test_regions_without_costs_are_named(tmp_path: Path, is_long: bool) -> None:
+    """A demand of any length is written all the same."""
     path, _ = many(tmp_path)
-    inputs = inputs_of(service(tmp_path))
+    if not is_long:
+        path.write_text("".join(path.read_text().splitlines(True)[:100]))
+    folder = service(tmp_path)
+    (folder / "costs.csv").write_text("region,site,cost\neu,paris,1\n")
+    result = invoke("demand", path, "--regions", regions_file(tmp_path), "--into", folder)
+    assert result.stdout.splitlines()[-1] == f"{folder}/costs.csv has no cost yet of asia and us"
+    assert len(counts_of((folder / "demand.csv").read_text())) == (20_000 if is_long else 100)
+
+
+def test_counts_beyond_memory_give_the_same_demand(tmp_path: Path) -> None:
+    path, _ = many(tmp_path)
     seek = regions_in(regions_file(tmp_path), "", None)
-    tables = []
+    found = []
     for most in (100, 1 << 20):
         programs = Programs()
         reading, tally = Reading(Form(), seek, Judge(programs, 1000)), Tally(programs, most)
         for part in parts_of([str(path)], reading):
             tally.count(part.counts)
-        own = tally.demand(inputs, None)
-        assert own.is_joined and not own.why_log and tally.handles == (None if most == 100 else 20_000)
+        own = tally.demand()
+        assert own.rows == 20_000 and own.why_log and tally.handles == (None if most == 100 else 20_000)
         assert tally.asked == 20_000 and tally.regions == {b"eu", b"us", b"asia"}
-        tables.append(b"".join(own.pieces()))
-    assert tables[0] == tables[1]
-
-
-def test_a_count_that_is_too_large_needs_a_unit(tmp_path: Path) -> None:
-    folder = service(tmp_path)
-    (tmp_path / "few.csv").write_text("client,handle\n" + "10.1.2.3,20.1/a\n" * 1001)
-    words = ("demand", tmp_path / "few.csv", "--regions", regions_file(tmp_path), "--into", folder)
-    invoke(*words, "--unit", "10")
-    assert (folder / "demand.csv").read_text() == "region,handle,count\neu,20.1/a,101\n"
-    programs = Programs()
-    tally = Tally(programs)
-    for _ in range(1001):
-        for _ in tally.add([(b"eu", b"20.1/a")] * 1000):
-            pass
-    in_units = tally.demand(inputs_of(folder), 2)
-    assert b"".join(in_units.pieces()) == b"region,handle,count\neu,20.1/a,500500\n" and not in_units.why_log
+        found.append(b"".join(own.pieces()))
+    assert found[0] == found[1]
 
 
 def test_a_count_that_no_table_holds_makes_a_log() -> None:
-    """1,001,000 queries of one pair, with and without the sites by which rows could be joined."""
+    """1,001,000 queries of one pair, and 1,000,000."""
     tally = Tally(Programs())
-    for _ in range(1001):
-        for _ in tally.add([(b"eu", b"20.1/a")] * 1000):
-            pass
-    own = tally.demand(None, None)
+    tally.count({(b"eu", b"20.1/a"): 1_001_000})
+    own = tally.demand()
     assert b"".join(own.pieces()) == b"region,handle,count\neu,20.1/a,1001000\n"
-    assert (own.rows, own.is_joined, own.why_log) == (1, False, "a row has more than 1,000,000 queries")
+    assert (own.rows, own.why_log) == (1, "a row has more than 1,000,000 queries")
+    tally = Tally(Programs())
+    tally.count({(b"eu", b"20.1/a"): 1_000_000})
+    assert not tally.demand().why_log
 
 
-def many_kinds(tmp_path: Path, rows: int = 60_000) -> tuple[Path, list[Asked], list[Any]]:
-    """Sites of 5, 7, 8 and 9 servers have 2,520 kinds in a region, so that four regions have more than a table."""
-    folder = service(tmp_path)
-    sizes = (5, 7, 8, 9)
-    octets = [examples.site_octets("s", 1, ["192.0.2.1"] * size) for size in sizes]
-    blocks = [f'[[site]]\nname = "s{size}"\nrecord = "{it.hex()}"\n' for size, it in zip(sizes, octets)]
-    (folder / "settings.toml").write_text("".join(blocks))
-    costs = [f"{region},s{size},1\n" for region in NETWORKS.values() for size in sizes]
-    (folder / "costs.csv").write_text("region,site,cost\n" + "".join(sorted(set(costs))))
-    asked = [Asked(CLIENTS[at % 4], "", f"20.1/{at // 4}") for at in range(rows)]
-    (tmp_path / "log").write_text("\n".join(map(server_line, asked)))
-    return folder, asked, ["demand", tmp_path / "log", "--regions", regions_file(tmp_path), "--into", folder]
-
-
-def test_more_kinds_than_a_table_has_rows_make_a_log(tmp_path: Path) -> None:
-    folder, asked, words = many_kinds(tmp_path)
-    (folder / "hsp.toml").write_text('title = "Many"\n\n[demand]\nrows = "kinds"\nunit = 5\n')
-    done = invoke(*words, "--unit", "1000")
-    assert done.stderr == (
-        "hsp: this service can have 10,080 kinds of handles, and a table has 8,192 rows; "
-        "where the logs have more, the demand is a log, and is planned by prices\n"
-    )
-    assert done.stdout.splitlines()[-2:] == [
-        f"{folder}/demand.csv has 60,000 rows, each for a region and a handle",
-        "no table holds it, as its handles have more than 8,192 kinds: it is a log, and is planned by prices",
-    ]
-    wanted = Counter(f"{region_of(it.client)},{it.handle},1" for it in asked)
-    head, *rows = (folder / "demand.csv").read_text().splitlines()
-    assert head == "region,handle,count" and Counter(rows) == wanted
-    assert (folder / "hsp.toml").read_text() == 'title = "Many"\n'
-
-
-def test_counts_that_were_put_into_files_are_one_log(tmp_path: Path) -> None:
+def test_counts_that_were_put_into_files_are_one_log() -> None:
     """Pairs that come again after others were put away have several rows, which add up."""
-    folder, asked, _ = many_kinds(tmp_path)
-    pairs = [(str(region_of(it.client)).encode(), it.handle.encode()) for it in asked] * 2
+    pairs = [((b"eu", b"us")[at % 2], b"20.1/%d" % (at // 2)) for at in range(60_000)] * 2
     tally = Tally(Programs(), most=20_000)
     for _ in tally.add(pairs):
         pass
-    own = tally.demand(inputs_of(folder), None)
+    own = tally.demand()
     rows = b"".join(own.pieces()).decode().splitlines()[1:]
     sums: Counter[tuple[bytes, bytes]] = Counter()
     for row in rows:
@@ -503,10 +459,9 @@ def test_a_log_is_refused_that_hsplan_stream_refuses(tmp_path: Path) -> None:
     """As with 65 regions, of which it takes 64, and with a region that is no name."""
     for name, said in (("r", "log: TooManyRegions row 64; join networks to at most 64 regions"), ("é", "BadName")):
         tally = Tally(Programs())
-        counts = {(f"{name}{at}".encode(), b"20.1/a"): 1_000_001 for at in range(65)}
-        tally.take(counts, False)
+        tally.count({(f"{name}{at}".encode(), b"20.1/a"): 1_000_001 for at in range(65)})
         with pytest.raises(Exception, match=f"hsplan-stream refuses this demand: .*{said}"):
-            tally.demand(None, None)
+            tally.demand()
 
 
 def test_a_plan_of_the_demand_answers_the_whole_log(hsp: Hsp, tmp_path: Path) -> None:
@@ -587,11 +542,15 @@ def test_a_row_that_hsplan_refuses_is_shown() -> None:
         pass
     refused = "hsplan refuses this demand: demand: BadName row 1 in the row 'no name,20.500.1/b,1'"
     with pytest.raises(Exception, match=refused):
-        tally.demand(None, None)
+        tally.demand()
 
 
-@pytest.mark.parametrize("unit, remedy", [(1_000_000, "give --unit 1000000"), (1_000_001, "count the logs in parts")])
-def test_no_unit_is_advised_that_is_refused(unit: int, remedy: str) -> None:
-    """hsplan-stream takes units up to 1,000,000."""
-    line = advice(Refused(1, f"log: CountTooLarge row 3 unit {unit}"))
-    assert line.endswith(remedy)
+@pytest.mark.parametrize("log", ["log", "absent"])
+def test_what_tells_of_an_older_demand_is_taken_out_or_named(tmp_path: Path, log: str) -> None:
+    """Before a log is read."""
+    (tmp_path / "log").write_text(server_line(asked(1, 5)[0]))
+    folder = service(tmp_path)
+    (folder / "hsp.toml").write_text('demand = {rows = "kinds"}\n')
+    said = invoke("demand", tmp_path / log, "--regions", regions_file(tmp_path), "--into", folder, status=1).stderr
+    assert said.startswith(f"hsp: {folder}/hsp.toml: its table [demand] can't be taken out")
+    assert not (folder / "demand.csv").exists()

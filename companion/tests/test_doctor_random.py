@@ -107,7 +107,6 @@ COMMANDS = [
     f"dispatch {OPTIONS} --plan plan.txt --log log.csv",
     f"dispatch {OPTIONS} --plan plan.txt --log log.csv --fronts 2",
     f"report {OPTIONS} --plan plan.txt --kind load",
-    "kinds --settings settings.toml --costs costs.csv --log log.csv",
     "places --settings settings.toml --log log.csv",
     "locate --settings settings.toml 20.500.1234/film-5",
     "site paris.site",

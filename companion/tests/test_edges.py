@@ -34,8 +34,9 @@ def log(tmp_path: Path) -> Path:
     return path
 
 
-def answer(plan: Path, log: str | Path) -> list[str]:
-    return [program("hsplan-stream"), "answer", *INPUTS, f"--plan={plan}", f"--log={log}"]
+def answer(log: str | Path) -> list[str]:
+    inputs = [it for it in INPUTS if not it.startswith("--demand")]
+    return [program("hsplan-stream"), "answer", *inputs, f"--prices={EXAMPLE}/plan.prices", f"--log={log}"]
 
 
 def dispatch(plan: Path, log: str | Path) -> list[str]:
@@ -48,7 +49,7 @@ def name_of(words: list[str]) -> str:
 
 
 def test_a_pipe_that_does_not_block_gets_a_beginning(plan: Path, log: Path) -> None:
-    for words in (answer(plan, log), dispatch(plan, log)):
+    for words in (answer(log), dispatch(plan, log)):
         whole = subprocess.run(words, capture_output=True).stdout
         reading, writing = os.pipe()
         os.set_blocking(writing, False)
@@ -60,17 +61,17 @@ def test_a_pipe_that_does_not_block_gets_a_beginning(plan: Path, log: Path) -> N
         assert whole.startswith(got) and 0 < len(got) < len(whole)
 
 
-def test_a_socket_is_no_file(plan: Path) -> None:
+def test_a_socket_is_no_file() -> None:
     one, other = socket.socketpair()
     with one, other:
         one.sendall(b"region,handle\n")
         one.shutdown(socket.SHUT_WR)
-        done = subprocess.run(answer(plan, "/dev/stdin"), stdin=other, capture_output=True, text=True)
+        done = subprocess.run(answer("/dev/stdin"), stdin=other, capture_output=True, text=True)
     assert (done.returncode, done.stdout, done.stderr) == (5, "", "hsplan-stream: read failed\n")
 
 
 def test_a_small_stack_suffices(plan: Path, log: Path) -> None:
-    for words in (answer(plan, log), dispatch(plan, log), [program("hsplan"), "plan", *INPUTS]):
+    for words in (answer(log), dispatch(plan, log), [program("hsplan"), "plan", *INPUTS]):
         shell = ["bash", "-c", 'ulimit -s 128; exec "$@"', "bash", *words]
         assert subprocess.run(shell, capture_output=True).returncode == 0
         small = ["bash", "-c", 'ulimit -s 64; exec "$@"', "bash", *words]

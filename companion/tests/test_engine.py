@@ -18,13 +18,12 @@ from typing import Any
 
 import pytest
 
-from hsp.base.programs import Inputs, Missing, Programs, Refused
+from hsp.base.programs import Missing, Refused
 from hsp.base.unfit import Unfit
 from hsp.fleet import answers, engine, local, parts, progress, remote, session
 from hsp.fleet.engine import NOT_YET, ByValue, Engine, Place, Unfinished
 from hsp.fleet.local import Gone, Local
 from hsp.fleet.split import Parted
-from hsp.fleet.tables import Table, joined
 
 Example = Callable[[str], Path]
 
@@ -269,12 +268,12 @@ def test_parts_are_submitted_with_the_mark_of_the_run(tmp_path: Path, monkeypatc
     monkeypatch.chdir(tmp_path)
     own = made(Client(), seal=remote.Seal({}, False))
     first = own.submit({"what": "count"})
-    own.submit({"what": "merge"}, first, first, host="h")
+    own.submit({"what": "answer"}, host="h")
     own.head(first)
     one, two, three = own._client.submitted
     assert one["arguments"] == ({"what": "count", "run": "run", "at": str(tmp_path)},)
-    assert two["arguments"][1:] == (first, first) and one["function"] is two["function"]
-    assert [it["priority"] for it in (one, two, three)] == [0, 2, 100]
+    assert three["arguments"] == (first,) and one["function"] is two["function"]
+    assert [it["priority"] for it in (one, two, three)] == [0, 0, 100]
     assert [it["workers"] for it in (one, two, three)] == [None, ["h"], None]
     assert [it["key"].rpartition("-")[0] for it in (one, two, three)] == ["part-run", "part-run", "head-run"]
     assert all(it["retries"] == 2 and it["resources"] == {own.seal.mark: 1} and not it["pure"] for it in (one, two))
@@ -466,7 +465,7 @@ def test_what_a_part_prints_and_how_it_ends() -> None:
 def test_a_part_stages_its_files_and_leaves_none_behind_a_fault(
     tmp_path: Path, monkeypatch: pytest.MonkeyPatch
 ) -> None:
-    """No part is done where a file of the run differs, or where an earlier part has a fault."""
+    """No part is done where a file of the run differs."""
     seal, target = remote.Seal({"plan": remote.sum_of(b"a plan")}, False), str(tmp_path / "a.answers")
     worker = SimpleNamespace(local_directory=str(tmp_path), address="tcp://there")
     monkeypatch.setattr(remote.distributed, "get_worker", lambda: worker)
@@ -474,7 +473,7 @@ def test_a_part_stages_its_files_and_leaves_none_behind_a_fault(
     end: Any = {"sums": {"spent": 2}}
 
     def ran(whole: dict[str, Any], folder: str, _: Any) -> dict[str, Any]:
-        assert whole["files"] == {"plan": str(plan)} and whole["before"] == ({"n": 1},) and whole["run"] == "run"
+        assert whole["files"] == {"plan": str(plan)} and whole["run"] == "run"
         assert os.path.dirname(folder) == str(tmp_path) and os.path.isdir(folder)
         Path(*whole["staged"]).write_text("spent")
         if isinstance(end, BaseException):
@@ -486,18 +485,17 @@ def test_a_part_stages_its_files_and_leaves_none_behind_a_fault(
 
     monkeypatch.setattr(remote, "_ran", ran)
     with pytest.raises(OSError, match=f"^worker tcp://there: {plan}: No such file or directory$"):
-        remote.part(seal, request, {"n": 1})
+        remote.part(seal, request)
     plan.parent.mkdir()
     plan.write_bytes(b"a plan")
     fault = {"fault": "odd", "status": 1}
-    assert remote.part(seal, request, {"n": 1}, fault, {"fault": "later"}) is fault
-    reply = remote.part(seal, request, {"n": 1})
+    reply = remote.part(seal, request)
     (own,) = left()
     assert own == Path(remote.staged(target, "run", reply["attempt"])) and len(reply["attempt"]) == 12
     assert reply == {**end, "attempt": reply["attempt"], "inodes": [own.stat().st_ino]}
     for end in (fault, OSError("no room")):
         with pytest.raises(OSError, match="^no room$") if end is not fault else contextlib.nullcontext():
-            assert remote.part(seal, request, {"n": 1}) == fault
+            assert remote.part(seal, request) == fault
         assert left() == [own]
 
 
@@ -520,20 +518,6 @@ def test_a_fault_of_a_part_is_a_reply(
 
     monkeypatch.setitem(parts.WORK, "count", failing)
     assert parts.replied({"what": "count"}) == reply
-
-
-def test_tables_that_cannot_be_joined(example: Example) -> None:
-    folder, programs = example("two-sites"), Programs()
-    inputs = Inputs(str(folder / "settings.toml"), "", str(folder / "costs.csv"), "")
-    table = Table(programs, inputs, most=1)
-    with pytest.raises(Unfit, match="no cost|can't join|TooMany|BadName"):
-        table.add([((b"e u", b"20.1/a"), 1), ((b"e v", b"20.1/b"), 2)])
-    with pytest.raises(Unfit, match="more than 8,192 rows of demand, which is what hsplan takes. Give --into DIR"):
-        Table(programs, None, most=1).add([((b"eu", b"20.1/a"), 1), ((b"eu", b"20.1/b"), 2)])
-    with pytest.raises(Refused):
-        joined(programs, inputs, [((b"e u", b"20.1/a"), 1)])
-    great = [((b"eu", b"20.1/a"), 10**12), ((b"us", b"20.1/b"), 5), ((b"eu", b"20.1/a"), 10**12 - 3)]
-    assert [count for _, count in joined(programs, inputs, great)] == [2 * 10**12 - 3, 5]
 
 
 def test_how_far_a_run_is(monkeypatch: pytest.MonkeyPatch) -> None:

@@ -3,13 +3,11 @@
 from __future__ import annotations
 
 import doctest
-import io
 import os
 import time
 from collections import Counter
 from collections.abc import Iterator
 from pathlib import Path
-from types import SimpleNamespace
 
 import pytest
 
@@ -17,7 +15,6 @@ from hsp.base import text
 
 from hsp.base.programs import Programs
 from hsp.base.unfit import Unfit
-from hsp.doctor import mark_doubts
 from hsp.fleet import engine
 from hsp.fleet.answers import blocks
 from hsp.intake import logs, prefixes, progress, reader, tally
@@ -200,13 +197,3 @@ def test_a_terminal_gets_bold_dim_and_coloured_words(monkeypatch: pytest.MonkeyP
     ]
 
 
-@pytest.mark.parametrize("number, looks", [(37, False), (38, True), (1, False), (0, False)])
-def test_rows_of_different_kinds_look_joined(monkeypatch: pytest.MonkeyPatch, number: int, looks: bool) -> None:
-    """Of 100 kinds 38 rows have 703 pairs, so seven would be of one kind; 37 rows have 666."""
-    monkeypatch.setattr(mark_doubts, "most_of_region", lambda sites: 100)
-    rows = [SimpleNamespace(region="eu", handle=f"20.1/{at}") for at in range(number)]
-    more = {"sites": [], "sites_for": lambda region: []}
-    assert mark_doubts.looks_joined(SimpleNamespace(rows=rows, kind=lambda row: row.handle, **more)) is looks
-    assert not mark_doubts.looks_joined(SimpleNamespace(rows=rows, kind=lambda row: "one", **more))
-    rows += [SimpleNamespace(region="us", handle=f"20.1/{at}") for at in range(14)]
-    assert mark_doubts.looks_joined(SimpleNamespace(rows=rows, kind=lambda row: row.handle, **more)) is (number >= 37)

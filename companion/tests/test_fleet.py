@@ -17,13 +17,12 @@ import subprocess
 import sys
 import threading
 import time
-from collections.abc import Callable, Iterator
+from collections.abc import Iterator
 from pathlib import Path
 from typing import NamedTuple
 
 import pytest
 
-from hsp.base.programs import Inputs, Programs
 from hsp.base.unfit import Unfit
 from hsp.fleet import answers, local, parts, remote, tables
 from hsp.fleet.split import Parted
@@ -196,20 +195,6 @@ def test_several_logs_of_a_front_are_one_log_also_packed(million: Million, tmp_p
     assert (tmp_path / "none.csv.answers").read_bytes() == b""
 
 
-def test_any_handle_is_answered_by_the_other_program(million: Million, tmp_path: Path, worker: list[str]) -> None:
-    wanted = {}
-    logs = [million.written(tmp_path, at) for at in range(2)]
-    for at, log in enumerate(logs):
-        changed(log, log.read_bytes() + b"eu,no handle\neu,20.500.1/never-seen\n")
-        words = [os.environ["HSPLAN_STREAM"], "answer", *words_of(million.folder), "--log", str(log)]
-        done = subprocess.run([*words, "--fronts", "2", "--front", str(at)], capture_output=True, check=True)
-        wanted[f"{log}.answers"] = done.stdout
-    named = [f"{at}={log}" for at, log in enumerate(logs)]
-    said = fleet("dispatch", million.folder, "--fronts", 2, *worker, "--any-handle", *named)
-    assert " 2 refused; " in said
-    assert all(Path(path).read_bytes() == answers for path, answers in wanted.items())
-
-
 def test_a_bad_row_in_the_third_file_ends_the_run_with_its_line(million: Million, tmp_path: Path) -> None:
     logs = million.all_written(tmp_path)
     third = tmp_path / "front-2.csv"
@@ -278,7 +263,7 @@ def test_logs_of_any_rows_are_parted_as_one_run_reads_them(million: Million, tmp
         if not parted.is_plain:
             seen.add("not plain")
             continue
-        asked = {"fronts": 2, "any_handle": False, "unit": None, "files": files}
+        asked = {"fronts": 2, "by_prices": False, "files": files}
         outs = [str(tmp_path / f"{number}-{it}.out") for it in range(2)]
         parts = zip(range(2), parted.logs, outs)
         replies = [answers.answer({**asked, "front": it, "logs": [log], "staged": [out]}) for it, log, out in parts]
@@ -300,7 +285,7 @@ def test_a_log_of_all_has_a_greatest_length(tmp_path: Path, monkeypatch: pytest.
 
 
 class Logs(NamedTuple):
-    """Access logs, the options that read them, and the table that one hsp demand makes of them."""
+    """Access logs, the options that read them, and the demand that one hsp demand makes of them."""
 
     options: list[object]
     paths: list[Path]
@@ -318,11 +303,10 @@ def logs(tmp_path: Path) -> Logs:
         name = f"{number}.log" if number % 5 else f"{number}.gz"
         paths.append(tmp_path / name)
         paths[-1].write_bytes(octets if number % 5 else gzip.compress(octets))
-    folder = service(tmp_path)
-    options = ["--regions", regions_file(tmp_path), "--into", folder, "--unit", 2]
+    options = ["--regions", regions_file(tmp_path), "--into", service(tmp_path)]
     invoke("demand", *paths, *options, "-o", tmp_path / "one.csv")
     table = (tmp_path / "one.csv").read_bytes()
-    assert table.count(b"\n") == 1 + 18
+    assert table.count(b"\n") > 10 * 2000
     return Logs(options, paths, table)
 
 
@@ -344,8 +328,7 @@ def test_what_is_counted_is_planned_and_answered(logs: Logs, tmp_path: Path, hsp
     capacity = (folder / "capacity.csv").read_text().replace("1000000000", "500000000")
     (folder / "capacity.csv").write_text(capacity)
     hsp("plan", str(folder))
-    options = ["--fronts", 1, "--any-handle", "--unit", 2, *worker]
-    said = fleet("dispatch", folder, *options, *(f"0={it}.csv" for it in paths))
+    said = fleet("dispatch", folder, "--fronts", 1, *worker, *(f"0={it}.csv" for it in paths))
     rows = sum(it.read_bytes().count(b"\n") for it in paths)
     answers = b"".join((tmp_path / f"{it.name}.csv.answers").read_bytes() for it in paths)
     assert said.startswith(f"{rows:,} rows: {rows:,} assigned; ") and answers.count(b"assigned ") == rows
@@ -433,7 +416,7 @@ def test_a_damaged_log_is_named_and_not_tried_again(
         Parted(f"{tmp_path}/all", f"{tmp_path}/parts", FRONTS)
     files = {it.split(".")[0]: str(million.folder / it) for it in ("settings.toml", "demand.csv", "plan.txt")}
     files |= {it: str(million.folder / f"{it}.csv") for it in ("costs", "capacity")}
-    asked = {"fronts": FRONTS, "any_handle": False, "unit": None, "files": files, "front": 0, "what": "answer"}
+    asked = {"fronts": FRONTS, "by_prices": False, "files": files, "front": 0, "what": "answer"}
     reply = parts.replied({**asked, "logs": [f"{tmp_path}/front"], "staged": [f"{tmp_path}/out"]})
     assert reply["status"] == 1 and re.fullmatch(wanted.format("front"), reply["fault"]), reply
 
@@ -452,7 +435,7 @@ def test_a_damaged_log_is_named_where_hsplan_has_ended(tmp_path: Path, monkeypat
     monkeypatch.setenv("HSPLAN", "/bin/true")
     writer = threading.Thread(target=damage)
     writer.start()
-    asked = {"fronts": FRONTS, "any_handle": False, "unit": None, "files": {}, "front": 0, "what": "answer"}
+    asked = {"fronts": FRONTS, "by_prices": False, "files": {}, "front": 0, "what": "answer"}
     reply = parts.replied({**asked, "logs": [str(log)], "staged": [f"{tmp_path}/out"]})
     writer.join()
     assert reply["status"] == 1, reply
@@ -625,25 +608,6 @@ def test_a_cluster_whose_scheduler_goes_away_is_one_line(cluster: Cluster, tmp_p
     assert said.startswith("hsp: the scheduler has ") and said.count("\n") == 1 and not (tmp_path / "t").exists()
 
 
-def test_sums_above_the_greatest_count_are_joined_exactly(tmp_path: Path) -> None:
-    folder = service(tmp_path)
-    inputs = Inputs(str(folder / "settings.toml"), "", str(folder / "costs.csv"), "")
-    draw, programs = random.Random(91), Programs()
-    pairs = [(draw.choice([b"eu", b"us"]), b"20.500.1/x%d" % number) for number in range(3000)]
-    small = [(it, draw.randrange(300)) for it in pairs]
-    plain = tables.joined(programs, inputs, small)
-    factor = 1_000_003
-    large = tables.joined(programs, inputs, [(it, count * factor) for it, count in small])
-    assert large == [(it, count * factor) for it, count in plain] and max(it for _, it in large) > 10**10
-    assert sum(it for _, it in plain) == sum(it for _, it in small) and len(plain) == 12
-    table = tables.Table(programs, inputs, most=100)
-    for it in small:
-        table.add([it])
-    assert table.is_joined and table.counts.keys() >= dict(plain).keys()
-    table.join()
-    assert list(table.counts.items()) == plain
-
-
 def test_a_file_is_published_once_and_nothing_old_stands_for_it(tmp_path: Path) -> None:
     path = str(tmp_path / "a.answers")
     Path(path).write_text("of an earlier run")
@@ -702,16 +666,24 @@ def test_a_fleet_needs_its_package(million: Million, monkeypatch: pytest.MonkeyP
     assert line == "hsp: Python has no distributed: install it (Debian: python3-distributed)\n"
 
 
-def test_a_part_joins_more_rows_than_a_demand_takes(tmp_path: Path, example: Callable[[str], Path]) -> None:
-    folder, log = example("two-sites"), tmp_path / "log"
+def test_a_part_passes_on_its_pairs(tmp_path: Path, monkeypatch: pytest.MonkeyPatch) -> None:
+    """More of them than a table of demand has rows, up to a number and to their octets."""
+    log = tmp_path / "log"
     (tmp_path / "n.csv").write_text("network,region\n192.0.2.0/24,eu\n")
-    log.write_text("client,handle\n" + "".join(f"192.0.2.1,20.500.1/{number}\n" for number in range(9000)))
-    files = {"settings": f"{folder}/settings.toml", "costs": f"{folder}/costs.csv", "networks": f"{tmp_path}/n.csv"}
+    log.write_text("client,handle\n" + "".join(f"192.0.2.1,20.500.1/{at % 9000}\n" for at in range(9500)))
     form = {"form": parts.fields_of_form(Form()), "span": [Span().first, Span().last], "by": "", "elsewhere": None}
-    reply = parts.replied({**form, "what": "count", "log": str(log), "staged": [], "files": files})
+    request = {**form, "what": "count", "log": str(log), "staged": [], "files": {"networks": f"{tmp_path}/n.csv"}}
+    reply = parts.replied(request)
     assert "fault" not in reply, reply
-    rows = list(csv.reader(str(reply["table"]).splitlines()))[1:]
-    assert reply["is_joined"] and len(rows) == 6 and sum(int(it[2]) for it in rows) == 9000 == reply["asked"]
+    counts = tables.counts_in(str(reply["table"]))
+    assert counts == {(b"eu", b"20.500.1/%d" % at): 2 if at < 500 else 1 for at in range(9000)}
+    assert list(counts)[8999] == (b"eu", b"20.500.1/8999") and reply["asked"] == 9500
+    for name, most in (("MOST_PAIRS", 8999), ("MOST_HELD", 9000 * 200)):
+        with monkeypatch.context() as patched:
+            patched.setattr(tables, name, most)
+            fault = parts.replied(request)
+        assert fault["status"] == 1 and fault["fault"].startswith(f"{log}: a part passes on ")
+        assert fault["fault"].endswith("; hsp demand counts any number")
 
 
 def test_a_new_program_that_is_held_for_a_moment_is_tried_again(monkeypatch: pytest.MonkeyPatch) -> None:

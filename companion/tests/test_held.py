@@ -23,7 +23,7 @@ COMMANDS = {
     "plan --near OLD": ("check", 2),
     "view": ("report", 1),
     "whatif": ("plan", 3),
-    "where": ("answer", 1),
+    "where": ("dispatch", 1),
     "grow": ("check", 2),
     "survive": ("check", 3),
     "day": ("check", 3),

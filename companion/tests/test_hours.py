@@ -17,10 +17,9 @@ import maxmind
 from hsp.base.programs import Programs
 from hsp.intake.hour_tally import HourTally
 from hsp.intake.hours import CYCLES, Chosen
-from hsp.plans.marks import KINDS, mark_in
 
 from conftest import Hsp
-from test_demand import inputs_of, many_kinds, service
+from test_demand import service
 from test_demand_time import CLIENTS, Asked, asked, written
 from test_sites import invoke
 
@@ -161,62 +160,32 @@ def test_other_forms_have_hours_too(tmp_path: Path, name: str) -> None:
         assert Counter(found) == pairs(queries)
 
 
-def joined_service(tmp_path: Path, handles: int) -> tuple[Path, list[Asked], list[str]]:
-    """A service of two sites, and a log of so many handles, which have few kinds."""
-    folder = service(tmp_path)
-    costs = [f"{region},{site},{cost}\n" for region in ("eu", "us") for site, cost in (("paris", 1), ("reston", 2))]
-    (folder / "costs.csv").write_text("region,site,cost\n" + "".join(costs))
-    draw = random.Random(4)
-    rows = [row._replace(handle=f"20.500.1/item-{draw.randrange(handles)}") for row in asked(3 * handles, 13)]
-    return folder, rows, [*written(tmp_path, "proxy", rows), "--into", str(folder)]
-
-
-def kinds_of(folder: Path, rows: list[Asked], names: list[tuple[str, str]], unit: int | None) -> Rows:
-    """The sums of the kinds of some queries, by hsplan-stream, with each kind named by the first of all."""
-    programs = Programs()
-    text = HEAD + "".join(f"{region},{handle},0\n" for region, handle in names)
-    text += "".join(f"{region},{handle},{count}\n" for (region, handle), count in pairs(rows).items())
-    log = programs.put(text, ".csv")
-    table = csv.reader(io.StringIO(programs.kinds(inputs_of(folder), log, unit), newline=""))
-    return [(region, handle, int(count)) for region, handle, count in list(table)[1:]]
-
-
-@pytest.mark.parametrize("handles, unit", [(12_000, None), (12_000, 10), (40, 7)])
-def test_hours_are_joined_to_the_same_kinds(tmp_path: Path, hsp: Hsp, handles: int, unit: int | None) -> None:
-    """All hours have the same rows and the same mark, by which hsp plan reads the table of an hour."""
-    folder, rows, words = joined_service(tmp_path, handles)
-    (folder / "hsp.toml").write_text('title = "Mine"\n')
-    invoke(*words, "--by", "hour", *(["--unit", str(unit)] if unit else []))
+def test_hours_of_many_handles_are_logs(tmp_path: Path, hsp: Hsp) -> None:
+    """All hours have the same rows, more than a table has. What their hsp.toml says of an older demand is taken out."""
+    folder, draw = service(tmp_path), random.Random(4)
+    rows = [row._replace(handle=f"20.500.1/item-{draw.randrange(12_000)}") for row in asked(36_000, 13)]
+    (folder / "h12").mkdir()
+    (folder / "h12/hsp.toml").write_text('title = "Noon"\n\n[demand]\nrows = "kinds"\n')
     wanted = chosen_of(rows, "hour")
-    names = [row[:2] for row in rows_in(folder / "h00/demand.csv")]
-    assert 2 <= len(names) <= 12
+    said = invoke(*written(tmp_path, "proxy", rows), "--into", folder, "--by", "hour").stdout.splitlines()
+    names = {row[:2] for row in rows_in(folder / "h00/demand.csv")}
+    assert said[-3:] == [
+        f"each demand.csv of {folder}/h00 to {folder}/h23 has {len(names):,} rows",
+        f"{folder}/demand.csv has the rows of {max(wanted, key=lambda own: len(wanted[own]))} that aren't 0",
+        "no table holds it, as it has more than 8,192 rows: it is a log, and is planned by prices",
+    ]
     for name, queries in wanted.items():
-        own = folder / name
-        assert rows_in(own / "demand.csv") == kinds_of(folder, queries, names, unit)
-        mark = mark_in(str(own))
-        assert (mark.rows, mark.unit, mark.log) == (KINDS, unit or 1, (str(tmp_path / "log"),))
-        assert (mark.queries or 0, mark.handles or 0) == (len(queries), len({row.handle for row in queries}))
-    busiest = max(wanted, key=lambda own: len(wanted[own]))
-    assert mark_in(str(folder)) == mark_in(str(folder / busiest))
-    assert (folder / "hsp.toml").read_text().startswith('title = "Mine"\n\n[demand]')
+        table = rows_in(folder / name / "demand.csv")
+        assert {row[:2] for row in table} == names
+        assert {row[:2]: row[2] for row in table if row[2]} == pairs(queries)
+    assert (folder / "h12/hsp.toml").read_text().strip() == 'title = "Noon"'
     files = [word for name in ("settings", "costs", "capacity") for word in (f"--{name}", _file(folder, name))]
-    rooms = [f"{site},{at},100000\n" for site, most in (("paris", 2), ("reston", 3)) for at in range(1, most + 1)]
-    (folder / "capacity.csv").write_text("site,server_id,capacity\n" + "".join(rooms))
-    said = json.loads(hsp("plan", str(folder / busiest), "--no-save", "--json", *files).stdout)
-    assert (said["rows_are"], said["unit"]) == ("kinds", unit or 1)
-    assert 0 <= said["queries"] - len(wanted[busiest]) <= len(names) * ((unit or 1) - 1)
+    plan = json.loads(hsp("plan", str(folder / "h12"), "--no-save", "--json", *files).stdout)
+    assert (plan["rows_are"], plan["queries"]) == ("log", len(wanted["h12"]))
 
 
 def _file(folder: Path, name: str) -> str:
     return str(next(folder.glob(f"{name}.*")))
-
-
-def test_a_plain_run_takes_the_marks_away(tmp_path: Path) -> None:
-    folder, _, words = joined_service(tmp_path, 40)
-    invoke(*words, "--by", "hour", "--unit", "7")
-    assert mark_in(str(folder / "h12")).unit == 7
-    invoke(*words, "--by", "hour")
-    assert mark_in(str(folder / "h12")).is_plain and "demand" not in (folder / "h12/hsp.toml").read_text()
 
 
 def chosen_hours(counts: Counter[int]) -> Chosen:
@@ -239,35 +208,19 @@ def sums_of(table: bytes) -> Counter[tuple[str, str]]:
     return found
 
 
-def test_counts_that_were_put_into_files_are_joined_to_the_same_tables(tmp_path: Path) -> None:
-    folder, _, _ = many_kinds(tmp_path)
-    draw = random.Random(6)
-    queries = [(b"%d eu" % draw.choice((3, 3, 9)), b"20.1/%d" % draw.randrange(20_000)) for _ in range(60_000)]
-    asked_in = {hour: [handle for tag, handle in queries if tag == b"%d eu" % hour] for hour in range(24)}
-    tables = []
-    for most in (9_000, 1 << 20):
-        tally = tallied(queries, 3, most)
-        own = tally.demand(inputs_of(folder), None)
-        assert own.is_joined and not own.why_log and own.rows <= 2520
-        tables.append([b"".join(tally.table(hour)) for hour in range(24)])
-        assert [sums_of(table).total() for table in tables[-1]] == [len(asked_in[hour]) for hour in range(24)]
-        wanted = [len(set(own)) for own in asked_in.values()]
-        assert tally.handles_of == (wanted if most > 9_000 else [None] * 24)
-    assert tables[0] == tables[1]
-
-
-def test_more_kinds_than_a_table_has_rows_make_logs_of_the_same_rows(tmp_path: Path) -> None:
+@pytest.mark.parametrize("most", [20_000, 1 << 20])
+def test_more_rows_than_a_table_has_make_logs_of_the_same_rows(most: int) -> None:
     """A pair that was put into a file and came again has several rows, in each of the hours."""
-    folder, _, _ = many_kinds(tmp_path)
     draw, regions = random.Random(7), (b"eu", b"us", b"asia", b"lab")
     tags = [b"%d %b" % (hour, region) for hour in (3, 9) for region in regions]
     queries = [(draw.choice(tags), b"20.1/%d,x" % draw.randrange(30_000)) for _ in range(90_000)]
-    tally = tallied(queries, 3, 20_000)
-    own = tally.demand(inputs_of(folder), None)
-    assert (own.is_joined, own.why_log) == (False, "its handles have more than 8,192 kinds")
+    tally = tallied(queries, 3, most)
+    own = tally.demand()
+    assert own.why_log == "it has more than 8,192 rows"
     tables = {hour: b"".join(tally.table(hour)) for hour in (0, 3, 9)}
     names = [[row.rpartition(b",")[0] for row in table.splitlines()] for table in tables.values()]
-    assert names[0] == names[1] == names[2] and own.rows == len(names[0]) - 1 > len(set(names[0]))
+    assert names[0] == names[1] == names[2] and own.rows == len(names[0]) - 1
+    assert (len(names[0]) > len(set(names[0]))) == (most == 20_000)
     assert not sums_of(tables[0]).total()
     for hour in (3, 9):
         own_ones = [(tag.split()[1].decode(), it.decode()) for tag, it in queries if tag.startswith(b"%d " % hour)]
@@ -285,8 +238,8 @@ def test_nothing_is_written_where_a_table_fails(tmp_path: Path, monkeypatch: pyt
         path.write_text(HEAD)
     real = HourTally.demand
 
-    def failing(self: HourTally, *words: object) -> object:
-        found = real(self, *words)  # type: ignore[arg-type]
+    def failing(self: HourTally) -> object:
+        found = real(self)
         tables = self.table
 
         def table(hour: int) -> object:

@@ -18,8 +18,6 @@ import pytest
 
 from hsp.base.programs import Inputs, Prices, Programs, program
 from hsp.base.unfit import Unfit
-from hsp.fleet.tables import Table, merged
-from hsp.intake.tally import Tally
 from hsp.plans.counted import counted_in, grown, is_log, rows_of
 from hsp.plans.joined import joined
 from hsp.plans.plans import cheapest, least_purchase, planned, shortage, with_gains, with_purchase
@@ -27,9 +25,8 @@ from hsp.plans.service import Service, read_service
 from hsp.plans.whatif import Changes, standard
 
 from conftest import Hsp
-from test_demand import inputs_of, many_kinds, region_of
 from test_sites import invoke
-from test_units import Place, random_service, written
+from services import Place, random_service, rows, written
 
 Example = Callable[[str], Path]
 HEAD = "region,handle,count\n"
@@ -152,7 +149,7 @@ def test_a_handle_with_a_line_end_is_refused(tmp_path: Path, end: str) -> None:
 
 
 def test_a_plan_has_the_sums_of_the_reports(hsp: Hsp, wide: Path) -> None:
-    """Of 8,300 kinds, which no table holds."""
+    """Of 8,300 rows, which no table holds."""
     said = json.loads(hsp("plan", str(wide), "--json").stdout)
     words = [*priced(wide), "--log", str(wide / "demand.csv")]
     assert stream("check", *words) == "yes\n"
@@ -164,7 +161,7 @@ def test_a_plan_has_the_sums_of_the_reports(hsp: Hsp, wide: Path) -> None:
     wanted = [{"region": name, "queries": int(asked), "cost": int(cost)} for asked, cost, name in regions[:-1]]
     assert said["regions"] == wanted
     assert regions[-1] == ["total", str(said["queries"]), str(said["cost"])]
-    assert (said["rows_are"], said["unit"]) == ("log", 1)
+    assert said["rows_are"] == "log"
     rows = list(csv.DictReader(io.StringIO(hsp("plan", str(wide), "--csv", "--no-save").stdout)))
     for asked, _, name in regions[:-1]:
         assert sum(int(it["queries"]) for it in rows if it["region"] == name) == int(asked)
@@ -213,14 +210,20 @@ def test_a_log_is_planned_as_the_table_of_its_rows(
 
 
 def test_a_shorter_log_has_a_row_for_each_kind(tmp_path: Path, small: None) -> None:
-    """As hsplan-stream joins the rows of the table."""
+    """With the handle of the kind's first row, and the sum of all."""
     service = random_service(tmp_path, 3, 300)
     invoke("demand", service.log, "--regions", tmp_path / "networks.csv", "--into", service.folder)
     own, programs = read(service.folder)
-    kinds = sorted(csv.reader(io.StringIO(programs.kinds(own.inputs, own.inputs.demand, None))))
+    asked = rows(Path(own.inputs.demand))
+    places = programs.places(own.inputs, dict.fromkeys(handle for _, handle, _ in asked))
+    kinds: dict[tuple[object, ...], tuple[str, str, int]] = {}
+    for region, handle, count in asked:
+        kind = region, *(places[handle, site.name] for site in own.sites)
+        first = kinds.get(kind, (region, handle, 0))
+        kinds[kind] = (*first[:2], first[2] + int(count))
     shorter = joined(own, programs).demand
-    assert shorter != own.inputs.demand and len(kinds) < own.log.rows  # type: ignore[union-attr]
-    assert sorted(csv.reader(io.StringIO(Path(shorter).read_text()))) == kinds
+    assert shorter != own.inputs.demand and len(kinds) < len(asked)
+    assert rows(Path(shorter)) == [[region, handle, str(count)] for region, handle, count in kinds.values()]
     assert joined(own, programs).demand == shorter
 
 
@@ -313,13 +316,6 @@ def test_where_says_which_file_lacks_what(hsp: Hsp, example: Example) -> None:
     demand.write_text("region,handle,count\nus,20.500.1234/film-5,3\nus,20.500.1234/film-6,0\n")
     for region, handle, answer, why in [
         ("US", "20.500.1234/film-5", "unknown", f"{costs} has no cost of US at any site; did you mean us?"),
-        ("asia", "20.500.1234/film-5", "unknown", f"{demand} has no row of asia"),
-        (
-            "us",
-            "20.500.1234/dataset-7",
-            "unknown",
-            f"{demand} has no row of us for this handle, nor for one with the same servers",
-        ),
         ("us", "20.500.1234/film-6", "spent", f"{demand} counts 0 queries for it"),
         ("us", "film", "refused BadHandle NoSlash", None),
     ]:
@@ -329,6 +325,15 @@ def test_where_says_which_file_lacks_what(hsp: Hsp, example: Example) -> None:
         said = json.loads(hsp("where", str(folder), region, handle, "--json", status=1).stdout)
         assert (said["answer"], said["why"]) == (answer, why)
     assert json.loads(hsp("where", str(folder), "us", "20.500.1234/film-5", "--json").stdout)["why"] is None
+
+
+def test_where_of_a_handle_that_a_table_lacks_is_by_prices(hsp: Hsp, example: Example) -> None:
+    folder = example("two-sites")
+    said = json.loads(hsp("where", str(folder), "eu", "20.500.1234/dataset-24", "--json").stdout)
+    assert said["why"] == f"{folder}/demand.csv has no row of it, so this is by prices of the same demand"
+    (folder / "own.prices").write_text(stream("plan", *priced(folder)[:-2], "--log", folder / "demand.csv"))
+    (folder / "asked.csv").write_text("region,handle\neu,20.500.1234/dataset-24\n")
+    assert said["answer"] == stream("answer", *priced(folder, "own.prices"), "--log", folder / "asked.csv").strip()
 
 
 def test_a_changed_capacity_makes_a_plan_old(hsp: Hsp, wide: Path, tmp_path: Path) -> None:
@@ -359,52 +364,46 @@ def test_faults_of_a_log_are_shown_with_their_places(hsp: Hsp, tmp_path: Path) -
     assert hsp("plan", str(folder), status=1).stderr.count("error") == 2
 
 
-def test_a_unit_is_of_tables(hsp: Hsp, tmp_path: Path) -> None:
-    folder = many(tmp_path / "s")
-    (folder / "hsp.toml").write_text("[demand]\nunit = 10\n")
-    said = hsp("plan", str(folder), status=1).stderr
-    assert "take unit out of [demand]" in said and "a log counts queries" in said
+def fronts(folder: Path) -> list[Path]:
+    """The logs of two fronts, with handles of which most are in no demand."""
+    logs = [folder / f"front-{front}.csv" for front in range(2)]
+    for front, log in enumerate(logs):
+        log.write_text("region,handle\n" + "".join(f"eu,20.{at}/y-{at}\n" for at in range(front, 400, 2)))
+    return logs
+
+
+def answers(folder: Path, name: str, log: Path, front: int) -> str:
+    """What one run of hsplan-stream answers to a front of two."""
+    return stream("answer", *priced(folder, name), "--fronts", 2, "--front", front, "--log", log)
 
 
 def test_fronts_answer_by_prices(hsp: Hsp, wide: Path, tmp_path: Path) -> None:
     """As one run of hsplan-stream answer for each front."""
     hsp("plan", str(wide))
-    logs = []
-    for front in range(2):
-        log = tmp_path / f"front-{front}.csv"
-        log.write_text("region,handle\n" + "".join(f"eu,20.{at}/y-{at}\n" for at in range(front, 400, 2)))
-        logs.append(log)
+    logs = fronts(tmp_path)
     words = ["fleet", "dispatch", str(wide), "--fronts", "2", "--workers", "1"]
     said = hsp(*words, *(f"{front}={log}" for front, log in enumerate(logs))).stdout
     assert said.startswith("400 rows: 400 assigned; answers in ")
     for front, log in enumerate(logs):
-        own = stream("answer", *priced(wide), "--fronts", 2, "--front", front, "--log", log)
-        assert (tmp_path / f"front-{front}.csv.answers").read_text() == own
-    unit = [*words, "--any-handle", "--unit", "5", f"0={logs[0]}"]
-    assert "--unit is of a table" in hsp(*unit, status=2).stderr
+        assert (tmp_path / f"front-{front}.csv.answers").read_text() == answers(wide, "plan.txt", log, front)
 
 
-def test_parts_of_many_kinds_pass_pairs_on(tmp_path: Path, monkeypatch: pytest.MonkeyPatch) -> None:
-    """Of 10,080 kinds: the sums are those of all pairs, and a part holds so many pairs at most."""
-    folder, asked, _ = many_kinds(tmp_path, 40_000)
-    inputs = inputs_of(folder)
-    pairs = [(str(region_of(it.client)).encode(), it.handle.encode()) for it in asked]
-    tables = []
-    for at in range(2):
-        own = Table(Programs(), inputs)
-        own.add((pair, 1) for pair in pairs[20_000 * at : 20_000 * (at + 1)])
-        tables.append(own.said())
-        assert own.is_wide and not tables[at]["is_joined"]
-    whole = merged([*tables, tables[1]], Table(Programs(), inputs))
-    assert Counter(whole.counts) == Counter([*pairs, *pairs[20_000:]])
-    tally = Tally(Programs())
-    tally.take(whole.counts, whole.is_joined)
-    assert tally.demand(inputs, None).rows == 40_000
-    monkeypatch.setattr("hsp.fleet.tables.MOST_WIDE", 39_999)
-    again = Table(Programs(), inputs, 19_999)
-    with pytest.raises(Unfit, match="hsp demand counts any number"):
-        again.add((pair, 1) for pair in pairs)
-        again.said()
+def test_a_table_is_answered_by_prices_where_its_certificate_is_one(
+    hsp: Hsp, example: Example, tmp_path: Path
+) -> None:
+    """Of each front, and of one log of both fronts."""
+    folder, logs = example("two-sites"), fronts(tmp_path)
+    words = ["fleet", "dispatch", str(folder), "--plan", str(folder / "plan.prices"), "--fronts", "2", "--workers", "1"]
+    said = hsp(*words, *(f"{front}={log}" for front, log in enumerate(logs))).stdout
+    assert said.startswith("400 rows: 400 assigned; answers in ")
+    wanted = [answers(folder, "plan.prices", log, front) for front, log in enumerate(logs)]
+    assert [(tmp_path / f"front-{front}.csv.answers").read_text() for front in range(2)] == wanted
+    rows = zip(*(log.read_text().splitlines()[1:] for log in logs), strict=True)
+    whole = tmp_path / "all.csv"
+    whole.write_text("front,region,handle\n" + "".join(f"0,{one}\n1,{other}\n" for one, other in rows))
+    hsp(*words, str(whole))
+    in_turn = zip(*(text.splitlines(keepends=True) for text in wanted), strict=True)
+    assert (tmp_path / "all.csv.answers").read_text() == "".join(map("".join, in_turn))
 
 
 def test_a_program_without_the_command_is_named(

@@ -50,15 +50,15 @@ def test_a_nearest_plan_is_that_of_an_integer_programme(
     flows = Flows(now)
     cost = flows.cheapest()
     assert now.certificate.is_plan == (cost is not None)
-    homes = homes_of(before, before.certificate, False)
+    homes = homes_of(before, before.certificate)
     near = Portions(now, homes, programs).nearest(now, now.certificate)
     if cost is None:
         assert near is None
         return
     assert near and near.certificate.cost == cost == now.certificate.cost
-    at_home = {(it.row, it.home): it.units for it in portions_of(now, homes, False) if it.home is not None}
-    fewest = flows.fewest_moved(cost, {key: units for key, units in at_home.items() if key in flows.arcs})
-    gone = sum(units for key, units in at_home.items() if key not in flows.arcs)
+    at_home = {(it.row, it.home): it.queries for it in portions_of(now, homes) if it.home is not None}
+    fewest = flows.fewest_moved(cost, {key: queries for key, queries in at_home.items() if key in flows.arcs})
+    gone = sum(queries for key, queries in at_home.items() if key not in flows.arcs)
     assert near.moved == fewest + gone == moved_between(now, homes, near.certificate)
     assert programs.verdict(now.inputs, near.plan_file) == "yes"
     assert programs.verdict(near.portions, near.portions_plan) == "yes"
@@ -222,7 +222,7 @@ def test_beyond_the_tables_a_line_says_so(hsp: Hsp, example: Example, monkeypatc
     monkeypatch.setattr("hsp.scenarios.nearest.MOST_DEMAND_ROWS", 30)
     with pytest.raises(TooMany, match="38 portions and 6 regions with their homes"):
         service = read_service(str(folder), Programs(), {})
-        Portions(service, homes_of(service, service.certificate, False), Judged())
+        Portions(service, homes_of(service, service.certificate), Judged())
 
 
 def test_what_had_a_server_that_is_gone_is_moved(hsp: Hsp, example: Example) -> None:
@@ -230,11 +230,11 @@ def test_what_had_a_server_that_is_gone_is_moved(hsp: Hsp, example: Example) -> 
     counts as moved, and no portion is at home."""
     folder = example("two-sites")
     service = read_service(str(folder), Programs(), {})
-    homes = homes_of(service, service.certificate, False)
+    homes = homes_of(service, service.certificate)
     renamed = {
         key: {(site, server + 10): number for (site, server), number in own.items()} for key, own in homes.items()
     }
-    assert all(it.home is None for it in portions_of(service, renamed, False))
+    assert all(it.home is None for it in portions_of(service, renamed))
     assert moved_between(service, renamed, service.certificate) == service.asked == 6_282
     programs = Judged()
     portions = Portions(service, renamed, programs)
@@ -262,17 +262,6 @@ def test_a_site_that_is_gone_has_moved_its_queries(hsp: Hsp, example: Example) -
     assert f"plain {share}" in printed
 
 
-@pytest.fixture
-def kinds(hsp: Hsp, example: Example) -> Path:
-    """A plan whose rows are kinds, and much room."""
-    folder = example("two-sites")
-    (folder / "hsp.toml").write_text('[demand]\nrows = "kinds"\n')
-    rooms = re.sub(r",(\d+)$", r",\g<1>0", (folder / "capacity.csv").read_text(), flags=re.M)
-    (folder / "capacity.csv").write_text(rooms)
-    hsp("plan", str(folder))
-    return folder
-
-
 def with_site(folder: Path, name: str, addresses: list[str], first: bool = False) -> None:
     """Puts a site beside the others, or before them. Nothing costs anything there, and there is room for all."""
     octets, own = (folder / "settings.toml").read_bytes(), examples.site_octets(name, 1, addresses)
@@ -284,24 +273,18 @@ def with_site(folder: Path, name: str, addresses: list[str], first: bool = False
         file.writelines(f"{name},{at + 1},10000\n" for at in range(len(addresses)))
 
 
-def test_kinds_are_told_apart_by_the_sites_of_both(hsp: Hsp, kinds: Path) -> None:
-    """A new site parts the kinds anew. All that goes there has moved."""
-    old = Path(shutil.copytree(kinds, kinds.parent / "old"))
-    assert "near  moves 0 (0%) of 6,282 queries" in hsp("plan", str(kinds), "--near", str(old)).stdout
-    with_site(kinds, "lima", ["203.0.113.1", "203.0.113.2"])
-    printed = hsp("plan", str(kinds), "--near", str(old)).stdout
+def test_all_that_goes_to_a_new_site_has_moved(hsp: Hsp, example: Example, tmp_path: Path) -> None:
+    """And all that was at a site which is gone."""
+    folder = example("two-sites")
+    rooms = re.sub(r",(\d+)$", r",\g<1>0", (folder / "capacity.csv").read_text(), flags=re.M)
+    (folder / "capacity.csv").write_text(rooms)
+    hsp("plan", str(folder))
+    old = Path(shutil.copytree(folder, tmp_path / "old"))
+    assert "near  moves 0 (0%) of 6,282 queries" in hsp("plan", str(folder), "--near", str(old)).stdout
+    with_site(folder, "lima", ["203.0.113.1", "203.0.113.2"])
+    printed = hsp("plan", str(folder), "--near", str(old)).stdout
     assert "near  moves 6,282 (100%) of 6,282 queries" in printed and "plain 6,282 (100%)" in printed
-    assert "near  moves 6,282 (100%) of 6,282" in hsp("plan", str(old), "--near", str(kinds)).stdout
-
-
-def test_kinds_of_a_site_with_other_servers_are_no_old_plan(hsp: Hsp, kinds: Path) -> None:
-    old = Path(shutil.copytree(kinds, kinds.parent / "old"))
-    with_site(old, "lima", ["203.0.113.1"])
-    hsp("plan", str(old))
-    with_site(kinds, "lima", ["203.0.113.1", "203.0.113.2"])
-    ended = hsp("plan", str(kinds), "--near", str(old), status=1)
-    why = "its rows are kinds, and lima has other servers now, so nobody knows what moves"
-    assert ended.stderr == f"hsp: {old}/plan.txt: {why}\n"
+    assert "near  moves 6,282 (100%) of 6,282" in hsp("plan", str(old), "--near", str(folder)).stdout
 
 
 def test_a_plan_of_other_settings_is_no_plan_in_force(hsp: Hsp, example: Example) -> None:
@@ -348,7 +331,7 @@ def test_a_plan_of_other_capacities_is_a_plan_in_force(tmp_path: Path, seed: int
     settings = (folder / "settings.toml").read_text()
     (folder / "settings.toml").write_text(re.sub(r"(limit = \d+)", r"\g<1>0", settings))
     now = read_service(str(folder), programs, {})
-    assert in_force(str(folder), now, programs).homes == homes_of(then, then.certificate, False)
+    assert in_force(str(folder), now, programs).homes == homes_of(then, then.certificate)
 
 
 def test_json_has_what_moves_and_what_lies_ahead(hsp: Hsp, example: Example) -> None:

@@ -3,7 +3,6 @@
 from __future__ import annotations
 
 import contextlib
-import csv
 import errno
 import os
 from collections.abc import Callable
@@ -13,23 +12,22 @@ from typing import Any
 
 import pytest
 
-from hsp.base import files, signals, units
+from hsp.base import files, signals
 
-from hsp.intake import forms, logs, outlook, regions
+from hsp.intake import forms, logs, regions
 
-from hsp.base.programs import Inputs, Missing, Programs
+from hsp.base.programs import Missing, Programs
 from hsp.base.unfit import Unfit
 from hsp.commands import shared
 from hsp.doctor import examined, examined_words, faults, guard
 from hsp.doctor.question import Said, said_of
 from hsp.fleet import demand, dispatch
 from hsp.fleet.remote import Mark, Seal
-from hsp.intake.tally import Tally
 from hsp.plans import service
 
 from conftest import TOP
 from test_sites import invoke
-from test_units import OTHER, TWO_IN_ONE, Place, host, written
+from services import OTHER, TWO_IN_ONE, Place, host, written
 
 Example = Callable[[str], Path]
 
@@ -149,12 +147,18 @@ def test_a_run_of_one_query_has_a_table_and_one_of_none_is_refused(
     tmp_path: Path, monkeypatch: pytest.MonkeyPatch
 ) -> None:
     (tmp_path / "n.csv").write_text("network,region\n192.0.2.0/24,eu\n")
-    whole = {"skipped": [], "asked": 1, "table": "region,handle,count\neu,20.1/a,1\n", "is_joined": False}
-    engine = SimpleNamespace(ship=lambda *_: None, publish=lambda _: None)
+    head = {"skipped": {"counts": {}, "first": {}}, "asked": 1}
+    whole = {**head, "table": "region,handle,count\neu,20.1/a,1\n"}
+    engine = SimpleNamespace(
+        ship=lambda *_: None,
+        submit=lambda *_, **__: whole,
+        head=lambda _: head,
+        outcomes=lambda parts, *_: parts,
+        publish=lambda _: None,
+    )
     monkeypatch.setattr(demand, "session", lambda *_: contextlib.nullcontext(engine))
-    monkeypatch.setattr(demand, "counted", lambda *_: ([{}], whole))
     assert invoke("fleet", "demand", "a.csv", "--regions", tmp_path / "n.csv").stdout == whole["table"]
-    whole["asked"] = 0
+    whole["table"] = "region,handle,count\n"
     said = invoke("fleet", "demand", "a.csv", "--regions", tmp_path / "n.csv", status=1).stderr
     assert said == "hsp: no query is in a.csv: it has no line\n"
 
@@ -169,43 +173,14 @@ def test_signals_of_several_steps(monkeypatch: pytest.MonkeyPatch) -> None:
     assert (raised, signals._late, signals._depth) == ([15], [], [])
 
 
-def test_numbers_that_units_do_not_divide() -> None:
-    assert units.capacities_in_units(b"a,b\nx,1999\ny,0\nz,01\n\nw,-5\n", 1000) == b"a,b\nx,1\ny,0\nz,01\n\nw,-5\n"
-    limit = csv.field_size_limit(131_072)  # as in a process that reads no faulty rows
-    try:
-        for odd in (b"\xff,1\n", b'"' + b"x" * 200_000 + b'",5\n'):
-            assert units.capacities_in_units(odd, 10) == odd
-    finally:
-        csv.field_size_limit(limit)
-    assert [units.has_hosts(it) for it in (b"[[host]]\n", b"host = []\n", b"[[", b"\xff", b"a=" + b"[" * 9999)] == [
-        True,
-        False,
-        False,
-        False,
-        False,
-    ]
-
-
-def test_costs_and_settings_that_are_none(tmp_path: Path) -> None:
-    paths = [tmp_path / "costs.csv", tmp_path / "settings.toml"]
-    paths[0].write_bytes(b"region,site,cost\n\xff,a,1\n")
-    paths[1].write_bytes(b"[[site")
-    inputs = Inputs(str(paths[1]), "", str(paths[0]), "")
-    assert outlook.costs_in(inputs.costs) == {} and outlook.sites_in(inputs, Programs()) == []
-    assert outlook.may_be_long(str(tmp_path / "none")) and not outlook.may_be_long(inputs.costs)
-    own = Tally(Programs())
-    with pytest.raises(Unfit, match="costs.csv: not a table: "):
-        own.without_costs(inputs)
-    paths[0].write_text("region,site,cost\neu,a,1\neu,b,2,3\neu,c,-1\nus,d,x\nus,e,\u0661\nus,f,7\n")
-    assert outlook.costs_in(inputs.costs) == {"eu": {"a": 1}, "us": {"f": 7}}
-    with pytest.raises(Unfit, match="^--unit joins rows by kinds: give --into DIR"):
-        outlook.refuse_unit(None, ["eu"])
-    with pytest.raises(
-        Unfit, match="costs.csv: no cost of mars. Put in the costs first: --unit joins rows by kinds$"
-    ):
-        outlook.refuse_unit(inputs, ["mars"])
-    outlook.refuse_unit(inputs, ["mars", "eu"])
-    outlook.refuse_unit(inputs, [])
+def test_costs_that_are_no_table(tmp_path: Path) -> None:
+    """Nothing is written then."""
+    (tmp_path / "n.csv").write_text("network,region\n192.0.2.0/24,eu\n")
+    (tmp_path / "log").write_text("client,handle\n192.0.2.1,20.1/a\n")
+    (tmp_path / "costs.csv").write_bytes(b"region,site,cost\n\xff,a,1\n")
+    words = ["demand", tmp_path / "log", "--regions", tmp_path / "n.csv", "--into", tmp_path]
+    assert invoke(*words, status=1).stderr.startswith(f"hsp: {tmp_path}/costs.csv: not a table: ")
+    assert not (tmp_path / "demand.csv").exists()
 
 
 def test_files_of_a_folder_that_are_absent(tmp_path: Path) -> None:
@@ -283,17 +258,14 @@ def test_logs_that_fleet_does_not_count() -> None:
         ([log("/a", "h"), log("/b", "h", "/a")], "/a: it would be read and written"),
     ):
         with pytest.raises(Unfit, match=f"^{line}$"):
-            demand._checked(own, "regions", None, None, {})
-    demand._checked([log("/a", "h", "/k"), log("/b", "i", "/k"), log("/a", "i", "/b2")], "none", None, None, NONE)
-
-
-NONE = dict.fromkeys(("settings", "values", "costs"))
+            demand._checked(own, "regions", None, None)
+    demand._checked([log("/a", "h", "/k"), log("/b", "i", "/k"), log("/a", "i", "/b2")], "none", None, None)
 
 
 def test_a_log_of_all_that_can_not_be_parted(tmp_path: Path) -> None:
     own: Any = SimpleNamespace(logs=["log"], targets=[])
-    with pytest.raises(Unfit, match="^log: with --any-handle each line has to begin with a front below 3$"):
-        dispatch._in_one(SimpleNamespace(), own, {"any_handle": True, "fronts": 3})  # type: ignore[arg-type]
+    with pytest.raises(Unfit, match="^log: by prices each line has to begin with a front below 3$"):
+        dispatch._in_one(SimpleNamespace(), own, {"by_prices": True, "fronts": 3})  # type: ignore[arg-type]
     path = tmp_path / "log"
     path.write_text("front,region,handle\n1,eu,a\n0,eu,b\n1,eu,c\n")
     parted: Any = SimpleNamespace(path=str(path), row=lambda front, row: {(0, 0): 1, (1, 1): 2}[front, row])

@@ -27,7 +27,6 @@ LOG = {
     "--handle": ("handle", None, None),
     "--time": ("time", None, None),
     "--by": ("continent.code", None, None),
-    "--unit": (None, 1, 1_000_000),
 }
 RESERVE = {"--reserve": ("0", None, None)}
 FLEET = {"--workers": (None, 1, 256), "--patience": (60, 1, None)}
@@ -48,7 +47,7 @@ OPTIONS = {
     "day": RESERVE,
     "demand": {**LOG, "--by": (["continent.code"], None, None), "--jobs": (None, 1, 64)},
     "fleet demand": {**LOG, **FLEET},
-    "fleet dispatch": {"--fronts": (None, 1, 64), "--unit": (None, 1, 1_000_000), **FLEET},
+    "fleet dispatch": {"--fronts": (None, 1, 64), **FLEET},
 }
 
 
@@ -123,11 +122,6 @@ REFUSED = [
     ),
     *((name, f"--regex '{GROUPS}' --format json", "--format does nothing with --regex") for name in COUNTING),
     *((name, "--time at", "--time does nothing: neither --from nor --to nor hours are asked for") for name in COUNTING),
-    *(
-        (name, f"{words} networks.csv", f"{words.split()[-1]} does nothing without {lack}: handles are joined")
-        for name in COUNTING
-        for words, lack in (("--settings", "costs"), ("--costs", "sites"), ("--values", "sites"))
-    ),
 ]
 
 

@@ -22,7 +22,6 @@ import pytest
 
 from hsp.base.programs import Missing, Programs, Refused
 from hsp.base.unfit import Unfit, shown
-from hsp.doctor.next_step import networks_in
 from hsp.intake import logs, reader, side_by_side
 from hsp.intake.forms import Form, within
 from hsp.intake.logs import LONGEST, Piece, lines_of, nonempty, pieces_of
@@ -300,12 +299,6 @@ def test_a_line_that_fills_many_pieces_is_read_once(tmp_path: Path, monkeypatch:
         before += blocks[-1].number - 1
     assert lines == [(1, b"a"), (3, b"b"), (4, b"c")] and passed == [(TOO_LONG, 2, b"x")]
     assert read < 2.1 * path.stat().st_size
-
-
-def test_what_comes_next_reads_no_pipe(tmp_path: Path) -> None:
-    os.mkfifo(tmp_path / "a.csv")
-    (tmp_path / "b.csv").write_text("network,region\n192.0.2.0/24,eu\n")
-    assert networks_in(str(tmp_path)) == ["eu"]
 
 
 def test_logs_that_are_no_plain_files_are_one_piece(tmp_path: Path) -> None:

@@ -6,10 +6,11 @@ import csv
 import io
 import json
 import os
-import re
+import shlex
 import shutil
 import subprocess
 import sys
+from collections import Counter
 from collections.abc import Callable
 from dataclasses import replace
 from pathlib import Path
@@ -19,12 +20,14 @@ import pytest
 from click.testing import CliRunner
 
 from hsp.base.numbers import part
-from hsp.base.programs import BOUNDLESS, Programs, Refused
+from hsp.base.programs import BOUNDLESS, Programs, Refused, program
 from hsp.cli import main
 from hsp.plans.plans import capacity_file, cheapest, least_purchase, planned, shortage, with_gains, with_purchase
 from hsp.plans.service import Service, read_service
 
 from conftest import Hsp
+from services import random_service, rows
+from test_sites import invoke
 
 from lib import companion
 
@@ -185,15 +188,33 @@ def test_a_part_is_nothing_or_all_only_where_it_is(share: float, words: str) -> 
     assert part(share) == words
 
 
+@pytest.mark.parametrize("seed", range(6))
+def test_a_plan_with_a_reserve_is_answered_by_its_command(hsp: Hsp, tmp_path: Path, seed: int) -> None:
+    """No server and no machine takes more than what is left of its capacity or its limit."""
+    service, kept = random_service(tmp_path, seed), tmp_path / "queries.csv"
+    words = ["--regions", tmp_path / "networks.csv", "--into", service.folder, "--log", kept]
+    invoke("demand", service.log, *words)
+    line = hsp("plan", str(service.folder), "--reserve", "3").stdout.splitlines()[-1]
+    assert line.startswith("answer hsplan dispatch --settings ")
+    command = shlex.split(line.removeprefix("answer hsplan ").replace("/dev/stdin", shlex.quote(str(kept))))
+    done = subprocess.run([program("hsplan"), *command], capture_output=True, text=True, check=True)
+    assert done.stderr == "assigned 20000 spent 0 unknown 0\n"
+    taken = Counter((site, int(server)) for _, site, _, server in map(str.split, done.stdout.splitlines()))
+    for site, server, room in rows(service.folder / "capacity.csv"):
+        assert taken[site, int(server)] <= int(room) * 97 // 100
+    for address, limit in service.hosts.items():
+        own = [(it.name, at) for it in service.sites for at, other in enumerate(it.addresses, 1) if other == address]
+        assert sum(taken[server] for server in own) <= limit * 97 // 100
+
+
 NEAR = {"near/demand.csv", "near/costs.csv", "near/plan.txt"}
 LESS = {"capacity-less-reserve.csv", "settings-less-reserve.toml"}
-UNITS = {"capacity-in-units.csv", "settings-in-units.toml"}
 
 
 def kept_in(folder: Path) -> set[str]:
     """The files that runs have kept beside a plan."""
     names = {str(path.relative_to(folder)) for path in folder.rglob("*") if path.is_file()}
-    return names & (NEAR | LESS | UNITS | {"near/mine"})
+    return names & (NEAR | LESS | {"near/mine"})
 
 
 @pytest.fixture
@@ -213,14 +234,6 @@ def test_a_plain_plan_takes_away_what_an_earlier_one_kept(hsp: Hsp, limited: Pat
         assert kept_in(limited) == NEAR | LESS, "another plan still stands by them"
     hsp("plan", str(limited), "--reserve", "1")
     assert kept_in(limited) == LESS and not (limited / "near").exists()
-    counted = re.sub(r",(\d+)$", r",\g<1>0", (limited / "capacity.csv").read_text(), flags=re.M)
-    (limited / "capacity.csv").write_text(counted)
-    settings = (limited / "settings.toml").read_text()
-    (limited / "settings.toml").write_text(settings.replace("limit = 2000", "limit = 20000"))
-    (limited / "hsp.toml").write_text('[demand]\nrows = "handles"\nunit = 10\n')
-    hsp("plan", str(limited))
-    assert kept_in(limited) == UNITS
-    (limited / "hsp.toml").unlink()
     hsp("plan", str(limited))
     assert kept_in(limited) == set()
 

@@ -28,7 +28,7 @@ from hsp.doctor import Examined
 
 from conftest import TOP, variables
 from printed import FOLDER, assert_kept, heads, kept
-from test_units import one_machine
+from services import one_machine
 
 # Other tests have what is run for help and parts, and run sessions of Python.
 TRANSCRIPTS = sorted({it.stem for it in FOLDER.glob("*.txt")} - {"help", "parts", "exact"})

@@ -548,16 +548,6 @@ def test_an_export_less_a_reserve_is_that_of_less_capacity(
     assert f"not all queries can be served, and there is no plan: hsp plan {two} --reserve 60\n" in said
 
 
-def test_a_demand_in_units_has_the_same_map(hsp: Hsp, two: Path, tmp_path: Path) -> None:
-    """Tenfold queries at tenfold capacities have the same shares."""
-    exported(hsp, two, tmp_path / "one")
-    rooms = [[site, own, 10 * int(room)] for site, own, room in list(table(two / "capacity.csv"))[1:]]
-    put(two, capacity=table_text("site,server_id,capacity", rooms))
-    (two / "hsp.toml").write_text(f'{(two / "hsp.toml").read_text()}\n[demand]\nrows = "kinds"\nunit = 10\n')
-    exported(hsp, two, tmp_path / "ten")
-    assert (tmp_path / "one" / "plan.map").read_text() == (tmp_path / "ten" / "plan.map").read_text()
-
-
 def haproxy_takes(folder: Path) -> None:
     done = subprocess.run(
         ["haproxy", "-c", "-f", str(folder / "haproxy.cfg")], capture_output=True, text=True, cwd="/"

@@ -558,14 +558,6 @@ def test_where_no_server_is_up_all_are_planned(two: Path, into: Path, front: Fro
     assert abs(sum(server.planned for server in state.servers.values()) - state.asked) <= 3
 
 
-def test_a_demand_in_units_is_planned_in_queries(two: Path, into: Path, front: Front) -> None:
-    """The capacities stay, and each count stands for two queries."""
-    put(two, demand=(two / "demand.csv").read_text(), hsp=(two / "hsp.toml").read_text() + "[demand]\nunit = 2\n")
-    service = read_service(str(two), Programs(), {})
-    own = rest(two, 0.25, {}, set())
-    assert service.unit == 2 and own.asked == round(service.asked / 4) == 3141
-
-
 def test_what_is_killed_goes_on_where_it_was(two: Path, into: Path, front: Front) -> None:
     period = period_of(100_000, 50_000)
 

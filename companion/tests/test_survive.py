@@ -105,7 +105,7 @@ def test_fallbacks_move_the_fewest(tmp_path: Path, seed: int) -> None:
     service = read_service(str(folder), programs, {})
     if not service.certificate.is_plan:
         return
-    portions = Portions(service, homes_of(service, service.certificate, False), programs)
+    portions = Portions(service, homes_of(service, service.certificate), programs)
     old = {(row, site): queries for row, site, queries in service.certificate.uses}
     for found in survived(service, programs, portions):
         if found.cost is None or found.moved is None:
@@ -276,28 +276,6 @@ def test_a_purchase_serves_every_loss_and_none_below_the_bound_does(tmp_path: Pa
     assert all(own <= 1 for own in sums)
 
 
-@pytest.mark.parametrize("rounds", [40, 1])
-def test_a_purchase_in_units_counts_what_capacities_have_beyond(
-    hsp: Hsp, example: Example, monkeypatch: pytest.MonkeyPatch, rounds: int
-) -> None:
-    """In units of 10 a capacity of 15,005 takes 15,000, and 5 more make a unit. No purchase below the bound serves all
-    losses, and the purchase itself does."""
-    monkeypatch.setattr("hsp.scenarios.purchase.MOST_ROUNDS", rounds)
-    folder = example("two-sites")
-    (folder / "hsp.toml").write_text('[demand]\nrows = "handles"\nunit = 10\n')
-    lines = (folder / "capacity.csv").read_text().splitlines()
-    (folder / "capacity.csv").write_text("\n".join([lines[0], *(f"{line}5" for line in lines[1:]), ""]))
-    service, programs = read_service(str(folder), Judged(), {}), Judged()
-    assert service.unit == 10 and all(room % 10 == 5 for room in service.capacities.values())
-    found = Purchases(service, programs).search()
-    for loss in losses_of(service):
-        assert programs.plan(without(service, loss, programs, found.bought).inputs)[0].is_plan
-    assert all((service.capacity(it) + more) % 10 == 0 for it, more in found.bought.items())
-    if rounds == 40:
-        # What both sites lack, 19,020 and 32,720 in whole units, less the 5 that each of the five servers has.
-        assert found.size == found.least == 19_020 + 32_720 - 25
-
-
 def test_the_rounds_run_out(tmp_path: Path, monkeypatch: pytest.MonkeyPatch, hsp: Hsp) -> None:
     """Then each loss buys what it still lacks, and both numbers are printed."""
     monkeypatch.setattr("hsp.scenarios.purchase.MOST_ROUNDS", 1)
@@ -344,19 +322,14 @@ def test_the_plan_before_is_known_where_it_is_kept(hsp: Hsp, example: Example, t
     )
 
 
-@pytest.mark.parametrize("unit, name", [(1, "capacity-less-reserve.csv"), (10, "capacity-in-units.csv")])
-def test_a_plan_less_a_reserve_is_answered_by_many(hsp: Hsp, example: Example, unit: int, name: str) -> None:
+def test_a_plan_less_a_reserve_is_answered_by_many(hsp: Hsp, example: Example) -> None:
     """hsp fleet dispatch takes the capacities that are kept beside it, and refuses a plan of neither."""
     folder, programs = example("two-sites"), Programs()
-    if unit > 1:
-        (folder / "hsp.toml").write_text(f'[demand]\nrows = "handles"\nunit = {unit}\n')
-        rooms = re.sub(r",(\d+)$", r",\g<1>0", (folder / "capacity.csv").read_text(), flags=re.M)
-        (folder / "capacity.csv").write_text(rooms)
     hsp("plan", str(folder), "--reserve", "2")
-    inputs, plan = inputs_in(str(folder), {}, unit), folder / "plan.txt"
+    inputs, plan = inputs_in(str(folder), {}), folder / "plan.txt"
     found = of_these_files(str(folder), programs, inputs, str(plan))
     assert programs.verdict(inputs, str(plan)) != "yes" == programs.verdict(found, str(plan))
-    assert (Path(found.capacity).name, found.unit) == (name, 1)
+    assert Path(found.capacity).name == "capacity-less-reserve.csv"
     assert "plan isn't one" not in hsp("doctor", str(folder)).stdout
     plan.write_text(plan.read_text().replace("\ncost ", "\ncost 1"))
     with pytest.raises(Unfit, match="the plan isn't one of these files"):

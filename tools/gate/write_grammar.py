@@ -282,7 +282,7 @@ def _rows_of_hsp() -> list[tuple[str, str]]:
     from hsp.base.bounds import MOST_HELD
     from hsp.doctor.guard import MEMORY, SECONDS
     from hsp.intake.logs import LONGEST, MOST_OF_LINE, MOST_XZ
-    from hsp.plans.marks import MOST_OF_TITLES, MOST_POINTS
+    from hsp.plans.titles import MOST_OF_TITLES, MOST_POINTS
 
     return [
         ("octets of a line of a log that may be a query", f"{LONGEST:,}"),

@@ -5,9 +5,9 @@ GoAccess (Debian: goaccess), where it is installed, reads the logs of usual form
     tools/measure/demand.py [--lines N] [--turns N] [--program FILE]
 
 Logs are of each form, over a day, and ask for 20,000 handles, a few of them often. One more asks for a new handle
-in nearly each line. Clients have 100,000 addresses in 65,536 networks. The service is that of examples/two-sites,
-so that rows are joined by kinds. GoAccess counts requests and visitors, and no regions. It runs on one thread: once as
-it comes, with all its panels, and once with the panel of requests only, which is nearest to what `hsp demand` counts.
+in nearly each line. Clients have 100,000 addresses in 65,536 networks. GoAccess counts requests and visitors, and no
+regions. It runs on one thread: once as it comes, with all its panels, and once with the panel of requests only, which
+is nearest to what `hsp demand` counts.
 
 Each row has the middle turn by the clock: lines a second, seconds of all processors, and the memory of the largest
 process. Behind them stand the load of the machine before the run, and the share of the processors that others stole
@@ -33,7 +33,6 @@ sys.path.insert(0, str(Path(__file__).resolve().parents[1]))
 from lib import programs, transcripts
 
 
-SITES = os.path.join(programs.TOP, "examples", "two-sites")
 REGIONS = ("eu", "us", "asia")
 HANDLES, CLIENTS = 20_000, 100_000
 DAY = 86_400
@@ -122,7 +121,7 @@ def put_log(path: str, form: str, lines: int, handle: Callable[[random.Random], 
 def ways(form: str, log: str, folder: str, is_usual: bool) -> dict[str, list[str]]:
     """The commands over a log by their names."""
     networks, out = os.path.join(folder, "networks.csv"), os.path.join(folder, "demand.csv")
-    words = ["/usr/bin/python3", "-m", "hsp", "demand", log, "--regions", networks, "--into", SITES, "-o", out]
+    words = ["/usr/bin/python3", "-m", "hsp", "demand", log, "--regions", networks, "-o", out]
     found = {"hsp demand --jobs 1": [*words, "--jobs", "1"], "hsp demand": words}
     if is_usual and shutil.which("goaccess"):
         report = os.path.join(folder, "report.json")

@@ -33,13 +33,12 @@ COMMANDS: dict[str, dict[str, Command]] = {
         "report": Command("hsplan", ("settings", "demand", "costs", "capacity", "plan", "kind"), ("values",)),
     },
     "hsplan-stream": {
-        "kinds": Command("hsplan-stream", ("settings", "costs", "log"), ("values", "unit")),
         "places": Command("hsplan-stream", ("settings", "log"), ("values",)),
         "plan": Command("hsplan-stream", ("settings", "costs", "capacity", "log"), ("values",)),
         "answer": Command(
             "hsplan-stream",
-            ("settings", "costs", "capacity", "log"),
-            ("values", "demand", "plan", "prices", "unit", "fronts", "front"),
+            ("settings", "costs", "capacity", "log", "prices"),
+            ("values", "fronts", "front"),
         ),
         "check": Command("hsplan-stream", ("settings", "costs", "capacity", "log", "prices"), ("values",)),
         "report": Command(
@@ -72,7 +71,6 @@ VALUES: dict[str, str] = {
     "servers": "N",
     "index": "N",
     "kind": "load|region|shortage",
-    "unit": "N",
     "fronts": "N",
     "front": "N",
 }
@@ -98,12 +96,11 @@ HEADERS: dict[str, str] = {
 LOG_HEADERS: dict[str, tuple[str, ...]] = {
     "dispatch": ("region,handle", "region,body"),
     "fronts": ("front,region,handle",),
-    "kinds": ("region,handle", "region,handle,count"),
     "places": ("handle", "region,handle"),
     "answer": ("region,handle", "region,body"),
     "check": ("region,handle", "region,handle,count"),
     "report": ("region,handle", "region,handle,count"),
-    "faults": ("region,handle", "region,body", "front,region,handle", "region,handle,count", "handle"),
+    "faults": ("region,handle", "region,body", "front,region,handle", "handle", "region,handle,count"),
 }
 LOG_HEAD = LOG_HEADERS["dispatch"][0].encode() + b"\n"
 
@@ -152,8 +149,6 @@ LARGEST_FILE = 67_108_864
 LONGEST_FIRST_LINE = 65_536
 # The greatest length of a row that reaches a responder whole, in octets.
 LONGEST_ROW = 1_048_576
-# The most answers for which one query of a plan may stand.
-GREATEST_UNIT = 1_000_000
 # The greatest count of a row of a log.
 GREATEST_ROW_COUNT = 1_000_000_000_000
 # The greatest number of queries of a class that go to a server.

@@ -16,7 +16,6 @@ from collections.abc import Iterable, Iterator
 from dataclasses import dataclass, replace
 from typing import NamedTuple
 
-from hsp.base import units
 from hsp.base.held import Held
 from hsp.base.grammar import GREATEST_CAPACITY, HEADERS, LOG_HEADERS
 from hsp.base.signals import uncut
@@ -78,17 +77,13 @@ def asked(name: str, *words: str) -> str:
 
 @dataclass(frozen=True)
 class Inputs:
-    """The files of a plan, by their paths. The demand counts in units of so many queries; the others never do.
-
-    A demand that no table holds is a log, and is planned by prices.
-    """
+    """The files of a plan, by their paths. A demand that no table holds is a log, and is planned by prices."""
 
     settings: str
     demand: str
     costs: str
     capacity: str
     values: str | None = None
-    unit: int = 1
     is_log: bool = False
 
     @property
@@ -133,20 +128,15 @@ class Use(NamedTuple):
 
 
 class Certificate:
-    """The text of a plan or of a shortage. Its sums are read at once, its lines when they are asked for.
+    """The text of a plan or of a shortage. Its sums are read at once, its lines when they are asked for."""
 
-    The text counts in units; what is read of it is in queries.
-    """
-
-    def __init__(self, text: str, unit: int = 1) -> None:
-        self.text, self._unit = text, unit
+    def __init__(self, text: str) -> None:
+        self.text = text
         head = text[:200].split("\n")
         self.head = head[0]
         said = dict(line.split(" ") for line in head[2:4] if line.count(" ") == 1)
         self.is_plan = head[1] == "PLAN"
-        self.cost, self.demand, self.capacity = (
-            unit * int(said.get(word, 0)) for word in ("cost", "demand", "capacity")
-        )
+        self.cost, self.demand, self.capacity = (int(said.get(word, 0)) for word in ("cost", "demand", "capacity"))
 
     def _columns(self, word: str, width: int) -> list[list[int]]:
         """The numbers in the lines of a word, column by column. These lines stand together."""
@@ -158,7 +148,7 @@ class Certificate:
     def use_columns(self) -> tuple[list[int], list[int], list[int]]:
         """The rows, the sites and the queries of all uses, in their order. It takes a third of the time of `uses`."""
         rows, sites, numbers = self._columns("use", 3)
-        return rows, sites, [self._unit * number for number in numbers]
+        return rows, sites, numbers
 
     @functools.cached_property
     def uses(self) -> list[Use]:
@@ -184,18 +174,18 @@ class Class(NamedTuple):
 class Prices(Certificate):
     """The text of a plan or of a shortage by prices. It names servers, and no row."""
 
-    def __init__(self, text: str, unit: int = 1) -> None:
-        super().__init__(text, unit)
+    def __init__(self, text: str) -> None:
+        super().__init__(text)
         end = dict(line.split(" ") for line in text[-200:].split("\n") if line.count(" ") == 1)
         if not self.is_plan:
-            self.demand, self.capacity = (unit * int(end.get(word, 0)) for word in ("demand", "capacity"))
+            self.demand, self.capacity = (int(end.get(word, 0)) for word in ("demand", "capacity"))
 
     @property
     def classes(self) -> list[Class]:
         """The classes of a plan."""
         lines = (line.split() for line in self.text.splitlines() if line.startswith("class "))
         return [
-            Class(region, {int(at): self._unit * int(number) for at, number in zip(own[::2], own[1::2])})
+            Class(region, {int(at): int(number) for at, number in zip(own[::2], own[1::2])})
             for _, region, *own in lines
         ]
 
@@ -260,7 +250,6 @@ class Programs:
         with _temporary("TMPDIR"), uncut():
             self._folder = tempfile.TemporaryDirectory(prefix="hsp-")
         self._numbers = itertools.count(1)
-        self._divided: dict[tuple[str, int], str] = {}
         self._held = Held()
         # The shorter logs that were made of logs, by the paths of settings and log.
         self.shorter: dict[tuple[str, str], str] = {}
@@ -293,43 +282,20 @@ class Programs:
     def put_table(self, header: str, rows: Iterable[Iterable[object]]) -> str:
         return self.put(table_text(header, rows), ".csv")
 
-    def in_units(self, inputs: Inputs) -> Inputs:
-        """The inputs as hsplan takes them: capacities and limits in the units of the demand, rounded down."""
-        if inputs.unit == 1:
-            return inputs
-        settings, capacity = self._settings_in_units(inputs), inputs.capacity
-        if (capacity, inputs.unit) not in self._divided:
-            with open(capacity, "rb") as file:
-                octets = units.capacities_in_units(file.read(), inputs.unit)
-            self._divided[capacity, inputs.unit] = self.put(octets, ".csv")
-        return replace(inputs, unit=1, settings=settings, capacity=self._divided[capacity, inputs.unit])
-
-    def _settings_in_units(self, inputs: Inputs) -> str:
-        """The settings, or a copy of them where hosts have limits. hsplan reads them first, so a fault is its own."""
-        key = inputs.settings, inputs.unit
-        if key not in self._divided:
-            with open(inputs.settings, "rb") as file:
-                octets = file.read()
-            if not units.has_hosts(octets):
-                return inputs.settings
-            self.places(inputs, ["0.NA/0"])
-            self._divided[key] = self.put(units.settings_in_units(octets, inputs.unit), ".toml")
-        return self._divided[key]
-
     def plan(self, inputs: Inputs) -> tuple[Certificate, str]:
         """The certificate of a plan or of a shortage, and the path of its file."""
         name = inputs.program
-        printed = run(name, "plan", *self.in_units(inputs).words())
+        printed = run(name, "plan", *inputs.words())
         if printed.status not in (0, 3):
             raise Refused(printed.status, printed.line.removeprefix(f"{name}: "))
         if not printed.out.startswith("HSPLAN "):
             raise Missing(f"{program(name)} printed no plan: is it {name}?")
         certificate = Prices if inputs.is_log else Certificate
-        return certificate(printed.out, inputs.unit), self.put(printed.out)
+        return certificate(printed.out), self.put(printed.out)
 
     def verdict(self, inputs: Inputs, plan: str) -> str:
         """What the checker says of a certificate: `yes`, or `no` and why."""
-        words = [*self.in_units(inputs).words(), inputs.plan_option, plan]
+        words = [*inputs.words(), inputs.plan_option, plan]
         return run(inputs.program, "check", *words).out.strip()
 
     def insist(self, inputs: Inputs, plan: str) -> None:
@@ -347,7 +313,7 @@ class Programs:
         return certificate, path
 
     def _report(self, inputs: Inputs, plan: str, report: str) -> list[str]:
-        words = [*self.in_units(inputs).words(), inputs.plan_option, plan]
+        words = [*inputs.words(), inputs.plan_option, plan]
         try:
             return asked(inputs.program, "report", *words, "--kind", report).splitlines()
         except Refused:
@@ -357,16 +323,13 @@ class Programs:
     def loads(self, inputs: Inputs, plan: str) -> tuple[list[Load], Bound]:
         """The load of each server, in the order of the settings, and the sums that show the cost."""
         *lines, bound = self._report(inputs, plan, "load")[1:]
-        unit, sums = inputs.unit, bound.split()[1::2]
-        loads = [(int(load), int(room), int(price)) for _, _, load, room, price, _ in map(str.split, lines)]
-        return [Load(unit * load, unit * room, price) for load, room, price in loads], Bound(
-            *(unit * int(number) for number in sums)
-        )
+        loads = [Load(int(load), int(room), int(price)) for _, _, load, room, price, _ in map(str.split, lines)]
+        return loads, Bound(*map(int, bound.split()[1::2]))
 
     def regions(self, inputs: Inputs, plan: str) -> dict[str, tuple[int, int]]:
         """The demand and the cost of each region."""
         lines = (line.split() for line in self._report(inputs, plan, "region")[1:-1])
-        return {name: (inputs.unit * int(demand), inputs.unit * int(cost)) for demand, cost, name in lines}
+        return {name: (int(demand), int(cost)) for demand, cost, name in lines}
 
     def reached(self, inputs: Inputs, plan: str) -> set[tuple[str, int]]:
         """The servers that the rows of a shortage may use, by site and identifier."""
@@ -417,16 +380,15 @@ class Programs:
         return dict(zip(handles, places))
 
     def where(self, inputs: Inputs, plan: str, region: str, handle: str) -> str:
-        """What a query is answered by a certificate: the line of `hsplan-stream answer`."""
-        log = self.put_table(LOG_HEADERS["answer"][0], [[region, handle]])
-        own = self.in_units(inputs)
-        words = own.priced(plan) if inputs.is_log else [*own.words(), "--plan", plan]
-        return asked("hsplan-stream", "answer", *words, "--log", log).rstrip("\n")
+        """What a query is answered by a certificate: the line of `hsplan dispatch`, or of `hsplan-stream answer`."""
+        log = self.put_table(LOG_HEADERS["dispatch"][0], [[region, handle]])
+        words = ["answer", *inputs.priced(plan)] if inputs.is_log else ["dispatch", *inputs.words(), "--plan", plan]
+        return asked(inputs.program, *words, "--log", log).rstrip("\n")
 
     def fault_of_log(self, log: str) -> str:
         """The first fault of a log in which any sites and costs could be; nothing where it has none."""
-        path = self.put("HSPLAN PRICES 1\nPLAN\ncost 0\nEND\n")
-        inputs = replace(self.without_sites(), demand=log, is_log=True)
+        inputs, path = self._bare
+        inputs = replace(inputs, demand=log, is_log=True)
         printed = run(inputs.program, "check", *inputs.words(), inputs.plan_option, path)
         return printed.line.removeprefix(f"{inputs.program}: ") if printed.status not in (0, 3) else ""
 
@@ -437,21 +399,16 @@ class Programs:
         return Inputs(self.put(b"", ".toml"), self.put(table, ".csv"), costs, capacity)
 
     @functools.cached_property
-    def _bare(self) -> list[str]:
-        """The options of a service without sites, and of its plan."""
-        inputs = self.without_sites()
-        return [*inputs.words(), "--plan", self.plan(inputs)[1]]
+    def _bare(self) -> tuple[Inputs, str]:
+        """A service without sites, and its plan by prices."""
+        return self.without_sites(), self.put("HSPLAN PRICES 1\nPLAN\ncost 0\nEND\n")
 
     def answers_without_sites(self, log: bytes, rows: int) -> list[str]:
         """What each of so many rows of a log is answered where there is no site: `refused` and why, or `unknown`."""
+        inputs, plan = self._bare
         path = self.put(log, ".csv")
-        answers = asked("hsplan-stream", "answer", *self._bare, "--log", path).splitlines()
+        answers = asked("hsplan-stream", "answer", *inputs.priced(plan), "--log", path).splitlines()
         os.unlink(path)
         if len(answers) != rows:
             raise Missing(f"hsplan-stream answered {len(answers)} of {rows} rows: please report this with your log")
         return answers
-
-    def kinds(self, inputs: Inputs, log: str, unit: int | None) -> str:
-        """The demand of a log, with a row for each kind of its rows."""
-        words = ["--unit", str(unit)] if unit else []
-        return asked("hsplan-stream", "kinds", *inputs.of_sites(), "--costs", inputs.costs, *words, "--log", log)

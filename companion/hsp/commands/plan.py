@@ -23,7 +23,7 @@ from hsp.base.text import colored, give, say
 from hsp.commands.shared import OUTPUT, ahead, progress
 from hsp.doctor.next_step import next_step
 from hsp.doctor.service_folder import read_in, sound, with_files
-from hsp.plans.answering import answer_lines, in_units
+from hsp.plans.answering import answer_lines, kept_beside
 from hsp.plans.plans import (
     Planned,
     Reference,
@@ -96,7 +96,6 @@ def json_of(plan: Planned, reference: Reference | None, near: Near | None, later
         "title": plan.service.titles.title,
         "served": True,
         "rows_are": plan.service.rows_are,
-        "unit": plan.service.unit,
         "queries": plan.service.asked,
         "cost": plan.cost,
         "cost_at_cheapest_sites": reference.cost if reference else None,
@@ -137,12 +136,12 @@ def show_shortage(service: Service, programs: Programs, as_json: bool) -> NoRetu
     sys.exit(SHORTAGE)
 
 
-def keep(service: Service, programs: Programs, path: str, near: Near | None) -> list[str]:
+def keep(service: Service, path: str, near: Near | None) -> list[str]:
     """Writes a plan, and beside it what else is needed to answer by it. Returns what is to be said of that."""
     contents: dict[str, bytes] = {}
     lines: list[str] = []
     if not os.path.exists(path) or os.path.isfile(path):
-        inputs, contents = in_units(service, programs, path)
+        inputs, contents = kept_beside(service, path)
         lines = answer_lines(service, inputs, path)
         if near:
             contents.update(near.contents(path))
@@ -209,7 +208,7 @@ def plan(folder: str, **given: Any) -> None:
     later = ahead(service, path) if said.more and not said.as_csv else None
     programs.insist(service.inputs, service.plan_file)
     programs.insist_held()
-    lines = [] if said.no_save else keep(service, programs, path, near)
+    lines = [] if said.no_save else keep(service, path, near)
     if said.as_csv or said.as_json:
         give(csv_of(found) if said.as_csv else json_of(found, reference, near, later))
         return

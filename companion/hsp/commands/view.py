@@ -116,6 +116,6 @@ def view(folder: str, before: str | None, **given: Any) -> None:
     programs.insist_held()
     text = render(shown)
     write(path, text)
-    rows = some(len(service.rows), "kind" if service.mark.is_joined else "row")
+    rows = some(len(service.rows), "row")
     say(f"{path}  {len(text.encode()) / 1024:,.0f} KiB, {service.rows_words if service.log else rows}")
     sys.exit(0 if service.certificate.is_plan else SHORTAGE)

@@ -24,8 +24,9 @@ from hsp.plans.where import where as where_goes
 def where(folder: str, region: str, handle: str, as_json: bool) -> None:
     """Says where the queries for a handle go.
 
-    hsplan-stream answers one query by the plan. Below it stands what the query pays at each server that it may use:
-    the cost of the site, and the prices of the server and of its machine.
+    One query is answered by the plan; where the demand has no row of it, by a plan by prices of the same demand. Below
+    it stands what the query pays at each server that it may use: the cost of the site, and the prices of the server and
+    of its machine.
     """
     if not is_utf8(region) or not is_utf8(handle):
         ended(1, "a region and a handle are text")

@@ -8,8 +8,8 @@ from collections.abc import Iterable, Iterator
 from hsp.base.paths import path_in
 from hsp.base.spelling import near
 from hsp.doctor.findings import WARNING, Finding, Place, Words, found, quoted, read_text
-from hsp.plans.marks import TITLES
 from hsp.plans.service import Service
+from hsp.plans.titles import TITLES
 
 
 def is_named(finding: Finding, name: str) -> bool:

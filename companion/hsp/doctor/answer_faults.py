@@ -7,7 +7,7 @@ import re
 from collections.abc import Iterator, Mapping
 from typing import NamedTuple
 
-from hsp.base.grammar import GREATEST_COUNT, GREATEST_PRICE, GREATEST_SUM, GREATEST_UNIT, MOST_CLASSES
+from hsp.base.grammar import GREATEST_PRICE, GREATEST_SUM, MOST_CLASSES
 from hsp.base.numbers import listed, some
 from hsp.base.paths import shell_word
 from hsp.doctor.findings import Place, Text, Words, found, quoted
@@ -180,17 +180,6 @@ def far_row(question: Question, said: Said) -> Explained:
     remedy = f"look at the line: sed -n {line}p {shell_word(path)}; hsp doctor on a short log with it says more"
     words = Words(message, remedy, "the log is long, and the row is far behind")
     return Explained(found(path, Place(line, 0, 0, ""), words, said.line))
-
-
-def count_too_large(question: Question, said: Said) -> Explained:
-    unit = said.numbers.get("unit", 1000)
-    log = question.files["log"].original.path
-    remedy = f"give --unit {unit}, and divide capacities and limits by {unit:,}"
-    if unit > GREATEST_UNIT:
-        remedy = f"cut the log in parts, and plan each by itself: a unit is at most {GREATEST_UNIT:,}"
-    message = f"a row of the table is above {GREATEST_COUNT:,}"
-    words = Words(message, remedy, f"row {said.numbers.get('row', 0)} of the table that kinds makes: a long log")
-    return Explained(found(log, Place(), words, said.line), [])
 
 
 def streams(question: Question, said: Said) -> Explained:

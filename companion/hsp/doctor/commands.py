@@ -5,7 +5,7 @@ from __future__ import annotations
 from dataclasses import dataclass
 from typing import NamedTuple
 
-from hsp.base.grammar import COMMANDS, VALUES, Command, program_of, value_of
+from hsp.base.grammar import COMMANDS, Command, program_of, value_of
 
 
 class Word(NamedTuple):
@@ -33,20 +33,10 @@ class Line:
         return COMMANDS[self.program][self.command]
 
 
-def needed(line: Line) -> tuple[str, ...]:
-    """The options that the line's command needs: answer those of a plan, or those of a certificate by prices."""
-    takes = line.takes
-    if line.command != "answer":
-        return takes.needed
-    is_by_prices = any(word.text.partition("=")[0] == "--prices" for word in line.words)
-    own = {*takes.needed, *(("prices",) if is_by_prices else ("demand", "plan"))}
-    return tuple(name for name in VALUES if name in own)
-
-
 def shown(line: Line) -> str:
     """The form of the line's command, as a manual page shows it."""
     takes = line.takes
-    words = [f"--{name} {value_of(line.program, name)}" for name in needed(line)]
+    words = [f"--{name} {value_of(line.program, name)}" for name in takes.needed]
     return " ".join([line.program, line.command, *words, *([takes.last.upper()] if takes.last else [])])
 
 

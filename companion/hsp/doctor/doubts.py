@@ -21,15 +21,13 @@ from hsp.base.spelling import near
 from hsp.base.unfit import Unfit
 from hsp.doctor.accepting import is_named, needless
 from hsp.doctor.findings import WARNING, Finding, Place, Text, Words, decoded, found, quoted, read_text
-from hsp.doctor.mark_doubts import mark_doubts
 from hsp.doctor.proxy_doubts import proxy_doubts
 from hsp.doctor.rows import Row, Table, table_of
 from hsp.doctor.toml_places import value_of
-from hsp.plans.marks import KEYS as MARK_KEYS
-from hsp.plans.marks import TABLE, TITLES
-from hsp.plans.proxied import PROXY, PROXY_KEYS, proxied_of
 from hsp.plans.answering import less_reserve
+from hsp.plans.proxied import PROXY, PROXY_KEYS, proxied_of
 from hsp.plans.service import ACCEPT, NAMES, TITLE_KEYS, VALUES, Service, dotted, is_of_hour, newer_than
+from hsp.plans.titles import TITLES
 
 # A demand beyond so many times all capacity, or a capacity beyond so many times the demand, has likely another unit.
 FAR_ABOVE, FAR_BELOW = 10, 1000
@@ -93,9 +91,7 @@ def handle_words(handle: str) -> tuple[str, str]:
 
 
 def handles(read: Read) -> None:
-    """Handles that aren't bare. One that names a kind is hashed as the log has it, and stands for others too."""
-    if read.service.mark.is_joined:
-        return
+    """Handles that aren't bare."""
     for row in read.demand.rows:
         handle = row.fields[1]
         message, group = handle_words(handle)
@@ -110,10 +106,7 @@ def handles(read: Read) -> None:
 
 
 def twins(read: Read) -> None:
-    """Handles of one region that differ only in the case of letters, or in how a letter is composed. Kinds have other
-    servers."""
-    if read.service.mark.is_joined:
-        return
+    """Handles of one region that differ only in the case of letters, or in how a letter is composed."""
     groups: dict[tuple[str, str], list[Row]] = defaultdict(list)
     for row in read.demand.rows:
         groups[row.fields[0], unicodedata.normalize("NFC", row.fields[1]).casefold()].append(row)
@@ -242,7 +235,7 @@ def zeros(read: Read) -> None:
     """Counts and capacities of 0."""
     for row in read.demand.rows:
         if row.fields[2] == "0" and not is_of_hour(read.service.inputs.demand):
-            message = f"{row.fields[0]} asks 0 times for {read.service.like(quoted(row.fields[1]))}"
+            message = f"{row.fields[0]} asks 0 times for {quoted(row.fields[1])}"
             remedy = "take the row out, or write its count"
             words = Words(message, remedy, "the row asks for nothing", "", "count 0", f"count 0 {row.fields[0]}")
             read.of_row(read.demand, row, 2, words)
@@ -439,14 +432,14 @@ def titles(read: Read) -> None:
         return
     text = read_text(path)
     said = tomllib.loads(decoded(text.octets))
-    whole = (*TITLE_KEYS, ACCEPT, TABLE, PROXY)
+    whole = (*TITLE_KEYS, ACCEPT, PROXY)
     own_proxy = said.get(PROXY, {})
     proxied = own_proxy if isinstance(own_proxy, dict) else {}
-    for own, known in ((said, whole), (said.get(TABLE, {}), MARK_KEYS), (proxied, PROXY_KEYS)):
+    for own, known in ((said, whole), (proxied, PROXY_KEYS)):
         for key in [name for name in own if name not in known]:
             meant = near(key, known, 0.6)
             remedy = f"write {meant}" if meant else "take it out"
-            remedy = f"write it above [{TABLE}]" if key in whole else remedy
+            remedy = f"write it above [{PROXY}]" if key in whole else remedy
             mark = f"did you mean {meant}?" if meant else ""
             place = text.match(rf"^\s*\[?\"?({re.escape(key)})\b") or Place()
             message, name = f"the key {quoted(key)} of {TITLES} is not read", f"unknown key {key}"
@@ -484,10 +477,7 @@ def doubts(service: Service, programs: Programs, of_folder: bool = True) -> Iter
     demand = table_of(first_rows(inputs.demand) if inputs.is_log else read_text(inputs.demand))
     costs, capacity = (table_of(read_text(own)) for own in (inputs.costs, inputs.capacity))
     read = Read(service, demand, costs, capacity, read_text(inputs.settings))
-    for look in WHOLE:
-        look(read)
-    read.findings += mark_doubts(service, demand.text)
-    for look in (*LOST, *REST):
+    for look in (*WHOLE, *LOST, *REST):
         look(read)
     one_place(read, programs)
     if of_folder:

@@ -2,6 +2,7 @@
 
 from __future__ import annotations
 
+import contextlib
 import os
 import re
 import tomllib
@@ -18,8 +19,8 @@ from hsp.doctor.guard import SECONDS, guarded
 from hsp.doctor.question import Diagnosis, Draft, Question, Said, Show, draft_of
 from hsp.doctor.toml_places import value_of
 from hsp.plans.counted import is_log
-from hsp.plans.marks import MOST_OF_TITLES, TABLE, TITLES, bad_keys
-from hsp.plans.service import NAMES, VALUES, Service, inputs_in, mark_of, service_of, titles_in
+from hsp.plans.service import NAMES, VALUES, Service, inputs_in, service_of, titles_in
+from hsp.plans.titles import MOST_OF_TITLES, REMEDY, TABLE, TITLES, outdated
 
 
 @dataclass(frozen=True)
@@ -62,9 +63,7 @@ def examined(
     copies = {role: draft.copy for role, draft in drafts.items() if draft.copy}
     question = question_of_plan(programs, drafts)
     try:
-        mark = mark_of(folder, given)
-        inputs = inputs_in(folder, {**given, **copies}, mark.unit)
-        service = service_of(folder, programs, inputs, titles_in(folder, title, cost), mark)
+        service = service_of(folder, programs, inputs_in(folder, {**given, **copies}), titles_in(folder, title, cost))
     except (Refused, Missing, Unfit, OSError) as fault:
         return _refused(question, folder, fault)
     work = guarded(lambda show: _all(doubts(service, programs), show))
@@ -93,7 +92,7 @@ def _refused(question: Question, folder: str, fault: Exception) -> Examined:
 
     def explain(show: Show) -> bool:
         result = diagnosed(question, None, show)
-        _all(titles_faults(folder), show)
+        _all([*titles_faults(folder), *_outdated(question)], show)
         return result.is_cut_short
 
     work = guarded(explain)
@@ -133,11 +132,11 @@ def titles_faults(folder: str) -> list[Finding]:
         return []
     if os.stat(path).st_size > MOST_OF_TITLES:
         message = f"{TITLES} has more than {MOST_OF_TITLES:,} octets"
-        words = Words(message, "keep only title, cost, time and [demand]", "another file?")
+        words = Words(message, "keep only title, cost, time, accept and [proxy]", "another file?")
         return [found(path, Place(), words)]
     text = read_text(path)
     try:
-        said = tomllib.loads(text.octets.decode("utf-8"))
+        tomllib.loads(text.octets.decode("utf-8"))
     except UnicodeDecodeError:
         remedy = f"iconv -f windows-1252 -t utf-8 {shell_word(path)} > utf8.toml"
         words = Words(f"{TITLES} isn't UTF-8", remedy, "a letter of Latin-1")
@@ -152,10 +151,16 @@ def titles_faults(folder: str) -> list[Finding]:
         why = re.sub(r" \(at .*\)", "", str(fault)).lower()
         words = Words(f"{TITLES} isn't TOML", 'write lines as title = "Films", cost = "ms", time = "an hour"', why)
         return [found(path, text.whole(number), words)]
-    return [
-        found(path, value_of(text, TABLE, 0, key.key), Words(key.message, key.remedy))
-        for key in bad_keys(said.get(TABLE, {}))
-    ]
+    return []
+
+
+def _outdated(question: Question) -> list[Finding]:
+    """A demand that an older hsp joined by kinds, or counted in units."""
+    demand = question.files["log" if "log" in question.files else "demand"].original.path
+    with contextlib.suppress(Unfit):  # of a broken hsp.toml
+        if old := outdated(demand):
+            return [found(old.path, value_of(read_text(old.path), TABLE, 0, old.key), Words(old.message, REMEDY))]
+    return []
 
 
 def examined_words(words: list[str], programs: Programs) -> Examined:

@@ -81,8 +81,6 @@ def _of_log(question: Question, said: Said) -> Explained | None:
         return answer_faults.streams(question, said)
     if said.word == "LogTooLong":
         return Explained(header_faults.log_too_long(question, said))
-    if said.word == "CountTooLarge":
-        return answer_faults.count_too_large(question, said)
     if "row" not in said.numbers:
         return None
     faulty = numbered_row(question, "log", said)
@@ -257,7 +255,7 @@ def without_answers(question: Question) -> Question:
 
     A check by prices has no demand, and reads its other inputs first.
     """
-    if question.command not in ("check", "dispatch", "report", "answer", "plan") or "demand" not in question.files:
+    if question.command not in ("check", "dispatch", "report", "plan") or "demand" not in question.files:
         return question
     files = {role: draft for role, draft in question.files.items() if role not in ("plan", "log", "file")}
     if "values" in question.absent:

@@ -74,10 +74,8 @@ def _of_names(text: Text, wanted: list[str]) -> Cause | None:
     first, want = text.line(1), wanted[0]
     names = [name.strip().strip('"') for name in first.split(",")]
     mended = "\n".join([want, *text.lines[1:]])
-    if first == LOG_HEADERS["kinds"][0] and want == HEADERS["demand"]:
-        remedy = (
-            f"count it: hsplan-stream kinds --settings FILE --costs FILE --log {shell_word(text.path)} > counted.csv"
-        )
+    if first == LOG_HEADERS["dispatch"][0] and want == HEADERS["demand"]:
+        remedy = "write a row for each region and handle, with its count; or hsplan-stream plan takes the log as it is"
         return Cause("this is a log, whose rows aren't counted yet", remedy)
     if first.casefold() in wanted or ",".join(names).casefold() in wanted:
         return Cause("another case of letters", f"write {want}", mended)
@@ -105,7 +103,7 @@ def _of_fronts(first: str, wanted: list[str]) -> Cause | None:
         remedy = f"put the number of the front before each row, and write front,{first}; or leave --fronts out"
         return Cause("a log for --fronts has a column more", remedy)
     if first.startswith("front,") and first.removeprefix("front,") in wanted:
-        given = "" if LOG_HEADERS["kinds"][1] in wanted else "give --fronts N too, or "
+        given = "" if HEADERS["demand"] in wanted else "give --fronts N too, or "
         return Cause("a log of several fronts", f"{given}take the first column out")
     return None
 
@@ -185,7 +183,7 @@ def too_many(question: Question, role: str, said: Said) -> Explained:
     if said.word == "TooManyRows":
         message = f"{len(table.rows):,} rows; the table has more than hsplan takes"
         why = "a row for each handle of a large service, or two tables joined"
-        remedy = "hsplan-stream kinds joins a log of any length to a table of demand"
+        remedy = "hsplan-stream plan takes it as a log of any length, and plans by prices"
         if role != "demand":
             remedy = "keep one row for each pair; take rows of sites or regions out that aren't used"
         place = draft.original.whole(draft.number(table.rows[-1].first)) if table.rows else Place()
@@ -205,5 +203,5 @@ def too_many(question: Question, role: str, said: Said) -> Explained:
 def log_too_long(question: Question, said: Said) -> Finding:
     """A log that has more rows than dispatch takes."""
     message, why = "the log has more rows than dispatch takes", f"each run of dispatch takes {MOST_LOG_ROWS:,} rows"
-    words = Words(message, "hsplan-stream answer takes a log of any length; or cut the log in parts", why)
+    words = Words(message, "hsplan-stream answer takes a log of any length, by prices; or cut the log in parts", why)
     return found(question.files["log"].original.path, Place(), words, said.line)

@@ -2,8 +2,6 @@
 
 from __future__ import annotations
 
-import contextlib
-import glob
 import os
 from collections.abc import Iterator
 
@@ -11,10 +9,8 @@ from hsp.base.numbers import listed, some
 from hsp.base.paths import shell_word
 from hsp.base.programs import Programs
 from hsp.base.text import bold
-from hsp.base.unfit import Unfit
 from hsp.doctor.doubts import stale_plan
 from hsp.doctor.examine import examined
-from hsp.intake.regions import is_table, named_in
 from hsp.plans.service import NAMES, Service
 from hsp.plans.terminal import head
 
@@ -48,27 +44,6 @@ def _behind(folder: str) -> str:
     return "" if folder in ("", ".") else f" {shell_word(folder)}"
 
 
-def networks_in(folder: str) -> list[str]:
-    """The regions of the tables of networks that lie in a folder."""
-    found: list[str] = []
-    for path in sorted(glob.glob(os.path.join(glob.escape(folder), "*.csv"))):
-        with contextlib.suppress(Unfit, OSError):
-            if os.path.isfile(path) and is_table(path):
-                found += named_in(path, None)
-    return list(dict.fromkeys(found))
-
-
-def costs_first(service: Service) -> str:
-    """What the costs lack before a demand is counted: many handles are joined by them. Nothing where all is there."""
-    paying = {region for region, _ in service.costs}
-    lacking = [asked for asked in networks_in(service.folder) if asked not in paying]
-    if paying and not lacking:
-        return ""
-    which = f" of {listed(lacking, 6)}" if lacking else ""
-    example = f"{lacking[0] if lacking else 'REGION'},{service.sites[0].name},N"
-    return f"has no cost{which} yet: write rows as {example}; hsp demand joins many handles by them"
-
-
 def next_step(service: Service, programs: Programs) -> str:
     """The step for a folder without a fault: whether there is a plan, and whether it is one of these inputs."""
     at = _behind(service.folder)
@@ -77,8 +52,6 @@ def next_step(service: Service, programs: Programs) -> str:
             f"hsp sites FILE.. --into {shell_word(service.folder)}",
             "brings the sites in, of a proxy's JSON or their records",
         )
-    if service.is_empty and (lacking := costs_first(service)):
-        return step(NAMES["costs"], lacking)
     if service.is_empty:
         command = f"hsp demand LOG.. --regions FILE --into {shell_word(service.folder)}"
         return step(command, "counts the queries of access logs, by a table network,region")

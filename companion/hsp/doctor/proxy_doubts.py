@@ -10,9 +10,9 @@ from hsp.base.programs import Programs
 from hsp.base.unfit import Unfit
 from hsp.doctor.findings import WARNING, Finding, Place, Words, found, read_text
 from hsp.intake.addresses import Target, targets_of, twins
-from hsp.plans.marks import TITLES, titles_of
 from hsp.plans.proxied import PROXY, URLS, proxied_in
 from hsp.plans.service import Service
+from hsp.plans.titles import TITLES, titles_of
 
 # The table of the titles that says how a service is proxied.
 HEAD = r"^\s*\[?\"?(proxy)\b"

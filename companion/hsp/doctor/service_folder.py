@@ -17,10 +17,9 @@ from hsp.base.programs import Programs
 from hsp.base.text import say, visible
 from hsp.doctor import examined
 from hsp.doctor.doubts import OLD_PLAN
-from hsp.doctor.mark_doubts import MUCH_ADDED
 from hsp.doctor.printing import lines as finding_lines
-from hsp.plans.marks import TITLES
 from hsp.plans.service import NAMES, VALUES, Service
+from hsp.plans.titles import TITLES
 
 Command = TypeVar("Command", bound=Callable[..., Any])
 
@@ -65,8 +64,6 @@ def sound(
             say(line, err=True)
         sys.exit(found.status)
     warnings = [warning for warning in found.warnings if warning.group != OLD_PLAN]
-    for warning in (warning for warning in warnings if warning.group == MUCH_ADDED):
-        say(f"hsp: {warning.message}; {warning.remedy}", err=True)
     if warnings:
         titles = visible(listed(dict.fromkeys(warning.message for warning in warnings), 2))
         say(f"hsp: {some(len(warnings), 'warning')}: {titles} (hsp doctor {visible(shell_word(folder))})", err=True)

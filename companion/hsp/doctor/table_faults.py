@@ -18,7 +18,6 @@ from hsp.base.grammar import (
     LOG_HEADERS,
     LONGEST_HANDLE,
     LONGEST_NAME,
-    MOST_DEMAND_ROWS,
     MOST_REGIONS,
     NAME_RULE,
     NAME_SIGNS,
@@ -447,12 +446,6 @@ def too_many_regions(faulty: Faulty) -> Words:
     return Words(message, remedy, why, group=f"TooManyRegions {why}")
 
 
-def too_many_kinds(_: Faulty) -> Words:
-    why = "costs to all sites, or server counts without common factors"
-    remedy = "give each region costs for only the three or four sites that it uses"
-    return Words(f"here begins the {MOST_DEMAND_ROWS + 1:,}rd kind", remedy, why, group=f"TooManyKinds {why}")
-
-
 def mend_of(faulty: Faulty, about: tuple[Words, Place] | None) -> Mend:
     """What stands in a copy in place of a faulty row. Where a quote is taken out, the lines below it are rows again."""
     row, is_open = faulty.row, about is not None and about[0].group == OPEN_QUOTE
@@ -465,5 +458,4 @@ ROWS = {
     "BadBody": bad_body,
     "BadFront": bad_front,
     "TooManyRegions": too_many_regions,
-    "TooManyKinds": too_many_kinds,
 }

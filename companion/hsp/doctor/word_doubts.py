@@ -13,10 +13,8 @@ from hsp.base.unfit import Unfit
 from hsp.doctor.commands import Line, split
 from hsp.doctor.doubts import bare, doubts, handle_words
 from hsp.doctor.findings import WARNING, Finding, Place, Text, Words, found, quoted
-from hsp.doctor.log_doubts import absent_in, mark_of_words, of_absent, of_mark
 from hsp.doctor.question import Question
 from hsp.doctor.rows import Row, Table, table_of
-from hsp.plans.marks import Mark
 from hsp.plans.service import NAMES, Service, Titles, service_of, titles_in
 
 # A log may be long: so many octets of it are looked at.
@@ -35,7 +33,7 @@ def of_handle(line: Line) -> Iterator[Finding]:
             )
 
 
-def service_in(question: Question, mark: Mark) -> Service | None:
+def service_in(question: Question) -> Service | None:
     """The service of the four files of a plan, with their numbers as they are. Pipes can't be read once more."""
     files = {role: draft.original.path for role, draft in question.files.items() if not draft.copy}
     if not set(NAMES) <= set(files):
@@ -46,22 +44,21 @@ def service_in(question: Question, mark: Mark) -> Service | None:
         titles = titles_in(folder, None, None)
     except Unfit:  # of a broken hsp.toml, which no command of hsplan reads
         titles = Titles(folder)
-    return service_of(folder, question.programs, inputs, titles, mark)
+    return service_of(folder, question.programs, inputs, titles)
 
 
-def of_log(question: Question, service: Service | None, mark: Mark) -> Iterator[Finding]:
+def of_log(question: Question) -> Iterator[Finding]:
     """Rows of a log that are answered `unknown`: their region or their handle is spelt otherwise in the demand."""
-    if question.command not in ("dispatch", "answer") or not {"log", "demand"} <= set(question.files):
+    if question.command != "dispatch":
         return
     demand, text = table_of(question.text("demand")), question.text("log")
     is_long = len(text.octets) > LOOKED_AT
     log = Table(Text(text.path, text.octets[:LOOKED_AT].rpartition(b"\n")[0]) if is_long else text)
     if "region" in log.header:
         yield from _of_regions(log, log.header.index("region"), set(demand.column("region")))
-    if "handle" in log.header and question.command == "dispatch" and not mark.is_joined:
+    if "handle" in log.header:
         yield from _of_handles(log, log.header.index("handle"), demand.column("handle"))
-        pairs = {(row.fields[0], row.fields[1]) for row in demand.rows}
-        yield from of_absent(question, service, absent_in(log, log.header.index("handle"), pairs))
+        yield from _of_absent(log, log.header.index("handle"), {(row.fields[0], row.fields[1]) for row in demand.rows})
 
 
 def _of_regions(log: Table, at: int, regions: set[str]) -> Iterator[Finding]:
@@ -95,9 +92,23 @@ def _of_handles(log: Table, at: int, handles: list[str]) -> Iterator[Finding]:
             yield found(log.text.path, log.place(row, at), words, "", WARNING)
 
 
+def _of_absent(log: Table, at: int, pairs: set[tuple[str, str]]) -> Iterator[Finding]:
+    """A log of which half or more is in no row of the demand, though its regions are."""
+    regions = {region for region, _ in pairs}
+    known = [row for row in log.rows if len(row.fields) > at and row.fields[at - 1] in regions]
+    absent = [row for row in known if (row.fields[at - 1], row.fields[at]) not in pairs]
+    if not 0 < len(log.rows) <= len(absent) * 2:
+        return
+    words = Words(
+        f"{len(absent):,} of the first {some(len(log.rows), 'row')} of the log are in no row of the demand",
+        "count the demand from this log, and plan again; or hsplan-stream answers any handle by prices",
+        "a demand of another log: dispatch finds a row by its region and its handle",
+    )
+    yield found(log.text.path, log.place(absent[0], at), words, "", WARNING)
+
+
 def word_doubts(question: Question, line: Line) -> list[Finding]:
     """All that is accepted and seldom meant, where a command has no fault."""
-    mark = mark_of_words(question)
-    service = service_in(question, mark)
+    service = service_in(question)
     of_files = doubts(service, question.programs, of_folder=False) if service else []
-    return [*of_handle(line), *of_mark(question, mark), *of_files, *of_log(question, service, mark)]
+    return [*of_handle(line), *of_files, *of_log(question)]

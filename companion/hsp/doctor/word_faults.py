@@ -9,7 +9,6 @@ from hsp.base.grammar import (
     COMMANDS,
     FILES,
     GREATEST_ID,
-    GREATEST_UNIT,
     LONGEST_HANDLE,
     MOST_FRONTS,
     MOST_SERVERS,
@@ -20,7 +19,7 @@ from hsp.base.grammar import (
 )
 from hsp.base.paths import shell_word
 from hsp.base.spelling import near
-from hsp.doctor.commands import Line, Option, Word, needed, shown, split
+from hsp.doctor.commands import Line, Option, Word, shown, split
 from hsp.doctor.findings import Finding, Place, Words, found, quoted
 from hsp.doctor.question import Said
 
@@ -163,30 +162,18 @@ def _missing(line: Line, takes: Command, options: list[Option]) -> Iterator[Find
     """Options that a command needs and the line lacks, but for those that are misspelt in it."""
     names = {option.name for option in options}
     misspelt = [meant_by(option.name, takes, names) for option in options if option.name not in takes.options]
-    lacking = [option for option in needed(line) if option not in names and option not in misspelt]
+    lacking = [option for option in takes.needed if option not in names and option not in misspelt]
     if lacking:
         listed = " and ".join(f"--{name}" for name in lacking)
         values = " ".join(f"--{name} {'FILE' if name in FILES else 'load'}" for name in lacking)
         message = f"{line.command} needs {listed} too"
-        other = ", or --prices FILE" if line.command == "answer" and {"demand", "plan"} <= set(lacking) else ""
-        yield at_word(line, None, Words(message, f"write {values} behind it{other}", f"the form is {shown(line)}"))
+        yield at_word(line, None, Words(message, f"write {values} behind it", f"the form is {shown(line)}"))
     if line.command == "faults" and len(names & set(takes.options)) != 1:
         choices = " or ".join(f"--{option} FILE" for option in takes.options)
         yield at_word(line, None, Words("faults reads one file", f"write one of {choices}", "a table, or a log"))
     if line.command == "locate":
         yield from _locate(line, names | set(misspelt))
-    if line.command == "answer":
-        yield from _answer(line, options, names)
-
-
-def _answer(line: Line, options: list[Option], names: set[str]) -> Iterator[Finding]:
-    """Options of answer that go by a plan, beside prices; and one of the two words of a front."""
-    for option in options:
-        if "prices" in names and option.name in ("demand", "plan", "unit"):
-            why = "answer goes by a plan, or by a certificate by prices"
-            message = f"--{option.name} doesn't stand beside --prices"
-            yield at_word(line, option.word, Words(message, "take it out with its value", why))
-    if ("fronts" in names) != ("front" in names):
+    if line.command == "answer" and ("fronts" in names) != ("front" in names):
         absent = "front" if "fronts" in names else "fronts"
         remedy = f"write --{absent} N too, or neither of the two"
         yield at_word(line, None, Words(f"--{absent} is missing", remedy, "--fronts N --front K belong together"))
@@ -262,14 +249,12 @@ def not_utf8(line: Line, word: Word) -> Finding:
 
 
 def value_fault(line: Line, word: str) -> Finding:
-    """A value that its option doesn't take: `BadOption`, `BadServers`, `BadIndex`, `BadFronts`, `BadUnit` or
-    `BadFront`."""
+    """A value that its option doesn't take: `BadOption`, `BadServers`, `BadIndex`, `BadFronts` or `BadFront`."""
     advised = {
         "BadOption": ("option", "write na, local or handle"),
         "BadServers": ("servers", f"write the number of the site's servers, 1 to {MOST_SERVERS}"),
         "BadIndex": ("index", f"write the index of the value, a whole number up to {GREATEST_ID}"),
         "BadFronts": ("fronts", f"write how many dispatchers there are, 1 to {MOST_FRONTS}"),
-        "BadUnit": ("unit", f"write a whole number from 1 to {GREATEST_UNIT}, as 1000"),
         "BadFront": ("front", "write a number below that of --fronts: the first front is 0"),
     }
     name, remedy = advised[word]

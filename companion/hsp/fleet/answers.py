@@ -88,9 +88,8 @@ def words_of(request: dict[str, Any]) -> list[str]:
     """The command that answers, with the files of the run."""
     files = [word for role in FILES if role in request["files"] for word in (f"--{role}", request["files"][role])]
     fronts = ["--fronts", str(request["fronts"])]
-    if request["any_handle"]:
-        unit = ["--unit", str(request["unit"])] if request["unit"] else []
-        return [program("hsplan-stream"), "answer", *files, *fronts, "--front", str(request["front"]), *unit]
+    if request["by_prices"]:
+        return [program("hsplan-stream"), "answer", *files, *fronts, "--front", str(request["front"])]
     return [program("hsplan"), "dispatch", *files, *fronts]
 
 
@@ -105,10 +104,10 @@ def _feed(pipe: IO[bytes], request: dict[str, Any]) -> list[int]:
         with contextlib.suppress(BrokenPipeError):
             pipe.close()
         return []
-    front = b"" if request["any_handle"] else b"%d," % request["front"]
+    front = b"" if request["by_prices"] else b"%d," % request["front"]
     counts = [0] * len(request["logs"])
     with contextlib.suppress(BrokenPipeError):  # hsplan has ended, and says why
-        pipe.write((HEADER if request["any_handle"] else OF_ALL) + b"\n")
+        pipe.write((OF_ALL if front else HEADER) + b"\n")
         for at, path in enumerate(request["logs"]):
             for rows, number in rows_of_front(path, front):
                 counts[at] += number

@@ -1,4 +1,4 @@
-"""`hsp fleet demand`: a part for each log. Tables are added up by eights, in a tree."""
+"""`hsp fleet demand`: a part for each log. Their tables are added up here, one after the other."""
 
 from __future__ import annotations
 
@@ -12,7 +12,7 @@ import click
 from hsp.base.bounds import whole
 from hsp.base.files import locked, together
 from hsp.base.options import ANY_FILE
-from hsp.base.programs import Inputs, Programs
+from hsp.base.programs import Programs
 from hsp.base.text import say
 from hsp.base.unfit import Unfit
 from hsp.fleet import kit
@@ -23,30 +23,26 @@ from hsp.fleet.session import Targets, place_of, session, with_cluster
 from hsp.fleet.tables import counts_in, skipped_of
 from hsp.intake.bring import (
     FOLDER,
-    expect,
-    foreseen,
     form_of,
-    mark_of,
     give_demand,
+    of_folder,
     output_of,
     refuse_field,
     refuse_own,
     rows_lines,
+    say_twice,
     some_in,
     span_of,
     summary,
-    twice,
     with_forms,
+    without_costs,
     write_demand,
 )
 from hsp.intake.queries import Judge, Reading
 from hsp.intake.regions import regions_in
 from hsp.intake.tally import Tally
 from hsp.intake.times import Span
-from hsp.plans.marks import Mark
 
-# So many tables are added up by one part.
-WIDTH = 8
 AT_HOST = re.compile(r"@([^=/]+)=(.+)", re.DOTALL)
 
 
@@ -66,28 +62,21 @@ def log_of(text: str, suffix: str | None) -> Log:
     return Log(path, host, [os.path.abspath(path + suffix)] if suffix else [])
 
 
-def counted(engine: Engine, logs: list[Log], asked: Reply) -> tuple[list[Reply], Reply]:
-    """The heads of all logs' tables, and their sum."""
-    level = []
+def counted(engine: Engine, logs: list[Log], asked: Reply, tally: Tally) -> list[Reply]:
+    """Adds up the tables of all logs in their order, one at a time. Returns what else their parts say."""
+    parts = []
     for log in logs:
         host = engine.host(log.host) if log.host else None
         request = {**asked, "what": "count", "log": log.path, "targets": log.kept}
-        level.append(engine.submit(request, host=host))
-    heads = [engine.head(part) for part in level]
-    while len(level) > 1:
-        merge = {"what": "merge", "targets": []}
-        level = [engine.submit(merge, *level[at : at + WIDTH]) for at in range(0, len(level), WIDTH)]
-    show = shown(engine, "log", len(heads), lambda reply: int(reply.get("asked", 0)))
-    found = engine.outcomes(heads, show)
-    return found, engine.outcomes(level)[0]
+        parts.append(engine.submit(request, host=host))
+    heads = [engine.head(part) for part in parts]
+    found = engine.outcomes(heads, shown(engine, "log", len(heads), lambda reply: int(reply.get("asked", 0))))
+    for part in parts:
+        tally.count(counts_in(engine.outcomes([part])[0]["table"]))
+    return found
 
 
-def _files(regions: str, inputs: Inputs | None) -> dict[str, bytes]:
-    files = {"networks": whole(regions), **kit.programs(), "hsp.zip": kit.companion()}
-    return files | (kit.files_of(inputs) if inputs else {})
-
-
-def _checked(logs: list[Log], regions: str, into: str | None, output: str | None, given: Any) -> None:
+def _checked(logs: list[Log], regions: str, into: str | None, output: str | None) -> None:
     """Refuses a run that would read what it writes, or write a file twice."""
     if any(log.path == "-" for log in logs):
         raise Unfit("standard input isn't a log that workers can read")
@@ -100,7 +89,7 @@ def _checked(logs: list[Log], regions: str, into: str | None, output: str | None
             raise Unfit(f"{path}: it would be read and written")
     own = [log for log in logs if not log.host]
     outputs = [*([output] if output else []), *(path for log in own for path in log.kept)]
-    refuse_own([log.path for log in own], regions, into, outputs, given)
+    refuse_own([log.path for log in own], regions, into, outputs)
 
 
 def _span(given: dict[str, Any]) -> Span:
@@ -117,7 +106,7 @@ def _span(given: dict[str, Any]) -> Span:
     "--regions", metavar="FILE", type=ANY_FILE, required=True, help="a table network,region, or a MaxMind database"
 )
 @click.option("--into", metavar="DIR", type=FOLDER, help="the folder whose demand.csv is written")
-@click.option("-o", "--output", metavar="FILE", type=ANY_FILE, help="the table, in place of DIR/demand.csv")
+@click.option("-o", "--output", metavar="FILE", type=ANY_FILE, help="the demand, in place of DIR/demand.csv")
 @click.option("--keep", metavar="SUFFIX", help="also the queries of each LOG, in LOG with this suffix")
 @with_forms
 @with_cluster
@@ -125,38 +114,35 @@ def demand(logs: tuple[str, ...], regions: str, into: str | None, keep: str | No
     """Counts the queries of logs by region and handle, in parallel.
 
     It runs on many processors or machines. A LOG is the path of a file that every worker can read, or @HOST=PATH where
-    only the workers of one host can. The table is that of hsp demand over all logs in their order.
+    only the workers of one host can. The demand is that of hsp demand over all logs in their order.
     """
     programs = Programs()
     place, output = place_of(given), output_of(given, into)
     named = [log_of(log, keep) for log in logs]
-    _checked(named, regions, into, output, given)
+    _checked(named, regions, into, output)
     span, form = _span(given), form_of(given)
     refuse_field(regions, given["by"], "hours are counted by hsp demand --by")
     seek = regions_in(regions, given["by"], given["elsewhere"], programs)
     reading, tally = Reading(form, seek, Judge(programs)), Tally(programs)
-    expect(twice([log.path for log in named if not log.host]))
-    inputs = foreseen(regions, into, given, True, programs)
+    say_twice([log.path for log in named if not log.host])
+    of_folder(into, output)  # what can't be written is refused before logs are read, which takes long
     asked = {"form": fields_of_form(form), "by": given["by"], "elsewhere": given["elsewhere"], "span": astuple(span)}
+    files = {"networks": whole(regions), **kit.programs(), "hsp.zip": kit.companion()}
     targets: Targets = [(log.kept, log.host) for log in named]
     with session(place, targets) as engine:
-        engine.ship(_files(regions, inputs), given["installed"])
-        heads, whole = counted(engine, named, asked)
-        reading.skipped = skipped_of(whole["skipped"])
-        tally.asked = whole["asked"]
+        engine.ship(files, given["installed"])
+        heads = counted(engine, named, asked, tally)
+        reading.skipped = skipped_of(head["skipped"] for head in heads)
         some_in(logs, reading, tally.asked > 0)
-        tally.take(dict(counts_in(whole["table"])), whole["is_joined"])
-        found = tally.demand(inputs, given["unit"])
+        found, lacking = tally.demand(), without_costs(tally, into)
         hosts = [engine.host(log.host) if log.host else None for log in named]
         engine.is_publishing = True
         with locked(os.path.dirname(os.path.realpath(path)) for path in [output] if path):
             if output:
-                mark = mark_of(tally, tuple(logs), given["unit"]) if found.is_joined else Mark()
-                with together() as files:
-                    write_demand(found, output, into, mark, files)
+                with together() as outputs:
+                    write_demand(found, output, into, outputs)
             engine.publish([(log.kept, head, host) for log, head, host in zip(named, heads, hosts) if log.kept])
     if not output:
         give_demand(found)
-    closing = rows_lines(output, found, (inputs.costs, tally.without_costs(inputs)) if inputs else None)
-    for line in [*summary(logs, reading, tally, not given["prefix"]), *closing]:
+    for line in [*summary(logs, reading, tally, not given["prefix"]), *rows_lines(output, found), *lacking]:
         say(line, err=output is None)

@@ -5,16 +5,15 @@ from __future__ import annotations
 import contextlib
 import os
 import re
-import shlex
 import tempfile
 from collections import Counter
-from dataclasses import dataclass, field
+from dataclasses import dataclass, field, replace
 from typing import Any
 
 import click
 
 from hsp.base.files import refuse_clashes
-from hsp.base.grammar import GREATEST_UNIT, MOST_FRONTS
+from hsp.base.grammar import MOST_FRONTS
 from hsp.base.numbers import listed, some
 from hsp.base.options import ANY_FILE
 from hsp.base.paths import path_in, shell_word
@@ -29,10 +28,11 @@ from hsp.fleet.session import Targets, place_of, session, with_cluster
 from hsp.fleet.split import Parted
 from hsp.intake.bring import FOLDER
 from hsp.plans.answering import less_reserve
-from hsp.plans.marks import Mark, mark_in
-from hsp.plans.service import NAMES, inputs_in, newer_than
+from hsp.plans.service import inputs_in, newer_than
 
 SUFFIX = ".answers"
+# How a certificate by prices begins.
+PRICES = b"HSPLAN PRICES "
 OF_FRONT = re.compile(r"([0-9]+)(?:@([^=/]+))?=(.+)", re.DOTALL)
 
 
@@ -75,7 +75,7 @@ def fronts_of(words: tuple[str, ...], most: int) -> list[Front]:
 
 
 def request_of(front: Front, options: dict[str, Any], targets: list[str]) -> Reply:
-    said = {name: options[name] for name in ("fronts", "any_handle", "unit")}
+    said = {name: options[name] for name in ("fronts", "by_prices")}
     return {**said, "what": "answer", "front": front.number, "logs": front.logs, "targets": targets}
 
 
@@ -128,33 +128,13 @@ def _fine(parted: Parted, replies: list[Reply]) -> None:
 
 def _in_one(engine: Engine, own: Front, options: dict[str, Any]) -> list[Reply]:
     """A log that can't be parted by its lines is answered by one run."""
-    if options["any_handle"]:
-        wanted = f"with --any-handle each line has to begin with a front below {options['fronts']}"
+    if options["by_prices"]:
+        wanted = f"by prices each line has to begin with a front below {options['fronts']}"
         raise Unfit(f"{own.logs[0]}: {wanted}")
     parts = [engine.submit(request_of(own, options, own.targets))]
     replies = engine.outcomes(parts, shown(engine, "log", 1, _rows))
     engine.publish([(own.targets, replies[0], None)])
     return replies
-
-
-def unit_of(given: dict[str, Any], mark: Mark) -> int | None:
-    """The unit of the answers: that of the demand, where hsp.toml has it."""
-    unit: int | None = given["unit"]
-    if unit and not given["any_handle"]:
-        raise click.UsageError("--unit needs --any-handle")
-    if unit and mark.unit > 1 and unit != mark.unit:
-        raise click.UsageError(f"--unit is {unit:,}, and the demand counts in units of {mark.unit:,} by hsp.toml")
-    return mark.unit if given["any_handle"] and mark.unit > 1 else unit
-
-
-def any_handle_line(folder: str, logs: tuple[str, ...], plan: str | None, fronts: int) -> str:
-    """What to do where a front's rows are looked up by their handles, and the demand isn't one of handles."""
-    options = ["--fronts", str(fronts), "--any-handle", *(["--plan", plan] if plan else [])]
-    words = " ".join([shell_word(folder), *map(shlex.quote, [*options, *logs])])
-    return (
-        f"a row of {path_in(folder, NAMES['demand'])} isn't of one handle, so most rows are 'unknown'; "
-        f"hsplan-stream answer goes by kinds: hsp fleet dispatch {words}"
-    )
 
 
 def of_these_files(folder: str, programs: Programs, inputs: Inputs, plan: str) -> Inputs:
@@ -171,11 +151,14 @@ def of_these_files(folder: str, programs: Programs, inputs: Inputs, plan: str) -
     raise Unfit(f"{plan}: {why}: hsp plan {shell_word(folder)}; {inputs.program} check says {verdict}")
 
 
-def by_prices(given: dict[str, Any]) -> None:
-    """Sets the options of answers by prices: they are for any handle, and a plan of a log has no unit."""
-    if given["unit"]:
-        raise click.UsageError("--unit is of a table, and no table holds this demand: its plan counts queries")
-    given["any_handle"] = True
+def inputs_for(folder: str, certificate: str) -> Inputs:
+    """The files of a folder, whose demand is read as a log where the certificate is one by prices."""
+    if not os.path.isfile(certificate):
+        raise Missing(f"{certificate}: no such file: hsp plan {shell_word(folder)} makes it")
+    with open(certificate, "rb") as file:
+        is_by_prices = file.read(len(PRICES)) == PRICES
+    inputs = inputs_in(folder, {})
+    return replace(inputs, is_log=inputs.is_log or is_by_prices)
 
 
 @click.command()
@@ -185,36 +168,22 @@ def by_prices(given: dict[str, Any]) -> None:
     "--fronts", type=click.IntRange(1, MOST_FRONTS), required=True, metavar="N", help="how many fronts the plan has"
 )
 @click.option("--plan", metavar="FILE", type=ANY_FILE, help="the certificate, in place of DIR/plan.txt")
-@click.option("--any-handle", is_flag=True, help="answer by hsplan-stream: any handle, and logs of any length")
-@click.option(
-    "--unit",
-    type=click.IntRange(1, GREATEST_UNIT),
-    metavar="N",
-    help="of the demand, with --any-handle; that of hsp.toml",
-)
 @with_cluster
 def dispatch(folder: str, logs: tuple[str, ...], plan: str | None, **given: Any) -> None:
     """Answers the queries of logs by the plan of DIR, in parallel.
 
     Each front answers by its share, on many processors or machines. A front's LOG is a table region,handle. Every
     worker can read it, or those of its host only. The answers are in LOG.answers. One LOG of all fronts is a table
-    front,region,handle.
+    front,region,handle. By a plan by prices any handle is answered, and logs of any length.
     """
     place, fronts = place_of(given), fronts_of(logs, given["fronts"])
-    mark, programs = mark_in(folder), Programs()
-    given["unit"] = unit_of(given, mark)
     certificate = plan or path_in(folder, "plan.txt")
-    if not os.path.isfile(certificate):
-        raise Missing(f"{certificate}: no such file: hsp plan {shell_word(folder)} makes it")
-    inputs, own = inputs_in(folder, {}, mark.unit), [front for front in fronts if not front.host]
-    if inputs.is_log:
-        by_prices(given)
+    inputs, own = inputs_for(folder, certificate), [front for front in fronts if not front.host]
+    given["by_prices"] = inputs.is_log
     read = [certificate, *inputs.files(), *(path for front in own for path in front.logs)]
     refuse_clashes(read, [path for front in own for path in front.targets])
-    if not mark.is_plain and not given["any_handle"]:
-        say(f"hsp: {any_handle_line(folder, logs, plan, given['fronts'])}", err=True)
-    inputs = of_these_files(folder, programs, inputs, certificate)
-    files = {**kit.files_of(programs.in_units(inputs), certificate), **kit.programs(), "hsp.zip": kit.companion()}
+    inputs = of_these_files(folder, Programs(), inputs, certificate)
+    files = {**kit.files_of(inputs, certificate), **kit.programs(), "hsp.zip": kit.companion()}
     targets: Targets = [(front.targets, front.host) for front in fronts]
     with contextlib.ExitStack() as stack:
         folder = stack.enter_context(beside(fronts[0])) if fronts[0].number is None else ""

@@ -226,10 +226,9 @@ class Engine:
     def _is_fit(self, worker: Reply) -> bool:
         return bool(worker.get("resources", {}).get(self.seal.mark))
 
-    def submit(self, request: Reply, *before: Any, host: str | None = None) -> Any:
-        """A part, whose request is plain. The replies that it waits for are other parts."""
-        whole = {**request, "run": self.run, "at": os.getcwd()}
-        return self._submit("part", whole, *before, host=host, priority=len(before))
+    def submit(self, request: Reply, host: str | None = None) -> Any:
+        """A part, whose request is plain."""
+        return self._submit("part", {**request, "run": self.run, "at": os.getcwd()}, host=host)
 
     def head(self, part: Any) -> Any:
         """A part's reply without its table."""

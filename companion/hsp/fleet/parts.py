@@ -11,10 +11,10 @@ from typing import Any
 
 from hsp.base.files import created
 from hsp.base.grammar import LOG_HEAD
-from hsp.base.programs import Inputs, Missing, Programs, Refused
+from hsp.base.programs import Missing, Programs, Refused
 from hsp.base.unfit import Unfit
 from hsp.fleet import answers
-from hsp.fleet.tables import Table, merged
+from hsp.fleet.tables import Table
 from hsp.intake.forms import Form, within
 from hsp.intake.queries import Judge, Reading
 from hsp.intake.regions import regions_in
@@ -23,13 +23,6 @@ from hsp.intake.times import Span
 
 Request = dict[str, Any]
 Reply = dict[str, Any]
-
-
-def inputs_of(files: dict[str, str]) -> Inputs | None:
-    """The sites and costs of a run, where it has them."""
-    if "settings" not in files or "costs" not in files:
-        return None
-    return Inputs(files["settings"], "", files["costs"], "", files.get("values"))
 
 
 def form_of(said: Request) -> Form:
@@ -48,18 +41,17 @@ def fields_of_form(form: Form) -> Request:
 
 def count(request: Request) -> Reply:
     """Counts a log. Its queries are kept beside it where a file for them is named."""
-    programs = Programs()
     seek = regions_in(request["files"]["networks"], request["by"], request["elsewhere"])
     span = Span(*request["span"])
-    reading = Reading(form_of(request["form"]), seek, Judge(programs), tag=None if span.is_all else within(span))
-    table, asked = Table(programs, inputs_of(request["files"])), 0
+    reading = Reading(form_of(request["form"]), seek, Judge(Programs()), tag=None if span.is_all else within(span))
+    table, asked = Table(request["log"]), 0
     kept = created(request["staged"][0]) if request["staged"] else None
     try:
         if kept:
             kept.write(LOG_HEAD)
         for part in parts_of([request["log"]], reading, kept is not None):
             asked += part.counts.total()
-            table.add(part.counts.items())
+            table.add(part.counts)
             if kept:
                 kept.writelines(part.kept)
         if kept:
@@ -69,18 +61,10 @@ def count(request: Request) -> Reply:
         if kept:
             kept.close()
     skipped = {"counts": reading.skipped.counts, "first": reading.skipped.first}
-    return {**table.said(), "asked": asked, "skipped": [skipped]}
+    return {"table": table.text, "asked": asked, "skipped": skipped}
 
 
-def merge(request: Request) -> Reply:
-    """Adds up the tables of parts."""
-    before = request["before"]
-    table = merged(before, Table(Programs(), inputs_of(request["files"])))
-    skipped = [reason for said in before for reason in said["skipped"]]
-    return {**table.said(), "asked": sum(reason["asked"] for reason in before), "skipped": skipped}
-
-
-WORK: dict[str, Callable[[Request], Reply]] = {"count": count, "merge": merge, "answer": answers.answer}
+WORK: dict[str, Callable[[Request], Reply]] = {"count": count, "answer": answers.answer}
 
 
 def replied(request: Request) -> Reply:

@@ -152,7 +152,7 @@ def publish(run: str, targets: list[str], attempt: str, inodes: list[int]) -> No
 
 
 def head(reply: dict[str, Any]) -> dict[str, Any]:
-    """What the client asks of a table before all tables are added up."""
+    """What the client asks of a part before it takes its table."""
     return {name: value for name, value in reply.items() if name != "table"}
 
 
@@ -205,19 +205,16 @@ def _ran(whole: dict[str, Any], folder: str, worker: Any) -> dict[str, Any]:
     return reply
 
 
-def part(seal: Seal, request: dict[str, Any], *before: dict[str, Any]) -> dict[str, Any]:
+def part(seal: Seal, request: dict[str, Any]) -> dict[str, Any]:
     """What a part found, or its fault. What may go well at another time is raised."""
     worker = distributed.get_worker()
     reason = seal.differs(worker.local_directory)
     if reason:
         raise OSError(f"worker {worker.address}: {reason}")
-    fault = next((path for path in before if "fault" in path), None)
-    if fault:
-        return fault
     run, targets, attempt = request["run"], request["targets"], uuid.uuid4().hex[:12]
     names = [staged(target, run, attempt) for target in targets]
     files = {name: seal.path(worker.local_directory, name) for name in seal.sums}
-    whole = {**request, "files": files, "before": before, "staged": names}
+    whole = {**request, "files": files, "staged": names}
     try:
         with tempfile.TemporaryDirectory(dir=worker.local_directory) as folder:
             reply = _ran(whole, folder, worker)

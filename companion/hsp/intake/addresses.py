@@ -8,7 +8,7 @@ from hsp.base.paths import path_in
 from hsp.base.programs import Interface, Programs
 from hsp.base.unfit import Unfit
 from hsp.intake.sitejson import PROTOCOLS, RESOLUTION
-from hsp.plans.marks import TITLES
+from hsp.plans.titles import TITLES
 from hsp.plans.proxied import GREATEST_PORT, PROXY, URLS, Url
 from hsp.plans.service import Server, Service, dotted
 

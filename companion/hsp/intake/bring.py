@@ -14,12 +14,12 @@ import click
 
 from hsp.base.bounds import whole
 from hsp.base.files import Outputs, create, locked, refuse_clashes, replace_all, together
-from hsp.base.grammar import GREATEST_CAPACITY, GREATEST_UNIT, LOG_HEAD
+from hsp.base.grammar import GREATEST_CAPACITY, LOG_HEAD
 from hsp.base.numbers import listed, some
 from hsp.base.options import ANY_FILE, PathName, apart, idle
 from hsp.base.options import given as words_given
 from hsp.base.paths import path_in, shell_word
-from hsp.base.programs import Inputs, Programs
+from hsp.base.programs import Programs
 from hsp.base.text import give, is_utf8, say, show_progress
 from hsp.base.unfit import Unfit
 from hsp.intake import skeleton
@@ -30,15 +30,14 @@ from hsp.intake.hour_folders import folders_of, in_folders, tables_in, write_hou
 from hsp.intake.hour_tally import HourTally
 from hsp.intake.hours import CYCLES, Chosen, Cycle, chosen
 from hsp.intake.joining import block, capacity_rows, joined, lines_of, read_back
-from hsp.intake.outlook import may_be_long, outlook, refuse_unit
 from hsp.intake.progress import Gauge, Progress
 from hsp.intake.queries import Judge, Reading
-from hsp.intake.regions import is_table, named_in, regions_in
+from hsp.intake.regions import is_table, regions_in
 from hsp.intake.side_by_side import MOST_JOBS, parts_of
 from hsp.intake.sitefiles import Files, Found
 from hsp.intake.tally import Demand, Tally
 from hsp.intake.times import FIRST, LAST, Span, iso_seconds
-from hsp.plans.marks import KINDS, TITLES, Mark, marked
+from hsp.plans.titles import TITLES, uncounted
 from hsp.plans.service import NAMES, VALUES
 
 FOLDER = PathName(exists=True, file_okay=False)
@@ -201,49 +200,16 @@ def skipped_lines(reading: Reading) -> list[str]:
     return [f"skipped {some(reading.skipped.sum, 'line')}", *lines]
 
 
-def service_of(folder: str | None, given: dict[str, Any]) -> Inputs | None:
-    """The sites and the costs by which handles of one kind are joined, where both are there. Refuses one of them, and a
-    value list, where the other one lacks."""
-
-    def path_of(role: str, name: str) -> str | None:
-        beside = path_in(folder, name) if folder else ""
-        return given[role] or (beside if os.path.isfile(beside) else None)
-
-    settings, costs = path_of("settings", NAMES["settings"]), path_of("costs", NAMES["costs"])
-    if settings is None or costs is None:
-        for option in sorted(SERVICE & words_given()):
-            lack = "sites" if settings is None else "costs"
-            raise click.UsageError(f"{option} does nothing without {lack}: handles are joined by sites and costs")
-        return None
-    return Inputs(settings, "", costs, "", path_of("values", VALUES))
+def without_costs(tally: Tally, into: str | None) -> list[str]:
+    """Says which regions have no cost yet in the folder's table of costs, where it has one."""
+    costs = path_in(into, NAMES["costs"]) if into else ""
+    lacking = tally.without_costs(costs) if os.path.isfile(costs) else []
+    return [f"{costs} has no cost yet of {listed(lacking)}"] if lacking else []
 
 
-def expect(lines: list[str]) -> None:
-    """Says what is lacking before logs are read, which takes long."""
-    for line in lines:
-        say(f"hsp: {line}", err=True)
-
-
-def foreseen(
-    regions: str, into: str | None, given: dict[str, Any], is_long: bool, programs: Programs
-) -> Inputs | None:
-    """The sites and the costs of a service. Before logs are read it refuses what can't be joined or noted at their
-    end, and says what long logs will likely need."""
-    inputs, output = service_of(into, given), output_of(given, into)
-    if output:
-        of_folder(into, output, Mark(KINDS))
-    named = named_in(regions, given["elsewhere"])
-    if given["unit"]:
-        refuse_unit(inputs, named)
-    if is_long or given["unit"]:
-        expect(outlook(inputs, named, into, programs))
-    return inputs
-
-
-def twice(paths: Sequence[str]) -> list[str]:
+def say_twice(paths: Sequence[str]) -> None:
     """Names the files that are given twice, by one path or by two."""
     seen: dict[tuple[int, int], str] = {}
-    lines = []
     for path in paths:
         if not os.path.isfile(path):
             continue
@@ -251,8 +217,7 @@ def twice(paths: Sequence[str]) -> list[str]:
         first = seen.setdefault((found.st_dev, found.st_ino), path)
         if first is not path:
             what = f"{path} is given twice" if first == path else f"{first} and {path} are one file"
-            lines.append(f"{what}: its queries count twice")
-    return lines
+            say(f"hsp: {what}: its queries count twice", err=True)
 
 
 def counted(logs: tuple[str, ...], reading: Reading, tally: Tally, into: Any) -> None:
@@ -311,32 +276,24 @@ def summary(logs: tuple[str, ...], reading: Reading, tally: Tally, of_any_prefix
     return [first, *skipped_lines(reading), *(tally.prefixes.lines() if of_any_prefix else [])]
 
 
-def rows_lines(output: str | None, own: Demand, lacking: tuple[str, list[str]] | None) -> list[str]:
-    """How many rows the demand has, what each stands for, and which regions a file of costs lacks."""
-    kinds = ", each for the handles that have the same servers" if own.is_joined else ""
-    log = ", each for a region and a handle" if own.why_log and not own.is_joined else ""
-    lines = [f"{output or 'the table'} has {some(own.rows, 'row')}{kinds}{log}"]
-    lines += [f"no table holds it, as {own.why_log}: it is a log, and is planned by prices"] if own.why_log else []
-    return lines + ([f"{lacking[0]} has no cost yet of {listed(lacking[1])}"] if lacking and lacking[1] else [])
+def rows_lines(output: str | None, own: Demand) -> list[str]:
+    """How many rows the demand has, and whether it is a log."""
+    lines = [f"{output or 'the demand'} has {some(own.rows, 'row')}"]
+    if own.why_log:
+        lines.append(f"no table holds it, as {own.why_log}: it is a log, and is planned by prices")
+    return lines
 
 
-def hours_lines(
-    found: Chosen, folders: list[str], output: str | None, own: Demand, lacking: tuple[str, list[str]] | None
-) -> list[str]:
+def hours_lines(found: Chosen, folders: list[str], output: str | None, own: Demand) -> list[str]:
     """The same of the demands of all hours, and which of them the folder itself has."""
-    first, *lines = rows_lines(f"each {NAMES['demand']} of {folders[0]} to {folders[-1]}", own, lacking)
+    first, *lines = rows_lines(f"each {NAMES['demand']} of {folders[0]} to {folders[-1]}", own)
     return [first, f"{output} has the rows of {found.cycle.names[found.busiest]} that aren't 0", *lines]
 
 
-def mark_of(tally: Tally, logs: tuple[str, ...], unit: int | None) -> Mark:
-    """What the rows of a joined table stand for."""
-    return Mark(KINDS, unit or 1, logs, tally.asked, tally.handles)
-
-
-def of_folder(folder: str | None, output: str, mark: Mark) -> dict[str, bytes]:
-    """The folder's hsp.toml with a mark, where its own demand is written."""
+def of_folder(folder: str | None, output: str | None) -> dict[str, bytes]:
+    """The folder's hsp.toml without a table of the demand before it, where its own demand is written."""
     own = path_in(folder, NAMES["demand"]) if folder else ""
-    return marked(folder, mark) if folder and os.path.realpath(own) == os.path.realpath(output) else {}
+    return uncounted(folder) if folder and output and os.path.realpath(own) == os.path.realpath(output) else {}
 
 
 def give_demand(own: Demand) -> None:
@@ -345,12 +302,12 @@ def give_demand(own: Demand) -> None:
         give(piece)
 
 
-def write_demand(own: Demand, output: str, into: str | None, mark: Mark, files: Outputs) -> None:
-    """Writes a demand, and what its rows stand for into the folder's hsp.toml."""
+def write_demand(own: Demand, output: str, into: str | None, files: Outputs) -> None:
+    """Writes a demand, and the folder's hsp.toml where that tells of another one."""
     file = files.open(output)
     for piece in own.pieces():
         file.write(piece)
-    for path, octets in of_folder(into, output, mark).items():
+    for path, octets in of_folder(into, output).items():
         files.open(path).write(octets)
 
 
@@ -378,7 +335,7 @@ BY_HOURS = click.option(
     default=[BY_FIELD],
     show_default=True,
     callback=by_of,
-    help="of a MaxMind database; or hour or weekday-hour: a table of each",
+    help="of a MaxMind database; or hour or weekday-hour: a demand of each",
 )
 # The options that name fields of JSON and of tables.
 FIELDS = {"--client", "--handle", "--path", "--time"}
@@ -405,27 +362,12 @@ FORM_OPTIONS = [
     click.option("--prefix", metavar="PREFIX", multiple=True, help="count only handles of this prefix"),
     click.option("--elsewhere", metavar="REGION", help="of clients that have no region"),
 ]
-# The options that name files by which handles are joined.
-SERVICE = {"--settings", "--values", "--costs"}
-KINDS_OPTIONS = [
-    click.option(
-        "--unit",
-        type=click.IntRange(1, GREATEST_UNIT),
-        metavar="N",
-        help="join rows by kinds, and count in units of N queries, rounded up",
-    ),
-    click.option("--settings", type=FILE, metavar="FILE", help="the sites, in place of DIR's"),
-    click.option("--values", type=FILE, metavar="FILE", help="a value list, in place of DIR's"),
-    click.option("--costs", type=FILE, metavar="FILE", help="by which handles are joined, in place of DIR's"),
-]
-
-
 def with_forms(command: Command, by: Callable[[Any], Any] = OF_DATABASE) -> Command:
-    """Adds the options that say how logs are read, and how their rows are joined."""
+    """Adds the options that say how logs are read."""
     command = apart("--handle", "--path", "a line has either a handle or a path")(command)
     for word in sorted({"--format", *FIELDS}):
         command = idle(word, "--regex", why="its groups say what a line has")(command)
-    for option in reversed([*FORM_OPTIONS, by, *KINDS_OPTIONS]):
+    for option in reversed([*FORM_OPTIONS, by]):
         command = option(command)
     return command
 
@@ -435,16 +377,15 @@ def with_hours(command: Command) -> Command:
     return with_forms(command, BY_HOURS)
 
 
-def refuse_own(logs: Sequence[str], regions: str, into: str | None, outputs: Sequence[str], given: Any) -> None:
+def refuse_own(logs: Sequence[str], regions: str, into: str | None, outputs: Sequence[str]) -> None:
     """Refuses outputs that are inputs, or one another, or in the place of another file of DIR."""
     others = [name for role, name in NAMES.items() if role != "demand"] + [VALUES, TITLES]
     beside = [path_in(into, name) for name in others] if into else []
-    own = [given[role] for role in ("settings", "values", "costs") if given[role]]
-    refuse_clashes([*logs, regions, *beside, *own], outputs)
+    refuse_clashes([*logs, regions, *beside], outputs)
 
 
 def output_of(given: dict[str, Any], into: str | None) -> str | None:
-    """The file of the table, where one is named."""
+    """The file of the demand, where one is named."""
     return given["output"] or (path_in(into, NAMES["demand"]) if into else None)
 
 
@@ -480,7 +421,7 @@ def reading_of(logs: tuple[str, ...], regions: str, given: dict[str, Any], progr
     "--regions", metavar="FILE", type=ANY_FILE, required=True, help="a table network,region, or a MaxMind database"
 )
 @click.option("--into", metavar="DIR", type=FOLDER, help="the folder whose demand.csv is written")
-@click.option("-o", "--output", metavar="FILE", type=ANY_FILE, help="the table, in place of DIR/demand.csv")
+@click.option("-o", "--output", metavar="FILE", type=ANY_FILE, help="the demand, in place of DIR/demand.csv")
 @click.option("--log", "kept", metavar="FILE", type=ANY_FILE, help="also the queries, as a log for hsplan dispatch")
 @click.option("--jobs", type=click.IntRange(1, MOST_JOBS), metavar="N", help=JOBS)
 @with_hours
@@ -488,9 +429,9 @@ def demand(logs: tuple[str, ...], regions: str, into: str | None, kept: str | No
     """Counts the queries of access logs by region and handle.
 
     A LOG may be packed by gzip, bzip2 or xz; - is standard input. Its form is that of a handle server (server), of an
-    HTTP proxy (proxy), JSON lines (json) or a table (csv). Without --into and -o the table is printed.
+    HTTP proxy (proxy), JSON lines (json) or a table (csv). Without --into and -o the demand is printed.
 
-    With --by hour or --by weekday-hour each hour has a table, as DIR/h09/demand.csv or DIR/mon-h09/demand.csv. It has
+    With --by hour or --by weekday-hour each hour has a demand, as DIR/h09/demand.csv or DIR/mon-h09/demand.csv. It has
     the counts of the day with most queries in this hour. All have the same rows, with 0 where nothing came. Hours are
     those of one clock: that of the first time in the logs. DIR/demand.csv has the busiest hour.
     """
@@ -498,28 +439,26 @@ def demand(logs: tuple[str, ...], regions: str, into: str | None, kept: str | No
     if by.cycle and (kept or given["busiest_hour"]):
         raise click.UsageError(f"--log and --busiest-hour are of one demand, and --by {by.cycle.word} makes many")
     output, folders = output_of(given, into), folders_of(into, by.cycle)
-    refuse_own(logs, regions, into, [own for own in (output, kept, *tables_in(folders)) if own], given)
+    refuse_own(logs, regions, into, [own for own in (output, kept, *tables_in(folders)) if own])
     refuse_clashes([path_in(into, NAMES["demand"])] if into else [], [kept] if kept else [])
     reading = reading_of(logs, regions, given, programs)
-    expect(twice(logs))
-    inputs = foreseen(regions, into, given, any(map(may_be_long, logs)), programs)
+    of_folder(into, output)  # what can't be written is refused before logs are read, which takes long
+    say_twice(logs)
     found = by_hours(logs, reading, given, by.cycle) if by.cycle else None
     lines = found.lines() if found else by_time(logs, reading, given)
     tally = HourTally(programs, found) if found else Tally(programs)
-    tally.joins_by(inputs)
     with in_folders(folders), together() as files:
         counted(logs, reading, tally, files.open(kept) if kept else None)
-        own = tally.demand(inputs, given["unit"])
-        lacking = (inputs.costs, tally.without_costs(inputs)) if inputs else None
-        mark = mark_of(tally, logs, given["unit"]) if own.is_joined else Mark()
+        own, lacking = tally.demand(), without_costs(tally, into)
         if isinstance(tally, HourTally):
-            mark = write_hours(tally, folders, mark, files)
+            write_hours(tally, folders, files)
         if output:
-            write_demand(own, output, into, mark, files)
+            write_demand(own, output, into, files)
         else:
             give_demand(own)
-    closing = hours_lines(found, folders, output, own, lacking) if found else rows_lines(output, own, lacking)
-    for line in [*lines, *summary(logs, reading, tally, not given["prefix"]), *closing]:
+    lines += summary(logs, reading, tally, not given["prefix"])
+    lines += hours_lines(found, folders, output, own) if found else rows_lines(output, own)
+    for line in [*lines, *lacking]:
         say(line, err=output is None)
 
 

@@ -1,11 +1,10 @@
-"""The folders of hours: each has the demand of its hour, and what its rows stand for."""
+"""The folders of hours: each has the demand of its hour."""
 
 from __future__ import annotations
 
 import contextlib
 import os
 from collections.abc import Iterator, Sequence
-from dataclasses import replace
 
 import click
 
@@ -15,8 +14,8 @@ from hsp.base.programs import Missing
 from hsp.base.signals import uncut
 from hsp.intake.hour_tally import HourTally
 from hsp.intake.hours import Cycle
-from hsp.plans.marks import KINDS, Mark, marked
 from hsp.plans.service import NAMES
+from hsp.plans.titles import uncounted
 
 
 def folders_of(into: str | None, cycle: Cycle | None) -> list[str]:
@@ -30,7 +29,7 @@ def folders_of(into: str | None, cycle: Cycle | None) -> list[str]:
         if os.path.islink(folder) or os.path.lexists(folder) and not os.path.isdir(folder):
             kind = "a link" if os.path.islink(folder) else "no folder"
             raise Missing(f"{folder}: it is {kind}, and the table of an hour goes there; take it away")
-        marked(folder, Mark(KINDS))
+        uncounted(folder)
     return folders
 
 
@@ -55,20 +54,11 @@ def in_folders(folders: Sequence[str]) -> Iterator[None]:
         raise
 
 
-def write_hours(tally: HourTally, folders: Sequence[str], mark: Mark, files: Outputs) -> Mark:
-    """Writes the demand of each hour, and what its rows stand for into the hsp.toml of its folder.
-
-    Returns the mark of the busiest hour. The marks differ in the numbers of queries and handles only.
-    """
-    marks = [_of_hour(mark, tally, hour) for hour in range(len(folders))]
+def write_hours(tally: HourTally, folders: Sequence[str], files: Outputs) -> None:
+    """Writes the demand of each hour, and the hsp.toml of its folder where that tells of another one."""
     for hour, (folder, path) in enumerate(zip(folders, tables_in(folders))):
         file = files.open(path)
         for piece in tally.table(hour):
             file.write(piece)
-        for titles, octets in marked(folder, marks[hour]).items():
+        for titles, octets in uncounted(folder).items():
             files.open(titles).write(octets)
-    return marks[tally.busiest]
-
-
-def _of_hour(mark: Mark, tally: HourTally, hour: int) -> Mark:
-    return replace(mark, queries=tally.queries[hour], handles=tally.handles_of[hour]) if mark.is_joined else mark

@@ -1,18 +1,16 @@
-"""Queries are counted by hour, region and handle, and become a table of demand for each hour.
+"""Queries are counted by hour, region and handle, and become a demand of each hour.
 
-All tables have the same rows in the same order, with the count 0 where nothing came.
+All of them have the same rows in the same order, with the count 0 where nothing came.
 """
 
 from __future__ import annotations
 
 import io
-import os
-import re
 from collections.abc import Callable, Iterable, Iterator, Mapping
 
 from hsp.base.bounds import BESIDE, MOST_HELD, Query
 from hsp.base.grammar import MOST_DEMAND_ROWS
-from hsp.base.programs import Inputs, Missing, Programs, Refused
+from hsp.base.programs import Programs
 from hsp.intake.hours import Chosen
 from hsp.intake.regions import tag_of
 from hsp.intake.tally import HEADER, MOST_PAIRS, Demand, Tally, most_first, rows_of
@@ -32,9 +30,6 @@ class HourTally(Tally):
         self._files: list[str | None] = [None] * hours
         self._entries = 0
         self.busiest = chosen.busiest
-        # How many queries each hour has, and how many handles, where all were in memory at once.
-        self.queries = [0] * hours
-        self.handles_of: list[int | None] = []
         # The octets of the demand of an hour, in pieces of whole rows, as soon as there is a demand.
         self.table: Callable[[int], Iterator[bytes]] = lambda hour: iter(())
 
@@ -47,7 +42,6 @@ class HourTally(Tally):
             of_hour = self._hours[hour]
             self._entries += pair not in of_hour
             of_hour[pair] = of_hour.get(pair, 0) + number
-            self.queries[hour] += number
             plain[pair] = plain.get(pair, 0) + number
         super().count(plain)
 
@@ -70,60 +64,25 @@ class HourTally(Tally):
     def _kept(self) -> Iterable[tuple[Query, int]]:
         return ((pair, 0) for pair in self._counts)
 
-    def demand(self, inputs: Inputs | None, unit: int | None) -> Demand:
+    def demand(self) -> Demand:
         """The demand of the busiest hour, without rows of 0. `table` has those of all hours."""
-        is_whole = self._spilled is None
-        self.handles_of = [len({handle for _, handle in own}) if is_whole else None for own in self._hours]
-        own = super().demand(inputs, unit)
-        return Demand(own.rows, lambda: _without_zeros(self.table(self.busiest)), own.is_joined, own.why_log)
+        own = super().demand()
+        return Demand(own.rows, lambda: _without_zeros(self.table(self.busiest)), own.why_log)
 
     def _most_of_a_row(self) -> int:
         return max((max(counts.values(), default=0) for counts in self._hours), default=0)
 
     def _table(self) -> Demand:
         order = [pair for pair, _ in most_first(self._counts)]
-        own = [HEADER + b"".join(rows_of((pair, of.get(pair, 0)) for pair in order)) for of in self._hours]
-        return self._of_tables(own)
-
-    def _joined(self, service: Inputs, path: str, unit: int | None) -> Demand:
-        """Tables of kinds. Each hour's log begins with a row of each kind, so that these come in one order."""
-        kinds = self._programs.kinds(service, path, None).encode()
-        tables, faults = [], []
-        for file in self._files:
-            log = self._programs.put(kinds, ".csv")
-            self._programs.add(log, _rows_in(file))
-            try:
-                tables.append(self._programs.kinds(service, log, unit).encode())
-            except Refused as fault:
-                faults.append(fault)
-            finally:
-                os.unlink(log)
-        if faults:
-            raise max(faults, key=_unit_of)
-        if any(_names(table) != _names(kinds) for table in tables):
-            raise Missing("hsplan-stream joined the hours to other rows: please report this with your log")
-        return self._of_tables(tables, True)
-
-    def _of_tables(self, tables: list[bytes], is_joined: bool = False) -> Demand:
+        tables = [HEADER + b"".join(rows_of((pair, of.get(pair, 0)) for pair in order)) for of in self._hours]
         self._accepted(tables[self.busiest])
         self.table = lambda hour: iter([tables[hour]])
-        return Demand(tables[0].count(b"\n") - 1, lambda: iter(()), is_joined)
+        return Demand(len(order), lambda: iter(()))
 
     def _log(self, why: str) -> Demand:
         own = super()._log(why)
         self.table = lambda hour: _with_zeros(self._spilled or "", _rows_in(self._files[hour]))
         return own
-
-
-def _unit_of(fault: Refused) -> tuple[bool, int]:
-    """The unit that would be large enough for an hour. Another fault is before all units."""
-    unit = re.search(r"CountTooLarge.* unit ([0-9]+)", fault.line)
-    return unit is None, int(unit[1]) if unit else 0
-
-
-def _names(table: bytes) -> list[bytes]:
-    """The rows of a table without their counts."""
-    return [row.rpartition(b",")[0] for row in table.split(b"\n")[1:]]
 
 
 def _rows_in(path: str | None) -> Iterator[bytes]:

@@ -210,17 +210,6 @@ def is_table(path: str) -> bool:
         return file.read(32).removeprefix(b"\xef\xbb\xbf").splitlines()[:1] == [b"network,region"]
 
 
-def named_in(path: str, elsewhere: str | None) -> list[str]:
-    """The regions of a table of networks, as far as they are text. A database doesn't say which it has."""
-    if DATABASE_MARK in _tail(path):
-        return []
-    octets = whole(path)
-    if DATABASE_MARK in octets[-TAIL:]:
-        return []
-    names = dict.fromkeys(region.decode() for _, _, region in Networks._rows(path, octets))
-    return [*names, *([elsewhere] if elsewhere and elsewhere not in names else [])]
-
-
 def named(places: dict[str, str], programs: Programs) -> None:
     """Refuses a region whose name hsplan refuses. Each has the place where it stands."""
     names = list(places)

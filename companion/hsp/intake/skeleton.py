@@ -9,7 +9,7 @@ from importlib.resources import files
 from hsp.base.grammar import HEADERS
 from hsp.base.programs import table_text
 from hsp.intake.records import Interface, ServerRecord, SiteRecord
-from hsp.plans.marks import TITLES
+from hsp.plans.titles import TITLES
 from hsp.plans.service import NAMES
 
 README = "README.txt"

@@ -6,7 +6,6 @@ from __future__ import annotations
 import base64
 import functools
 import hashlib
-from collections import Counter
 from collections.abc import Iterable, Mapping
 from dataclasses import dataclass, field
 from typing import TYPE_CHECKING
@@ -231,15 +230,14 @@ def changes_between(old: Service, new: Service) -> list[str]:
     """What was changed between the files of two plans."""
     said = _changed("capacity of {} {}", _texts(old.capacities), _texts(new.capacities))
     said += _changed("cost {} to {}", _texts(old.costs), _texts(new.costs))
-    by_kind = old.mark.is_joined or new.mark.is_joined
     if old.log or new.log:
         is_other = _octets_of(old) != _octets_of(new)
         said += [f"demand: {old.asked:,} → {new.asked:,} queries"] if is_other else []
         return said + _changed("limit of {}{}", _limits(old), _limits(new))
-    rows = [_counts(service, by_kind) for service in (old, new)]
+    rows = [_counts(service) for service in (old, new)]
     other = sum(rows[0].get(key) != rows[1].get(key) for key in {*rows[0], *rows[1]})
     if other:
-        said.append(f"demand: {some(other, 'kind' if by_kind else 'row')}, {old.asked:,} → {new.asked:,} queries")
+        said.append(f"demand: {some(other, 'row')}, {old.asked:,} → {new.asked:,} queries")
     return said + _changed("limit of {}{}", _limits(old), _limits(new))
 
 
@@ -248,12 +246,9 @@ def _octets_of(service: Service) -> str:
     return sum_of(service.inputs.demand)
 
 
-def _counts(service: Service, by_kind: bool) -> Counter[tuple[object, ...]]:
-    """How often each region asks for each handle, or for each kind: a kind is known by its servers."""
-    counts: Counter[tuple[object, ...]] = Counter()
-    for row in service.rows:
-        counts[row.region, service.kind(row) if by_kind else row.handle] += row.count
-    return counts
+def _counts(service: Service) -> dict[tuple[str, str], int]:
+    """How often each region asks for each handle."""
+    return {(row.region, row.handle): row.count for row in service.rows}
 
 
 def _texts(table: Mapping[tuple[str, str], int] | Mapping[tuple[str, int], int]) -> dict[tuple[str, str], int]:
@@ -280,13 +275,12 @@ def best_room(plan: Planned, hosts: list[Host]) -> tuple[str, int, bool] | None:
     return max(found, key=lambda pair: pair[1]) if found else None
 
 
-def lacking(service: Service, short: Shortage) -> list[tuple[str, list[Row]]]:
-    """The handles of a shortage with their rows, those first that ask for most. Each kind is one of its own."""
-    found: dict[tuple[str, str], list[Row]] = {}
+def lacking(short: Shortage) -> list[tuple[str, list[Row]]]:
+    """The handles of a shortage with their rows, those first that ask for most."""
+    found: dict[str, list[Row]] = {}
     for row in short.rows:
-        found.setdefault((row.handle, row.region if service.mark.is_joined else ""), []).append(row)
-    named = [(service.like(handle), rows) for (handle, _), rows in found.items()]
-    return sorted(named, key=lambda pair: -sum(row.count for row in pair[1]))
+        found.setdefault(row.handle, []).append(row)
+    return sorted(found.items(), key=lambda pair: -sum(row.count for row in pair[1]))
 
 
 def hash_of(text: str) -> str:
@@ -321,12 +315,11 @@ def render(view: View) -> str:
         "plan": plan,
         "reference": view.reference,
         "unit": f" {view.service.titles.cost}" if view.service.titles.cost else "",
-        "is_joined": view.service.mark.is_joined,
         "where": f"hsp where {shell_word(view.service.folder)}",
         "names": names,
         "bought_shown": BOUGHT_SHOWN,
         "to_buy": to_buy(view.service, view.bought),
-        "lacking": lacking(view.service, view.short) if view.short else [],
+        "lacking": lacking(view.short) if view.short else [],
         "least": {
             region: min(
                 (view.service.costs[region, names[at]] for at in view.service.sites_for(region)), default=None

@@ -13,8 +13,8 @@ from typing import Any
 
 from hsp.base.grammar import GREATEST_COST, HEADERS, MOST_SERVERS, MOST_SITES
 from hsp.base.numbers import some
-from hsp.base.programs import Bound, Certificate, Class, Inputs, Missing, Programs
-from hsp.base.units import hosts_text, settings_text
+from hsp.base.programs import BOUNDLESS, Bound, Certificate, Class, Inputs, Missing, Programs
+from hsp.base.settings import hosts_text, settings_text
 from hsp.plans.flows import classes_of, flows_of, loads_of, servers_of
 from hsp.plans.flows import shares_of as shares_of_classes
 from hsp.plans.joined import joined
@@ -31,7 +31,7 @@ DIFFERS = "the uses by place differ from hsplan's report of {}: please report th
 
 @dataclass(frozen=True)
 class Gain:
-    """What room at a full server saves: each query of the next unit, and as much room as is of use."""
+    """What room at a full server saves: one query more, and as much room as is of use."""
 
     server: Server
     one: int
@@ -86,7 +86,7 @@ class Planned:
 
     def is_full(self, server: Server) -> bool:
         room = self.service.capacity(server)
-        return room > 0 and self.loads[server.number] + self.service.unit > room
+        return 0 < room <= self.loads[server.number]
 
     @property
     def full(self) -> list[Server]:
@@ -144,7 +144,7 @@ def _hosts(service: Service, loads: list[int]) -> list[Host]:
     for host, price in zip(service.settings.get("host", []), prices):
         own = servers_at(service, host)
         load, limit = sum(loads[server.number] for server in own), host["limit"]
-        found.append(Host(dotted(host["address"]), limit, load, price, own, 0 < limit < load + service.unit))
+        found.append(Host(dotted(host["address"]), limit, load, price, own, 0 < limit <= load))
     return found
 
 
@@ -200,7 +200,7 @@ def _priced(service: Service, programs: Programs) -> Planned:
 
 def cheapest(service: Service, programs: Programs) -> Reference | None:
     """Where all queries go to their cheapest site: the plan without any limit. None where a region has no site."""
-    everywhere = {key: service.boundless for key in service.capacities}
+    everywhere = {key: BOUNDLESS for key in service.capacities}
     settings = programs.put(settings_text(service.settings), ".toml")
     inputs = joined(service, programs).but(settings=settings, capacity=capacity_file(programs, everywhere))
     certificate, plan = programs.plan(inputs)
@@ -221,11 +221,11 @@ def _with_room(programs: Programs, service: Service, server: Server, room: int) 
 
 def _gain(programs: Programs, plan: Planned, server: Server) -> Gain:
     service, room = plan.service, plan.service.capacity(server)
-    one, _ = programs.plan(_with_room(programs, service, server, room + service.unit))
-    inputs = _with_room(programs, service, server, service.boundless)
+    one, _ = programs.plan(_with_room(programs, service, server, room + 1))
+    inputs = _with_room(programs, service, server, BOUNDLESS)
     free, path = programs.plan(inputs)
     load = programs.loads(inputs, path)[0][server.number].load
-    return Gain(server, (plan.cost - one.cost) // service.unit, load - room, plan.cost - free.cost)
+    return Gain(server, plan.cost - one.cost, load - room, plan.cost - free.cost)
 
 
 def with_gains(plan: Planned, programs: Programs, done: Callable[[], None] = lambda: None) -> Planned:
@@ -276,7 +276,7 @@ def _twinned(
     for (region, site), price in service.costs.items():
         rows += [(region, site, cost(price)), (region, f"hsp-twin-{site}", cost(price) + dear)]
     room = dict(service.capacities)
-    room.update({(f"hsp-twin-{site}", at): service.boundless for site, at in service.capacities})
+    room.update({(f"hsp-twin-{site}", at): BOUNDLESS for site, at in service.capacities})
     inputs = joined(service, programs).but(
         settings=programs.put(sites + hosts_text(service.settings), ".toml"),
         costs=programs.put_table(HEADERS["costs"], rows),

@@ -9,7 +9,7 @@ from typing import Any
 
 from hsp.base.paths import path_in
 from hsp.base.unfit import Unfit, shown
-from hsp.plans.marks import TITLES, titles_of
+from hsp.plans.titles import TITLES, titles_of
 
 PROXY = "proxy"
 TEXTS, LISTS, URLS = ("regions", "elsewhere", "check", "authority"), ("listen", "trusted"), "urls"

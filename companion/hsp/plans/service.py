@@ -16,13 +16,13 @@ from fractions import Fraction
 from typing import Any
 
 from hsp.base.bounds import whole
-from hsp.base.numbers import part, percent_exactly, some
+from hsp.base.numbers import percent_exactly, some
 from hsp.base.paths import path_in
-from hsp.base.programs import BOUNDLESS, Certificate, Inputs, Missing, Programs, Refused, table_text
+from hsp.base.programs import Certificate, Inputs, Missing, Programs, Refused, table_text
 from hsp.base.text import escaped
 from hsp.base.unfit import Unfit
 from hsp.plans.counted import Counted, counted_in, is_log
-from hsp.plans.marks import TITLES, Mark, mark_in, titles_of
+from hsp.plans.titles import insist_counted, titles_of
 
 # The conventional names of the files.
 NAMES = {"settings": "settings.toml", "demand": "demand.csv", "costs": "costs.csv", "capacity": "capacity.csv"}
@@ -60,7 +60,7 @@ class Site:
 
 @dataclass(frozen=True)
 class Row:
-    """How many queries for a handle come from a region; or for all handles of a kind, of which one is named."""
+    """How many queries for a handle come from a region."""
 
     region: str
     handle: str
@@ -69,7 +69,7 @@ class Row:
 
 @dataclass(frozen=True)
 class Titles:
-    """What the service and its units are called, and the warnings that are meant."""
+    """What the service and its units of cost and time are called, and the warnings that are meant."""
 
     title: str
     cost: str = ""
@@ -95,7 +95,6 @@ class Service:
     certificate: Certificate
     plan_file: str
     places: dict[tuple[str, str], int] = field(repr=False)
-    mark: Mark = Mark()
     log: Counted | None = None
     # Which part of each capacity and limit is kept back, and the inputs and capacities without that.
     reserve: Fraction = Fraction(0)
@@ -113,14 +112,9 @@ class Service:
         return f"{percent_exactly(self.reserve)} of each capacity kept back" if self.reserve else ""
 
     @property
-    def unit(self) -> int:
-        """How many queries a count of the demand stands for."""
-        return self.inputs.unit
-
-    @property
     def rows_are(self) -> str:
-        """What a row stands for: a handle, all handles of a kind, or a handle of a log."""
-        return "log" if self.log else self.mark.rows
+        """What a row stands for: a handle of a table, or one of a log."""
+        return "log" if self.log else "handles"
 
     @property
     def is_empty(self) -> bool:
@@ -128,41 +122,9 @@ class Service:
         return not self.rows and not self.log
 
     @property
-    def boundless(self) -> int:
-        """A capacity, in queries, that no demand can fill."""
-        return BOUNDLESS * self.unit
-
-    @property
     def rows_words(self) -> str:
-        """How many handles there are, or how many kinds of them; of a log, how many rows."""
-        if self.log:
-            return some(self.log.rows, "row")
-        if not self.mark.is_joined:
-            return some(self.handles, "handle")
-        handles = some(self.mark.handles, "handle") if self.mark.handles else "handles"
-        return f"{some(len(self.rows), 'kind')} of {handles}"
-
-    @property
-    def added(self) -> float | None:
-        """The share that rounding up to units adds to the queries of the log, where their number is known."""
-        known = self.mark.queries
-        return (self.asked - known) / known if self.unit > 1 and known and self.asked >= known else None
-
-    @property
-    def counted(self) -> str:
-        """The unit of the demand, and what rounding up to it adds, where it isn't one query."""
-        if self.unit == 1:
-            return ""
-        return f" in units of {self.unit:,}" + (f", which add {part(self.added)}" if self.added is not None else "")
-
-    @property
-    def one_more(self) -> str:
-        """The least room that is of use: a query, or each of those of a unit."""
-        return "one query more" if self.unit == 1 else f"each of {self.unit:,} queries more"
-
-    def like(self, handle: str) -> str:
-        """What a row with this handle is of."""
-        return f"handles like {handle}" if self.mark.is_joined else handle
+        """How many handles there are; of a log, how many rows."""
+        return some(self.log.rows, "row") if self.log else some(self.handles, "handle")
 
     @property
     def servers(self) -> list[Server]:
@@ -201,7 +163,7 @@ class Service:
         return [at for at, site in enumerate(self.sites) if (region, site.name) in self.costs]
 
     def kind(self, row: Row) -> tuple[tuple[str, int], ...]:
-        """The server that a row has at each site that its region may use: the same for all handles of a kind."""
+        """The server that a row has at each site that its region may use: its kind, which other rows may share."""
         servers = (self.server(at, row.handle) for at in self.sites_for(row.region))
         return tuple((server.site, server.id) for server in servers)
 
@@ -218,7 +180,7 @@ def _absent(folder: str, paths: list[str]) -> list[str]:
     return lines
 
 
-def inputs_in(folder: str, given: dict[str, str | None], unit: int) -> Inputs:
+def inputs_in(folder: str, given: dict[str, str | None]) -> Inputs:
     """The files of a folder by their conventional names, or those that were given instead."""
     files = {role: given.get(role) or path_in(folder, name) for role, name in NAMES.items()}
     absent = [path for path in files.values() if not os.path.exists(path) or os.path.isdir(path)]
@@ -228,11 +190,8 @@ def inputs_in(folder: str, given: dict[str, str | None], unit: int) -> Inputs:
     beside = path_in(folder, VALUES)
     if not values and os.path.isfile(beside):
         values = beside
-    own = Inputs(**files, values=values, unit=unit, is_log=is_log(files["demand"]))
-    if own.is_log and unit > 1:
-        remedy = f"take unit out of [demand] in {path_in(folder, TITLES)}, and give the counts in queries"
-        raise Unfit(f"{own.demand}: no table has so many rows or such counts, and a log counts queries; {remedy}")
-    return own
+    insist_counted(files["demand"])
+    return Inputs(**files, values=values, is_log=is_log(files["demand"]))
 
 
 def newer_than(files: Iterable[str | None], plan: str) -> list[str]:
@@ -311,18 +270,11 @@ def sites_of(programs: Programs, inputs: Inputs, settings: dict[str, Any]) -> li
     return sites
 
 
-def mark_of(folder: str, given: dict[str, str | None]) -> Mark:
-    """The mark of a folder's demand. A demand that is given in its place has none."""
-    own, other = path_in(folder, NAMES["demand"]), given.get("demand")
-    return Mark() if other and os.path.realpath(other) != os.path.realpath(own) else mark_in(folder)
-
-
 def read_service(
     folder: str, programs: Programs, given: dict[str, str | None], title: str | None = None, cost: str | None = None
 ) -> Service:
     """Reads a folder. hsplan plans it first, so any fault of the files is hsplan's."""
-    mark = mark_of(folder, given)
-    return service_of(folder, programs, inputs_in(folder, given, mark.unit), titles_in(folder, title, cost), mark)
+    return service_of(folder, programs, inputs_in(folder, given), titles_in(folder, title, cost))
 
 
 def _in_one_line(path: str, rows: list[Row]) -> None:
@@ -335,13 +287,13 @@ def _in_one_line(path: str, rows: list[Row]) -> None:
             )
 
 
-def service_of(folder: str, programs: Programs, inputs: Inputs, titles: Titles, mark: Mark) -> Service:
+def service_of(folder: str, programs: Programs, inputs: Inputs, titles: Titles) -> Service:
     """Reads files, as `read_service` does."""
     certificate, plan_file = programs.plan(inputs)
     settings = settings_in(inputs.settings)
     rows: list[Row] = []
     if not inputs.is_log:
-        rows = [Row(region, handle, inputs.unit * int(count)) for region, handle, count in table(inputs.demand)]
+        rows = [Row(region, handle, int(count)) for region, handle, count in table(inputs.demand)]
         _in_one_line(inputs.demand, rows)
     return Service(
         folder,
@@ -355,7 +307,6 @@ def service_of(folder: str, programs: Programs, inputs: Inputs, titles: Titles, 
         certificate,
         plan_file,
         {} if inputs.is_log else programs.places(inputs, dict.fromkeys(row.handle for row in rows)),
-        mark,
         counted_in(inputs.demand) if inputs.is_log else None,
     )
 
@@ -372,7 +323,6 @@ __all__ = [
     "OF_WEEK",
     "inputs_in",
     "is_of_hour",
-    "mark_of",
     "newer_than",
     "read_service",
     "service_of",

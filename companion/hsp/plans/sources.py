@@ -8,7 +8,7 @@ import os
 from dataclasses import dataclass
 
 from hsp.base.programs import Inputs
-from hsp.plans.marks import TITLES
+from hsp.plans.titles import TITLES
 
 EPOCH = "SOURCE_DATE_EPOCH"
 

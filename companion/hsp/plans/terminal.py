@@ -20,7 +20,7 @@ def head(service: Service) -> str:
         some(len(service.servers), "server"),
         some(len(service.regions), "region"),
         service.rows_words,
-        queries_of(service.asked) + service.counted,
+        queries_of(service.asked),
     ] + ([service.kept_back] if service.reserve else [])
     time = f" in {service.titles.time}" if service.titles.time else ""
     return bold(service.titles.title) + dim(f"  {', '.join(sizes)}{time}")
@@ -53,7 +53,7 @@ def plan_lines(plan: Planned, reference: Reference | None, every: bool) -> Itera
     yield f"cost  {bold(f'{plan.cost:,}{unit}')}, {each}{unit} a query{beside}"
     yield from full_lines(plan, every)
     for host in plan.hosts:
-        note = f"; {service.one_more} saves at most {host.price:,}{unit}" if host.price else ""
+        note = f"; one query more saves at most {host.price:,}{unit}" if host.price else ""
         yield f"host  {host.address} takes {host.load:,} of {host.limit:,}{note}"
     yield from region_lines(plan, reference, every)
     yield f"by shares of regions only  {by_shares(plan).words}"
@@ -71,7 +71,7 @@ def full_lines(plan: Planned, every: bool) -> Iterator[str]:
     wide = max((len(gain.server.label) for gain in shown), default=0)
     for gain in shown:
         label = colored(gain.server.label.ljust(wide), "yellow")
-        one = f"{plan.service.one_more} {gain.one:,}{unit}"
+        one = f"one query more {gain.one:,}{unit}"
         yield f"      {label}  {one}; {gain.room:,} more {gain.all:,}{unit} in all"
     if len(worth) > len(shown):
         yield dim(f"      and {len(worth) - len(shown)} more, up to {worth[len(shown)].one:,}{unit} each (--all)")
@@ -131,17 +131,14 @@ def shortage_lines(
 
 
 def _who(service: Service, short: Shortage) -> str:
-    """The handles that lack room, or the kinds of them, those first that ask for most; of a log the regions."""
+    """The handles that lack room, those first that ask for most; of a log the regions."""
     asked: Counter[str] = Counter()
     if service.log:
         most = sorted(short.regions.items(), key=lambda pair: -pair[1])
         return f"rows of {some(len(most), 'region')}: {listed(f'{region} ({count:,})' for region, count in most)}"
     for row in short.rows:
-        name = f"{service.like(row.handle)} of {row.region}" if service.mark.is_joined else row.handle
-        asked[name] += row.count
+        asked[row.handle] += row.count
     names = listed(f"{escaped(name)} ({count:,})" for name, count in asked.most_common())
-    if service.mark.is_joined:
-        return f"{some(len(short.rows), 'kind')}: {names}"
     return f"{some(len(short.rows), 'row')} of {some(len(asked), 'handle')}: {names}"
 
 

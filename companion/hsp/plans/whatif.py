@@ -65,20 +65,19 @@ class Changes:
         return self.planned(LOST, site, costs=self.programs.put_table(HEADERS["costs"], costs))
 
     def with_demand(self, percent: float) -> Case:
-        """Each row asks for more queries, rounded up to units; those of a log all together."""
+        """Each row asks for more queries, rounded up; those of a log all together."""
         path = demand_times(self.service, self.programs, 1 + Fraction(percent) / 100)
         return self.planned(DEMAND, f"{percent:g}% more demand", demand=path)
 
 
 def demand_times(service: Service, programs: Programs, factor: Fraction, region: str | None = None) -> str:
-    """The demand where each row, or each of a region, asks for so many times as much. A row is rounded up to units, and
-    the rows of a log all together."""
+    """The demand where each row, or each of a region, asks for so many times as much. Each row is rounded up, and the
+    rows of a log all together."""
     if service.log:
         path = programs.put(b"", ".csv")
         programs.add(path, grown(joined(service, programs).demand, factor, region))
         return path
-    own, unit = factor / service.unit, service.unit
-    counts = (times(row.count, own) if region in (None, row.region) else row.count // unit for row in service.rows)
+    counts = (times(row.count, factor) if region in (None, row.region) else row.count for row in service.rows)
     lines = (f"{head}{count}\n" for head, count in zip(service.row_heads, counts))
     return programs.put(f"{HEADERS['demand']}\n{''.join(lines)}", ".csv")
 
@@ -97,7 +96,7 @@ def standard(changes: Changes, step: float) -> list[Case]:
     wider = []
     for server in full_servers(service):
         room = service.capacity(server)
-        wider.append(changes.with_room(MORE, server, room + max(service.unit, round(room * step / 100))))
+        wider.append(changes.with_room(MORE, server, room + max(1, round(room * step / 100))))
     wider.sort(key=lambda case: (case.cost is None, case.cost or case.lack))
     lost = [changes.without(site.name) for site in service.sites]
     lost.sort(key=lambda case: (case.cost is not None, -(case.cost or case.lack)))

@@ -1,4 +1,4 @@
-"""Where the queries for one handle go by a plan: what hsplan-stream answers, and what each server costs."""
+"""Where the queries for one handle go by a plan: what hsplan or hsplan-stream answers, and what each server costs."""
 
 from __future__ import annotations
 
@@ -9,8 +9,9 @@ from hsp.base.numbers import percent
 from hsp.base.programs import Prices, Programs
 from hsp.base.spelling import near
 from hsp.base.text import bold, colored, escaped
+from hsp.plans.counted import counted_in
 from hsp.plans.flows import beside_of
-from hsp.plans.service import Row, Server, Service
+from hsp.plans.service import Server, Service
 
 ASSIGNED, REFUSED, SPENT, UNKNOWN = "assigned", "refused", "spent", "unknown"
 
@@ -35,10 +36,14 @@ class Choice:
 
 @dataclass(frozen=True)
 class Where:
-    """What a query is answered, and the servers that it may use, those first where it pays least."""
+    """What a query is answered, and the servers that it may use, those first where it pays least.
+
+    A query that is in no row of the demand is answered by prices.
+    """
 
     answer: str
     choices: list[Choice]
+    is_by_prices: bool = False
 
     @property
     def servers(self) -> list[Server]:
@@ -59,18 +64,25 @@ def _of_class(service: Service, region: str, servers: list[int]) -> dict[int, in
 
 
 def _of_row(service: Service, region: str, handle: str) -> dict[int, int]:
-    """What the row of a handle, or of its kind, sends to each server."""
-    asked = Row(region, handle, 0)
-    rows = [at for at, row in enumerate(service.rows) if (row.region, row.handle) == (region, handle)]
-    if not rows:
-        kind = service.kind(asked)
-        rows = [at for at, row in enumerate(service.rows) if row.region == region and service.kind(row) == kind]
-    uses = [use for use in service.certificate.uses if use.row in rows[:1]]
+    """What the row of a handle sends to each server."""
+    own = next(at for at, row in enumerate(service.rows) if (row.region, row.handle) == (region, handle))
+    uses = (use for use in service.certificate.uses if use.row == own)
     return {service.server(use.site, handle).number: use.queries for use in uses}
 
 
+def _by_prices(service: Service, programs: Programs) -> Service:
+    """The service with a plan by prices of the same demand."""
+    inputs = replace(service.inputs, is_log=True)
+    certificate, path = programs.judged(inputs)
+    return replace(
+        service, inputs=inputs, certificate=certificate, plan_file=path, log=counted_in(service.inputs.demand)
+    )
+
+
 def where(service: Service, programs: Programs, region: str, handle: str) -> Where:
-    """Where a query goes by the plan of a service."""
+    """Where a query goes by the plan of a service; of one that its table lacks, by prices of the same demand."""
+    if not service.log and all((row.region, row.handle) != (region, handle) for row in service.rows):
+        return replace(where(_by_prices(service, programs), programs, region, handle), is_by_prices=True)
     answer = programs.where(service.inputs, service.plan_file, region, handle)
     if answer.startswith(REFUSED):
         return Where(answer, [])
@@ -85,32 +97,29 @@ def where(service: Service, programs: Programs, region: str, handle: str) -> Whe
     if service.log:
         amounts = _of_class(service, region, [server.number for server, _, pays in found if pays == least])
     else:
-        amounts = _of_row(replace(service, places={**service.places, **places}), region, handle)
+        amounts = _of_row(service, region, handle)
     choices = [Choice(server, cost, pays, amounts.get(server.number)) for server, cost, pays in found]
     return Where(answer, sorted(choices, key=lambda choice: (choice.pays, choice.server.number)))
 
 
-def reason(service: Service, answer: str, region: str) -> str:
-    """Which file lacks what, where a query has no server for that; nothing where the answer says why."""
+def reason(service: Service, found: Where, region: str) -> str:
+    """Which file lacks what, where a query has no server or no row for that; nothing where the answer says why."""
     costs, demand = service.inputs.costs, service.inputs.demand
-    if answer == SPENT:
+    if found.answer == SPENT:
         return f"{demand} counts 0 queries for it"
-    if answer != UNKNOWN:
-        return ""
-    known = dict.fromkeys(name for name, _ in service.costs)
-    if region not in known:
+    if found.answer == UNKNOWN:
+        known = dict.fromkeys(name for name, _ in service.costs)
         meant = near(region, known)
         return f"{costs} has no cost of {region} at any site" + (f"; did you mean {meant}?" if meant else "")
-    if region not in service.regions:
-        return f"{demand} has no row of {region}"
-    return f"{demand} has no row of {region} for this handle, nor for one with the same servers"
+    is_answered = found.is_by_prices and found.choices
+    return f"{demand} has no row of it, so this is by prices of the same demand" if is_answered else ""
 
 
 def lines(service: Service, found: Where, region: str, handle: str) -> Iterator[str]:
     """The answer, why it names no server, and a line for each server that the handle may use."""
     goes = f"goes to {' or '.join(server.label for server in found.servers)}" if found.servers else found.answer
     yield f"{bold(escaped(handle))} from {escaped(region)}  {colored(goes, 'green' if found.servers else 'yellow')}"
-    why = reason(service, found.answer, region)
+    why = reason(service, found, region)
     if why:
         yield f"  why  {escaped(why)}"
     wide = max((len(choice.server.label) for choice in found.choices), default=0)
@@ -135,5 +144,5 @@ def json_of(service: Service, found: Where, region: str, handle: str) -> dict[st
         }
         for choice in found.choices
     ]
-    why = reason(service, found.answer, region) or None
+    why = reason(service, found, region) or None
     return {"region": region, "handle": handle, "answer": found.answer, "why": why, "servers": servers}

@@ -3,7 +3,6 @@
 from __future__ import annotations
 
 import os
-import re
 from dataclasses import dataclass
 from fractions import Fraction
 from typing import Any
@@ -20,9 +19,9 @@ from hsp.base.text import say
 from hsp.base.unfit import Unfit, shown
 from hsp.doctor.service_folder import read_in, refuse_shortage, sound, with_files
 from hsp.intake.addresses import targets_of, twins
-from hsp.plans.marks import TITLES, titles_of
 from hsp.plans.proxied import CHECK, PROXY, Proxied, is_address, network_of, proxied_in
 from hsp.plans.service import Service
+from hsp.plans.titles import TITLES, titles_of
 from hsp.proxy.config import CONFIG, LONGEST_SOCKET, SOCKET, Frame, files_of, quoted, refuse_others
 from hsp.proxy.kinds import shares_of
 from hsp.proxy.networks import Map, map_of

@@ -14,7 +14,7 @@ from dataclasses import replace
 from hsp.base.grammar import GREATEST_CAPACITY, GREATEST_LIMIT, HEADERS
 from hsp.base.numbers import some
 from hsp.base.programs import Inputs, Missing, Programs
-from hsp.base.units import hosts_text, settings_text
+from hsp.base.settings import hosts_text, settings_text
 from hsp.intake.addresses import name_of
 from hsp.plans.plans import capacity_file
 from hsp.plans.service import Service

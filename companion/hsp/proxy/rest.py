@@ -13,7 +13,7 @@ from dataclasses import dataclass, replace
 
 from hsp.base.grammar import GREATEST_CAPACITY, GREATEST_COUNT, HEADERS, MOST_SERVERS, MOST_SITES
 from hsp.base.programs import Certificate, Inputs, Missing, Programs
-from hsp.base.units import hosts_text, settings_text
+from hsp.base.settings import hosts_text, settings_text
 from hsp.intake.addresses import name_of
 from hsp.intake.records import ServerRecord, SiteRecord
 from hsp.plans.plans import capacity_file, servers_at

@@ -133,7 +133,7 @@ def moved_since(path: str, service: Service, programs: Judged) -> int | None:
         held = in_force(path, service, programs)
     except (Missing, Unfit, OSError):
         return None
-    return moved_between(service, held.homes, service.certificate, held.by_kind)
+    return moved_between(service, held.homes, service.certificate)
 
 
 __all__ = ["Ahead", "ahead_of", "moved_fact", "moved_since"]

@@ -57,7 +57,7 @@ def _beforehand(service: Service, programs: Judged, read: float, regions: int, p
     if not service.log or number * read / lanes() <= SAID:
         return
     of = f"all demand, {some(regions, 'region')} and {some(purchases, 'purchase')}"
-    rows = f"{service.rows_words} are joined by kinds, about {max(1, round(read)):,} seconds"
+    rows = f"{service.rows_words} are joined where they have the same servers, about {max(1, round(read)):,} seconds"
     say(f"hsp: {rows}; then some {number:,} plans are made, of {of}", err=True)
     inputs, begun = joined(service, programs), time.monotonic()
     programs.put_away(programs.plan(inputs)[1])
@@ -111,15 +111,14 @@ def _near(words: str | None, service: Service, programs: Judged) -> tuple[Portio
     programs.hold(files_beside(words or path))
     try:
         held = in_force(path, service, programs)
-        homes, by_kind, name = held.homes, held.by_kind, held.path
+        homes, name = held.homes, held.path
     except (Missing, Unfit):
         if words:
             raise
-        by_kind = service.mark.is_joined
-        homes, name = homes_of(service, service.certificate, by_kind), "the plan that hsp plan makes"
+        homes, name = homes_of(service, service.certificate), "the plan that hsp plan makes"
         name += f", as {path} is no plan of these files" if os.path.lexists(path) else ""
     try:
-        return Portions(service, homes, programs, by_kind), f"near {name}"
+        return Portions(service, homes, programs), f"near {name}"
     except TooMany as fault:
         return None, f"{fault}, more than tables hold, so fallbacks are plain plans"
 

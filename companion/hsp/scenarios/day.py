@@ -19,7 +19,7 @@ from hsp.base.paths import path_in
 from hsp.base.text import give, say
 from hsp.base.unfit import Unfit
 from hsp.doctor.service_folder import Folder, sound
-from hsp.plans.answering import in_units
+from hsp.plans.answering import kept_beside
 from hsp.plans.service import NAMES, VALUES, Service, titles_in
 from hsp.plans.terminal import head
 from hsp.scenarios import day_lines
@@ -60,17 +60,16 @@ def _chained(
     """The plans of hours, each of which moves the fewest queries from the hour before; the first is as it was. Where
     that takes more than tables hold, or the hour before is short, a plan stays as it was."""
     found: list[HourPlan] = []
-    by_kind = service.mark.is_joined
     before: Service | None = None
     for plan in plans:
         own = replace(of_hour(service, plan.hour), certificate=plan.certificate, plan_file=plan.plan_file)
         if before and plan.is_plan:
-            homes = homes_of(before, before.certificate, by_kind)
+            homes = homes_of(before, before.certificate)
             try:
-                near = Portions(own, homes, programs, by_kind).nearest(own, plan.certificate)
+                near = Portions(own, homes, programs).nearest(own, plan.certificate)
             except TooMany:
                 near = None
-            moved = near.moved if near else moved_between(own, homes, plan.certificate, by_kind)
+            moved = near.moved if near else moved_between(own, homes, plan.certificate)
             if near:
                 own = replace(own, certificate=near.certificate, plan_file=near.plan_file)
                 loads = programs.loads(own.inputs, near.plan_file)[0]
@@ -87,9 +86,9 @@ def _octets(path: str) -> bytes:
         return file.read()
 
 
-def _kept(day: Day, folder: str, programs: Judged) -> dict[str, bytes]:
-    """What is kept: the plan of each hour, the demand and the plan of each block, and capacities in other numbers."""
-    _, contents = in_units(day.service, programs, path_in(folder, PLAN))
+def _kept(day: Day, folder: str) -> dict[str, bytes]:
+    """What is kept: the plan of each hour, the demand and the plan of each block, and the inputs less a reserve."""
+    _, contents = kept_beside(day.service, path_in(folder, PLAN))
     for plan in day.plans:
         if plan.is_plan:
             contents[path_in(plan.hour.folder, PLAN)] = _octets(plan.plan_file)
@@ -202,7 +201,7 @@ def _sizes(found: Day) -> str:
         some(len(service.servers), "server"),
         some(len(service.regions), "region"),
         some(len(found.plans), "hour"),
-        f"{sum(plan.hour.asked for plan in found.plans):,} queries{service.counted}",
+        f"{sum(plan.hour.asked for plan in found.plans):,} queries",
     ]
     return ", ".join([*sizes, *([service.kept_back] if service.reserve else [])])
 
@@ -217,11 +216,11 @@ def _kept_line(found: Day, folder: str, page: str) -> str:
 
 def _save(found: Day, folder: str, page: str, programs: Judged) -> list[str]:
     """Writes all plans and the page together. Returns the inputs of other plans that stay."""
-    contents = _kept(found, folder, programs)
-    inputs, _ = in_units(found.service, programs, path_in(folder, PLAN))
-    commands = {plan.hour.name: command_of(inputs, found.service.unit, plan) for plan in found.plans}
+    contents = _kept(found, folder)
+    inputs, _ = kept_beside(found.service, path_in(folder, PLAN))
+    commands = {plan.hour.name: command_of(inputs, plan.hour.folder) for plan in found.plans}
     within = path_in(folder, BLOCKS)
-    blocks = [block_view(inputs, found.service.unit, block, path_in(within, block.name)) for block in found.blocks]
+    blocks = [block_view(inputs, block, path_in(within, block.name)) for block in found.blocks]
     text = render_day(found, folder, commands, blocks, programs.judged_so_far)
     _refuse_clashes(found.service, [plan.hour for plan in found.plans], [*contents, page])
     for path in contents:

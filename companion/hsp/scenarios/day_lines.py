@@ -73,7 +73,7 @@ def _line(service: Service, plan: HourPlan, most: float, wide: int, is_moving: b
     at = plan.dearest
     room = f"{service.servers[at].label} ({plan.loads[at].price:,})" if at is not None else "none"
     moved = "" if not is_moving else f" {_share(plan):>7}"
-    own = f"{head} {plan.each:>9.1f} {len(plan.full(service)):>6}{moved}  {room:<20}"
+    own = f"{head} {plan.each:>9.1f} {len(plan.full):>6}{moved}  {room:<20}"
     return f"{own} {colored(bar(plan.each, most), 'yellow')}".rstrip()
 
 

@@ -16,6 +16,7 @@ from hsp.plans.sources import Source, now, sources_of, sum_of
 from hsp.scenarios.blocks import Block
 from hsp.scenarios.day_lines import Day
 from hsp.scenarios.hours import HourPlan
+from hsp.scenarios.in_force import PLAN
 
 # At most so many servers are rows of the grid.
 ROWS_SHOWN = 60
@@ -58,16 +59,14 @@ class BlockView:
     command: str
 
 
-def command_of(inputs: Inputs, unit: int, plan: HourPlan) -> str:
-    """The command that answers by an hour's plan. The inputs are those in units."""
-    return answer_command(inputs.but(demand=plan.hour.demand), path_in(plan.hour.folder, "plan.txt"), unit)
+def command_of(inputs: Inputs, folder: str) -> str:
+    """The command that answers by the plan of an hour or a block, which is kept in a folder with its demand."""
+    return answer_command(inputs.but(demand=path_in(folder, NAMES["demand"])), path_in(folder, PLAN))
 
 
-def block_view(inputs: Inputs, unit: int, block: Block, folder: str) -> BlockView:
-    """A block whose demand and plan are kept in a folder. The inputs are those in units."""
-    path = path_in(folder, "plan.txt")
-    command = answer_command(inputs.but(demand=path_in(folder, NAMES["demand"])), path, unit)
-    return BlockView(block.label, path, command)
+def block_view(inputs: Inputs, block: Block, folder: str) -> BlockView:
+    """A block whose demand and plan are kept in a folder."""
+    return BlockView(block.label, path_in(folder, PLAN), command_of(inputs, folder))
 
 
 def _shares(service: Service, plan: HourPlan) -> dict[str, list[int]]:
@@ -87,7 +86,7 @@ def _hour(service: Service, plan: HourPlan, command: str) -> dict[str, object]:
         "cost": plan.certificate.cost,
         "each": f"{plan.each:.1f}",
         "lack": None if plan.is_plan else plan.lack,
-        "full": len(plan.full(service)),
+        "full": len(plan.full),
         "moved": plan.moved,
         "is_nearest": plan.is_nearest,
         "loads": [own.load for own in plan.loads],
@@ -110,23 +109,23 @@ def _columns(day: Day) -> list[Column]:
     return found
 
 
-def _cell(service: Service, plan: HourPlan, at: int) -> Cell:
+def _cell(plan: HourPlan, at: int) -> Cell:
     if not plan.is_plan:
         return Cell("is-short", "–")
     own = plan.loads[at]
     if own.price:
         return Cell("is-dear", f"{own.price:,}")
-    return Cell("is-full", "") if 0 < own.capacity < own.load + service.unit else Cell("", "")
+    return Cell("is-full", "") if 0 < own.capacity <= own.load else Cell("", "")
 
 
 def _grid(day: Day) -> tuple[list[GridRow], str]:
     """The servers that are full at some hour, those first at which room has a price in most, and what is left out."""
     service = day.service
     priced = {at: len([price for price in prices if price]) for at, prices in day.priced()}
-    full = {at for plan in day.plans for at in plan.full(service)} | set(priced)
+    full = {at for plan in day.plans for at in plan.full} | set(priced)
     order = sorted(full, key=lambda at: (-priced.get(at, 0), at))
     rows = [
-        GridRow(service.servers[at].label, [_cell(service, plan, at) for plan in day.plans])
+        GridRow(service.servers[at].label, [_cell(plan, at) for plan in day.plans])
         for at in order[:ROWS_SHOWN]
     ]
     others = len(service.servers) - len(full)

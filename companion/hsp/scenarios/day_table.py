@@ -33,7 +33,7 @@ def csv_of(day: Day) -> str:
         if plan.dearest is not None:
             server = day.service.servers[plan.dearest]
             dearest = [server.site, str(server.id), str(plan.loads[plan.dearest].price)]
-        own = [plan.certificate.cost, "", len(plan.full(day.service))] if plan.is_plan else ["", plan.lack, ""]
+        own = [plan.certificate.cost, "", len(plan.full)] if plan.is_plan else ["", plan.lack, ""]
         moved = "" if plan.moved is None else plan.moved
         is_served = str(plan.is_plan).lower()
         row = [plan.hour.name, plan.hour.asked, is_served, *own, *dearest, moved, block_of.get(plan.hour.name, "")]

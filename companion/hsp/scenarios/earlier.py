@@ -7,13 +7,13 @@ import os
 from collections.abc import Collection
 
 from hsp.base.paths import path_in
-from hsp.plans.answering import CAPACITY, LESS_CAPACITY, LESS_SETTINGS, SETTINGS
+from hsp.plans.answering import LESS_CAPACITY, LESS_SETTINGS
 from hsp.plans.service import OF_DAY, OF_WEEK
 from hsp.scenarios.in_force import PLAN
 from hsp.scenarios.near_plan import FOLDER, KEPT
 
-# Inputs in other numbers, which plans of hours have together with the folder's own.
-INPUTS = (CAPACITY, SETTINGS, LESS_CAPACITY, LESS_SETTINGS)
+# Inputs less a reserve, which plans of hours have together with the folder's own.
+INPUTS = (LESS_CAPACITY, LESS_SETTINGS)
 
 
 def _plans_of_hours(folder: str) -> list[str]:
@@ -31,7 +31,7 @@ def _near(folder: str) -> list[str]:
 
 
 def _inputs(folder: str, others: Collection[str]) -> list[str]:
-    """The inputs in other numbers that are there, but for others. A link is not followed."""
+    """The inputs less a reserve that are there, but for others. A link is not followed."""
     real = {os.path.realpath(path) for path in others}
     paths = (path_in(folder, name) for name in INPUTS)
     there = (path for path in paths if os.path.isfile(path) and not os.path.islink(path))

@@ -14,7 +14,7 @@ from hsp.base.bounds import whole
 from hsp.base.files import locked, refuse_clashes, refuse_no_folder, replace_all
 from hsp.base.paths import path_in
 from hsp.base.unfit import Unfit
-from hsp.plans.answering import CAPACITY, LESS_CAPACITY, LESS_SETTINGS, SETTINGS, in_units
+from hsp.plans.answering import LESS_CAPACITY, LESS_SETTINGS, kept_beside
 from hsp.plans.service import NAMES, Service
 from hsp.scenarios.in_force import PLAN
 from hsp.scenarios.judged import Judged
@@ -25,7 +25,7 @@ HEADER = ["kind", "what", "served", "cost", "change", "lack", "moved", "lost", "
 # The name of a folder of a loss.
 NAME = re.compile(rf"({SITE}|{SERVER}|{HOST})-[A-Za-z0-9._-]+")
 # The names of the files that a fallback may have.
-OWN = (PLAN, NAMES["costs"], NAMES["capacity"], CAPACITY, SETTINGS, LESS_CAPACITY, LESS_SETTINGS)
+OWN = (PLAN, NAMES["costs"], NAMES["capacity"], LESS_CAPACITY, LESS_SETTINGS)
 
 
 @dataclass(frozen=True)
@@ -70,10 +70,10 @@ class Fallbacks:
         return sum(found.cost is not None for found in all_found)
 
     def _contents(self, found: After) -> dict[str, bytes]:
-        """The plan, the table that the loss changes, and what is needed to answer in units."""
+        """The plan, the table that the loss changes, and the inputs less a reserve."""
         role = "costs" if found.loss.kind == SITE else "capacity"
         plan = self.path(found, PLAN)
-        _, contents = in_units(found.service, self.programs, plan)
+        _, contents = kept_beside(found.service, plan)
         for name, source in ((PLAN, found.service.plan_file), (NAMES[role], getattr(found.service.inputs, role))):
             with open(source, "rb") as file:
                 contents[self.path(found, name)] = file.read()

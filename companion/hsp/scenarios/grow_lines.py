@@ -54,10 +54,9 @@ def cause(service: Service, short: Short) -> str:
     asked: dict[str, int] = {}
     for at in short.rows:
         row = service.rows[at]
-        name = service.like(row.handle)
-        asked[name] = asked.get(name, 0) + row.count
-    names = sorted(asked, key=lambda name: -asked[name])
-    which = f": {listed(map(escaped, names), NAMED)}" if names else ""
+        asked[row.handle] = asked.get(row.handle, 0) + row.count
+    handles = sorted(asked, key=lambda handle: -asked[handle])
+    which = f": {listed(map(escaped, handles), NAMED)}" if handles else ""
     return f"the servers of some handles are full{which}"
 
 

@@ -106,13 +106,12 @@ class Growing:
 
     def _next(self, short: Short, factor: int, region: str | None) -> int:
         """The greatest factor below one at which a set of rows isn't short, rounded up row by row."""
-        unit, low = self._service.unit, 0
-        high = min(factor, int(STEP * short.above) + 1)
+        low, high = 0, min(factor, int(STEP * short.above) + 1)
         rows = (self._service.rows[at] for at in short.rows)
-        counts = Counter(row.count // unit for row in rows if region in (None, row.region))
+        counts = Counter(row.count for row in rows if region in (None, row.region))
         while counts and high - low > 1:
             tried = Fraction((low + high) // 2, STEP)
-            asked = unit * sum(number * times(count, tried) for count, number in counts.items())
+            asked = sum(number * times(count, tried) for count, number in counts.items())
             low, high = (low, (low + high) // 2) if asked + short.rest > short.capacity else ((low + high) // 2, high)
         return high - 1
 
@@ -129,7 +128,7 @@ class Growing:
         service = self._service
         if service.log:
             return STEP * GREATEST_ROW_COUNT // max(1, *service.log.regions.values())
-        counts = [row.count // service.unit for row in service.rows if region in (None, row.region)]
+        counts = [row.count for row in service.rows if region in (None, row.region)]
         return STEP * GREATEST_COUNT // max([1, *counts])
 
     def growth(self, region: str | None = None) -> Growth:
@@ -185,7 +184,7 @@ class Growing:
         service = self._service
         if service.log:
             return times(service.asked, factor)
-        return service.unit * sum(times(row.count // service.unit, factor) for row in service.rows)
+        return sum(times(row.count, factor) for row in service.rows)
 
 
 def at_least(purchases: Sequence[Purchase]) -> list[Purchase]:

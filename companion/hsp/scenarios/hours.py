@@ -11,8 +11,8 @@ from hsp.base.files import refuse_no_file
 from hsp.base.paths import path_in
 from hsp.base.programs import Certificate, Load, Missing, Refused
 from hsp.base.unfit import Unfit
-from hsp.plans.marks import mark_in
 from hsp.plans.service import NAMES, OF_DAY, OF_WEEK, Row, Service, table
+from hsp.plans.titles import insist_counted
 from hsp.scenarios.judged import Judged, side_by_side
 
 DAYS = ("mon", "tue", "wed", "thu", "fri", "sat", "sun")
@@ -33,7 +33,7 @@ def label_of(name: str) -> str:
 
 @dataclass(frozen=True)
 class Hour:
-    """An hour by the name of its folder, with the counts of its rows in units; a log's rows are not read."""
+    """An hour by the name of its folder, with the counts of its rows; a log's rows are not read."""
 
     name: str
     folder: str
@@ -89,9 +89,10 @@ class HourPlan:
         """What a query costs."""
         return self.certificate.cost / self.hour.asked if self.hour.asked else 0.0
 
-    def full(self, service: Service) -> list[int]:
-        """The numbers of the servers that have no room for a unit more."""
-        return [at for at, own in enumerate(self.loads) if 0 < own.capacity < own.load + service.unit]
+    @property
+    def full(self) -> list[int]:
+        """The numbers of the servers that have no room for a query more."""
+        return [at for at, own in enumerate(self.loads) if 0 < own.capacity <= own.load]
 
     @property
     def priced(self) -> list[int]:
@@ -127,16 +128,10 @@ def names_in(folder: str, is_week: bool | None = None) -> list[str]:
     return names
 
 
-def _same_mark(first: Service, folder: str) -> None:
-    own = mark_in(folder)
-    if (own.rows, own.unit) != (first.mark.rows, first.mark.unit):
-        raise Unfit(f"{folder}: its rows or its unit are others than those of {first.folder}")
-
-
 def read_hour(first: Service, folder: str, name: str) -> Hour:
     """An hour whose rows are those of the first one. Faulty where its demand is no table."""
-    _same_mark(first, folder)
     path = path_in(folder, NAMES["demand"])
+    insist_counted(path)
     if first.log:
         return Hour(name, folder, 0, [])
     try:
@@ -154,12 +149,12 @@ def read_hour(first: Service, folder: str, name: str) -> Hour:
         counts = [int(count) for *_, count in rows]
     except ValueError:
         raise Faulty(name) from None
-    return Hour(name, folder, first.unit * sum(counts), counts)
+    return Hour(name, folder, sum(counts), counts)
 
 
 def of_hour(service: Service, hour: Hour) -> Service:
     """The service at an hour. Its certificate is another one's still."""
-    rows = [Row(row.region, row.handle, service.unit * count) for row, count in zip(service.rows, hour.counts)]
+    rows = [Row(row.region, row.handle, count) for row, count in zip(service.rows, hour.counts)]
     return replace(service, rows=rows, inputs=service.inputs.but(demand=hour.demand))
 
 

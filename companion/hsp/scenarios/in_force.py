@@ -5,19 +5,18 @@ from __future__ import annotations
 import os
 import re
 from collections import Counter
-from collections.abc import Callable
 from dataclasses import dataclass, replace
 
 from hsp.base.bounds import whole
 from hsp.base.numbers import some
 from hsp.base.paths import path_in
 from hsp.base.programs import Certificate, Inputs, Missing, Programs, Refused
+from hsp.base.settings import hosts_text, settings_text
 from hsp.base.unfit import Unfit
-from hsp.base.units import hosts_text, settings_text
-from hsp.plans.marks import TITLES, mark_in
 from hsp.plans.plans import capacity_file, servers_at
-from hsp.plans.service import NAMES, VALUES, Row, Service, service_of
-from hsp.scenarios.nearest import PRICED, Homes, Key, homes_by, homes_of, keys_of
+from hsp.plans.service import NAMES, VALUES, Service, service_of
+from hsp.plans.titles import TITLES, insist_counted
+from hsp.scenarios.nearest import PRICED, Homes, homes_of
 
 PLAN = "plan.txt"
 BY_PRICES = "HSPLAN PRICES 1\n"
@@ -33,11 +32,10 @@ FORM = re.compile(
 
 @dataclass(frozen=True)
 class InForce:
-    """Where a plan in force sends the queries of each row, and whether rows are told apart by their kinds."""
+    """Where a plan in force sends the queries of each row."""
 
     path: str
     homes: Homes
-    by_kind: bool
 
 
 def plan_named(words: str) -> str:
@@ -66,7 +64,7 @@ def text_of(path: str) -> str:
 
 def _of_rows(service: Service, text: str, path: str) -> Certificate:
     """The certificate, where its uses are those of the service's rows, and its servers as many as the service has."""
-    certificate, inputs = Certificate(text, service.unit), service.inputs
+    certificate, inputs = Certificate(text), service.inputs
     counted = (("row", len(service.rows), inputs.demand), ("server", len(service.servers), inputs.settings))
     for word, own, file in counted:
         number = len(certificate.prices(word))
@@ -89,12 +87,9 @@ def _beside(path: str, now: Service, programs: Programs) -> Service:
     there = {role: own for role, own in there.items() if os.path.isfile(own)}
     if all(os.path.realpath(own) == os.path.realpath(getattr(now.inputs, role) or "") for role, own in there.items()):
         return now
-    mark = now.mark
-    if "demand" in there and os.path.isfile(path_in(folder, TITLES)):
-        mark = mark_in(folder)
-    inputs = replace(now.inputs, **there, unit=mark.unit, is_log=False)
+    insist_counted(there.get("demand", now.inputs.demand))
     try:
-        return service_of(folder, programs, inputs, now.titles, mark)
+        return service_of(folder, programs, replace(now.inputs, **there, is_log=False), now.titles)
     except Refused as fault:
         raise Unfit(f"{path}: hsplan refuses the files beside it: {fault.line}") from None
 
@@ -136,47 +131,7 @@ def in_force(words: str, now: Service, programs: Programs) -> InForce:
     old = _beside(path, now, programs)
     certificate = _of_rows(old, text, path)
     _refuse_others(old, certificate, path, programs)
-    by_kind = old.mark.is_joined or now.mark.is_joined
-    homes = _homes_by_kind(old, certificate, now, path) if by_kind else homes_of(old, certificate, by_kind)
-    return InForce(path, homes, by_kind)
-
-
-def _homes_by_kind(old: Service, certificate: Certificate, now: Service, path: str) -> Homes:
-    """Where a plan in force has the queries of today's kinds.
-
-    The kinds of two tables are of the sites that their regions may use, which may be others. So rows are told apart
-    by the sites that a region may use in both, and have their part of all that goes together there.
-    """
-    _refuse_changed_sites(old, now, path)
-    before, after = _names_for(old), _names_for(now)
-    common = {region: [name for name in names if name in after.get(region, [])] for region, names in before.items()}
-
-    def told_apart(service: Service) -> Callable[[Row], Key]:
-        numbers = {site.name: at for at, site in enumerate(service.sites)}
-
-        def key_of(row: Row) -> Key:
-            servers = (service.server(numbers[name], row.handle) for name in common.get(row.region, []))
-            return row.region, tuple((server.site, server.id) for server in servers)
-
-        return key_of
-
-    homes, own, key_of = homes_by(old, certificate, told_apart(old)), told_apart(now), keys_of(now, True)
-    return {key_of(row): homes[own(row)] for row in now.rows if own(row) in homes}
-
-
-def _names_for(service: Service) -> dict[str, list[str]]:
-    """The sites that each region may use."""
-    return {region: [service.sites[at].name for at in service.sites_for(region)] for region in service.regions}
-
-
-def _refuse_changed_sites(old: Service, now: Service, path: str) -> None:
-    """Refuses kinds where a site of the same name has other servers, or another hash option, today."""
-    forms = {site.name: (site.option, [server.id for server in site.servers]) for site in old.sites}
-    for site in now.sites:
-        own = site.option, [server.id for server in site.servers]
-        if forms.get(site.name, own) != own:
-            why = f"its rows are kinds, and {site.name} has other servers now, so nobody knows what moves"
-            raise Unfit(f"{path}: {why}")
+    return InForce(path, homes_of(old, certificate))
 
 
 __all__ = ["InForce", "PLAN", "files_beside", "in_force", "plan_named"]

@@ -12,7 +12,7 @@ from hsp.base.programs import Inputs
 from hsp.plans.service import NAMES, Service
 from hsp.scenarios.in_force import PLAN, InForce, files_beside, in_force
 from hsp.scenarios.judged import Judged
-from hsp.scenarios.nearest import Portions, TooMany, keys_of, moved_between
+from hsp.scenarios.nearest import Portions, TooMany, moved_between
 
 # The folder beside a plan with the tables of its portions and their plan.
 FOLDER = "near"
@@ -85,12 +85,11 @@ def near_plan(words: str, service: Service, programs: Judged) -> Near:
     if service.log:
         return Near(service, None, 0, 0, "the rows of a log have no portions")
     held = in_force(words, service, programs)
-    plain = moved_between(service, held.homes, service.certificate, held.by_kind)
-    key_of = keys_of(service, held.by_kind)
-    if service.asked and not any(key_of(row) in held.homes for row in service.rows if row.count):
+    plain = moved_between(service, held.homes, service.certificate)
+    if service.asked and not any((row.region, row.handle) in held.homes for row in service.rows if row.count):
         return Near(service, held, plain, plain, f"none of its rows is asked for in {service.inputs.demand}")
     try:
-        portions = Portions(service, held.homes, programs, held.by_kind)
+        portions = Portions(service, held.homes, programs)
     except TooMany as fault:
         return Near(service, held, plain, plain, f"{fault}, more than tables hold")
     near = portions.nearest(service, service.certificate)

@@ -8,23 +8,23 @@ is a cheapest plan of the rows and moves the fewest queries, and a certificate o
 from __future__ import annotations
 
 from collections import Counter
-from collections.abc import Callable, Iterable, Iterator, Mapping
+from collections.abc import Iterable, Iterator, Mapping
 from dataclasses import dataclass
 from typing import NamedTuple
 
 from hsp.base.grammar import GREATEST_COST, HEADERS, LONGEST_NAME, MOST_COST_ROWS, MOST_DEMAND_ROWS, MOST_REGIONS
 from hsp.base.numbers import listed, some
 from hsp.base.programs import Certificate, Inputs
-from hsp.plans.service import Row, Server, Service
+from hsp.plans.service import Server, Service
 from hsp.scenarios.judged import Judged
 
-# What tells a row from others in two tables: its region, and its handle or the servers of its kind.
-Key = tuple[str, object]
+# What tells a row from others in two tables: its region and its handle.
+Key = tuple[str, str]
 # A server by its site and its identifier.
 Named = tuple[str, int]
 # How many queries of each key go to each server by a plan in force.
 Homes = Mapping[Key, Mapping[Named, int]]
-# How many units of a row, by its number, go to a site.
+# How many queries of a row, by its number, go to a site.
 Uses = dict[tuple[int, int], int]
 # What has a price in a certificate, in its order.
 PRICED = ("row", "server", "host")
@@ -35,11 +35,11 @@ class TooMany(Exception):
 
 
 class Portion(NamedTuple):
-    """So many units of a row, whose home is a site by its number, or None where they are new."""
+    """So many queries of a row, whose home is a site by its number, or None where they are new."""
 
     row: int
     home: int | None
-    units: int
+    queries: int
 
 
 @dataclass(frozen=True)
@@ -53,27 +53,13 @@ class Nearest:
     portions_plan: str
 
 
-def keys_of(service: Service, by_kind: bool) -> Callable[[Row], Key]:
-    """What tells the rows of a service apart: handles, or kinds where either of two tables counts these."""
-    if by_kind:
-        return lambda row: (row.region, service.kind(row))
-    return lambda row: (row.region, row.handle)
-
-
-def homes_of(service: Service, certificate: Certificate, by_kind: bool) -> Homes:
+def homes_of(service: Service, certificate: Certificate) -> Homes:
     """Where a plan of the service's rows sends their queries."""
-    return homes_by(service, certificate, keys_of(service, by_kind))
-
-
-def homes_by(service: Service, certificate: Certificate, key_of: Callable[[Row], Key]) -> Homes:
-    """The same, where the rows are told apart in another way."""
     found: dict[Key, dict[Named, int]] = {}
     for row, site, queries in zip(*certificate.use_columns):
         own = service.rows[row]
         server = service.server(site, own.handle)
-        homes = found.setdefault(key_of(own), {})
-        name = server.site, server.id
-        homes[name] = homes.get(name, 0) + queries
+        found.setdefault((own.region, own.handle), {})[server.site, server.id] = queries
     return found
 
 
@@ -91,34 +77,33 @@ def shared(whole: int, parts: Mapping[int | None, int]) -> dict[int | None, int]
     return {key: part for key, part in own.items() if part}
 
 
-def _shares(service: Service, homes: Homes, by_kind: bool) -> Iterator[dict[int | None, int]]:
-    """The units of each row that the plan in force has at each site; below None those at a server that is gone."""
-    key_of = keys_of(service, by_kind)
+def _shares(service: Service, homes: Homes) -> Iterator[dict[int | None, int]]:
+    """The queries of each row that the plan in force has at each site; below None those at a server that is gone."""
     numbers = {site.name: at for at, site in enumerate(service.sites)}
     for row in service.rows:
         parts = dict[int | None, int]()
-        for (site, server), queries in homes.get(key_of(row), {}).items():
+        for (site, server), queries in homes.get((row.region, row.handle), {}).items():
             number = numbers.get(site)
             is_there = number is not None and service.server(number, row.handle).id == server
             home = number if is_there else None
             parts[home] = parts.get(home, 0) + queries
-        yield shared(row.count // service.unit, parts)
+        yield shared(row.count, parts)
 
 
-def portions_of(service: Service, homes: Homes, by_kind: bool) -> list[Portion]:
+def portions_of(service: Service, homes: Homes) -> list[Portion]:
     """The portions of all rows. What had a server that is gone is moved by every plan, so it's new."""
     found = []
-    for at, (row, own) in enumerate(zip(service.rows, _shares(service, homes, by_kind))):
-        rest = row.count // service.unit - sum(own.values()) + own.pop(None, 0)
+    for at, (row, own) in enumerate(zip(service.rows, _shares(service, homes))):
+        rest = row.count - sum(own.values()) + own.pop(None, 0)
         found += [Portion(at, home, part) for home, part in own.items()]
         if rest or not own:
             found.append(Portion(at, None, rest))
     return found
 
 
-def gone_of(service: Service, homes: Homes, by_kind: bool) -> int:
+def gone_of(service: Service, homes: Homes) -> int:
     """How many queries of the plan in force, in the present counts, had a server that is gone. They have to move."""
-    return service.unit * sum(own.get(None, 0) for own in _shares(service, homes, by_kind))
+    return sum(own.get(None, 0) for own in _shares(service, homes))
 
 
 def weight_of(service: Service) -> int:
@@ -133,9 +118,9 @@ def weight_of(service: Service) -> int:
 class Portions:
     """The portions of a service's rows, of which nearest plans are made after any change of costs and capacities."""
 
-    def __init__(self, service: Service, homes: Homes, programs: Judged, by_kind: bool = False) -> None:
+    def __init__(self, service: Service, homes: Homes, programs: Judged) -> None:
         self._service, self._programs = service, programs
-        self.all = portions_of(service, homes, by_kind)
+        self.all = portions_of(service, homes)
         self._rows = [it.row for it in self.all]
         self.weight = weight_of(service)
         self._regions = dict.fromkeys((service.rows[it.row].region, it.home) for it in self.all)
@@ -145,10 +130,10 @@ class Portions:
         for it in self.all:
             if it.home is not None:
                 server = service.server(it.home, service.rows[it.row].handle)
-                self._at_home[server.number] += service.unit * it.units
-        rows = ((self._names[self._region(it)], service.rows[it.row].handle, it.units) for it in self.all)
+                self._at_home[server.number] += it.queries
+        rows = ((self._names[self._region(it)], service.rows[it.row].handle, it.queries) for it in self.all)
         self.demand = programs.put_table(HEADERS["demand"], rows)
-        self._gone = gone_of(service, homes, by_kind)
+        self._gone = gone_of(service, homes)
 
     def _region(self, portion: Portion) -> tuple[str, int | None]:
         return self._service.rows[portion.row].region, portion.home
@@ -195,30 +180,30 @@ class Portions:
         found, path = self._programs.plan(inputs)
         if not found.is_plan:
             return None
-        uses = self._joined(found, service.unit)
-        cost = service.unit * self._cost(service, uses)
+        uses = self._joined(found)
+        cost = self._cost(service, uses)
         if plain and cost != plain.cost:
             return None
         prices = {of: plain.prices(of) if plain else self._divided(found, of) for of in PRICED}
-        text = text_of(found.head, cost // service.unit, uses, prices)
+        text = text_of(found.head, cost, uses, prices)
         own = self._programs.put(text)
         if not self._programs.says_yes(service.inputs, own):
             return None
         moved = self._gone + found.cost - self.weight * cost
-        return Nearest(Certificate(text, service.unit), own, moved, inputs, path)
+        return Nearest(Certificate(text), own, moved, inputs, path)
 
-    def _joined(self, found: Certificate, unit: int) -> Uses:
-        """What all portions of a row send to a site, in units."""
+    def _joined(self, found: Certificate) -> Uses:
+        """What all portions of a row send to a site."""
         sums: dict[tuple[int, int], int] = {}
         for portion, site, queries in zip(*found.use_columns):
             key = self._rows[portion], site
             sums[key] = sums.get(key, 0) + queries
-        return {key: sums[key] // unit for key in sorted(sums)}
+        return {key: sums[key] for key in sorted(sums)}
 
     def _cost(self, service: Service, uses: Uses) -> int:
         names, costs = [site.name for site in service.sites], service.costs
         regions = [row.region for row in service.rows]
-        return sum(units * costs[regions[row], names[site]] for (row, site), units in uses.items())
+        return sum(queries * costs[regions[row], names[site]] for (row, site), queries in uses.items())
 
     def _divided(self, found: Certificate, of: str) -> list[int]:
         """Prices of the portions as those of the rows: divided by the weight, to the nearest whole number."""
@@ -230,24 +215,20 @@ class Portions:
 
 
 def text_of(head: str, cost: int, uses: Uses, prices: Mapping[str, list[int]]) -> str:
-    """A certificate of rows below a head that says its form. All is in units."""
+    """A certificate of rows below a head that says its form."""
     lines = [head, "PLAN", f"cost {cost}"]
-    lines += [f"use {row} {site} {units}" for (row, site), units in uses.items()]
+    lines += [f"use {row} {site} {queries}" for (row, site), queries in uses.items()]
     for of in PRICED:
         lines += [f"{of} {at} {price}" for at, price in enumerate(prices[of])]
     return "\n".join([*lines, "END", ""])
 
 
-def moved_between(service: Service, homes: Homes, certificate: Certificate, by_kind: bool = False) -> int:
+def moved_between(service: Service, homes: Homes, certificate: Certificate) -> int:
     """How many queries of the plan in force, in the present counts, a plan doesn't send to the same server: those at a
     server that is gone, too."""
-    at_home = {
-        (it.row, it.home): service.unit * it.units
-        for it in portions_of(service, homes, by_kind)
-        if it.home is not None
-    }
+    at_home = {(it.row, it.home): it.queries for it in portions_of(service, homes) if it.home is not None}
     kept = sum(min(queries, at_home.get((row, site), 0)) for row, site, queries in zip(*certificate.use_columns))
-    return gone_of(service, homes, by_kind) + sum(at_home.values()) - kept
+    return gone_of(service, homes) + sum(at_home.values()) - kept
 
 
 __all__ = [
@@ -256,9 +237,7 @@ __all__ = [
     "Portions",
     "TooMany",
     "gone_of",
-    "homes_by",
     "homes_of",
-    "keys_of",
     "moved_between",
     "portions_of",
     "shared",

@@ -53,16 +53,12 @@ class Lack:
 
 @dataclass
 class Purchase:
-    """Room that serves every loss; the least that does by the weighted sets; and losses that no room serves.
-
-    `spare` is what a server's capacity has beyond whole units: so much less has to be bought there.
-    """
+    """Room that serves every loss; the least that does by the weighted sets; and losses that no room serves."""
 
     bought: dict[Server, int] = field(default_factory=dict)
     lacks: list[Lack] = field(default_factory=list)
     unserved: list[Loss] = field(default_factory=list)
     rounds: int = 0
-    spare: dict[Server, int] = field(default_factory=dict)
 
     @property
     def size(self) -> int:
@@ -71,8 +67,7 @@ class Purchase:
     @property
     def least(self) -> int:
         """No purchase below it serves every loss."""
-        spare = sum(lack.weight * sum(self.spare[it] for it in lack.servers) for lack in self.lacks)
-        return max(0, math.ceil(sum(lack.weight * lack.queries for lack in self.lacks) - spare))
+        return math.ceil(sum(lack.weight * lack.queries for lack in self.lacks))
 
 
 def solver() -> Any:
@@ -84,15 +79,15 @@ def solver() -> Any:
 
 
 class Rounds:
-    """Purchases for the short sets that are known, in units."""
+    """Purchases for the short sets that are known."""
 
     def __init__(self, service: Service, lacks: list[Lack]) -> None:
         self._optimize: Any = solver()
         self._numpy: Any = importlib.import_module("numpy")
-        self._lacks, self._service = lacks, service
+        self._lacks = lacks
         self._servers = [it for it in service.servers if any(it in lack.servers for lack in lacks)]
         self._reached = self._numpy.array([[it in lack.servers for it in self._servers] for lack in lacks], float)
-        self._queries = self._numpy.array([lack.queries // service.unit for lack in lacks], float)
+        self._queries = self._numpy.array([lack.queries for lack in lacks], float)
         self._rooms = self._numpy.array([max(1, service.capacity(it)) for it in self._servers], float)
 
     def weights(self) -> list[Fraction]:
@@ -129,18 +124,17 @@ class Rounds:
             options={"time_limit": 10, "mip_rel_gap": 0.01},
         )
         rooms = whole.x if spread.x is None else spread.x[:number]
-        return self._in_queries([round(more) for more in rooms])
+        return self._where_more([round(more) for more in rooms])
 
     def _rounded_up(self) -> dict[Server, int]:
         found = self._optimize.linprog(
             self._numpy.ones(len(self._servers)), A_ub=-self._reached, b_ub=-self._queries, method="highs"
         )
-        return self._in_queries([math.ceil(more - 1e-6) for more in found.x])
+        return self._where_more([math.ceil(more - 1e-6) for more in found.x])
 
-    def _in_queries(self, units: list[int]) -> dict[Server, int]:
-        """Room in queries. What a capacity has beyond whole units isn't bought again."""
-        unit, service = self._service.unit, self._service
-        return {it: unit * more - service.capacity(it) % unit for it, more in zip(self._servers, units) if more > 0}
+    def _where_more(self, rooms: list[int]) -> dict[Server, int]:
+        """The servers of which more room is bought."""
+        return {it: more for it, more in zip(self._servers, rooms) if more > 0}
 
 
 def show_round(found: Purchase | None) -> None:
@@ -159,8 +153,7 @@ class Purchases:
 
     def search(self) -> Purchase:
         """The purchase, with the sets that show how little can do."""
-        spare = {it: self._service.capacity(it) % self._service.unit for it in self._service.servers}
-        found, losses = Purchase(spare=spare), losses_of(self._service)
+        found, losses = Purchase(), losses_of(self._service)
         todo, is_whole = losses, True
         while True:
             found.rounds += 1
@@ -216,25 +209,22 @@ class Purchases:
     def _rooms(self, servers: Iterable[Server], bought: dict[Server, int]) -> Counter[str]:
         """What the servers of each machine with a limit take; those of others below the empty address."""
         rooms: Counter[str] = Counter()
-        unit = self._service.unit
         for it in servers:
-            room = (self._service.capacity(it) + bought.get(it, 0)) // unit * unit
-            rooms[it.address.lower() if it in self._limits else ""] += room
+            rooms[it.address.lower() if it in self._limits else ""] += self._service.capacity(it) + bought.get(it, 0)
         return rooms
 
     def _room(self, servers: Iterable[Server], bought: dict[Server, int]) -> int:
         """What servers take together: those of a machine at most its limit."""
-        unit, own = self._service.unit, list(servers)
-        limits = {it.address.lower(): self._limits[it] // unit * unit for it in own if it in self._limits}
+        own = list(servers)
+        limits = {it.address.lower(): self._limits[it] for it in own if it in self._limits}
         return sum(min(room, limits.get(at, room)) for at, room in self._rooms(own, bought).items())
 
     def _useful(self, lack: Lack, bought: dict[Server, int]) -> dict[Server, int]:
         """The servers at which room serves some rows of a set, with how much of it at most: no machine passes its
         limit."""
         rooms = self._rooms(lack.servers, bought)
-        unit = self._service.unit
-        limits = {it: self._limits[it] // unit * unit for it in lack.servers if it in self._limits}
-        left = {it: limit - rooms[it.address.lower()] for it, limit in limits.items()}
+        limited = (it for it in lack.servers if it in self._limits)
+        left = {it: self._limits[it] - rooms[it.address.lower()] for it in limited}
         return {it: left.get(it, lack.queries) for it in lack.servers if left.get(it, 1) > 0}
 
     def _on_top(self, found: Purchase, losses: Sequence[Loss]) -> None:
@@ -247,8 +237,7 @@ class Purchases:
                     break
                 at = max(useful, key=lambda it: (self._service.capacity(it), -it.number))
                 lacking = lack.demand - self._room(lack.servers, found.bought)
-                more, own = max(self._service.unit, min(useful[at], lacking)), found.bought.get(at, 0)
-                found.bought[at] = own + more - (self._service.capacity(at) + own) % self._service.unit
+                found.bought[at] = found.bought.get(at, 0) + min(useful[at], lacking)
 
     def _weighed(self, found: Purchase) -> Purchase:
         """The purchase with the weights of its sets, each of which is judged as a shortage of its loss as things are."""
@@ -259,7 +248,7 @@ class Purchases:
         found.lacks = [replace(lack, weight=weight) for lack, weight in zip(found.lacks, weights) if weight]
         for lack in found.lacks:
             lost = without(self._service, lack.loss, self._programs)
-            text = re.sub(r"(?m)^capacity \d+$", f"capacity {lack.capacity // self._service.unit}", lack.text)
+            text = re.sub(r"(?m)^capacity \d+$", f"capacity {lack.capacity}", lack.text)
             self._programs.insist(joined(lost, self._programs), self._programs.put(text))
         return found
 

@@ -12,7 +12,7 @@ import click
 
 from hsp.base.paths import path_in
 from hsp.base.programs import Programs
-from hsp.base.units import hosts_text, settings_text
+from hsp.base.settings import hosts_text, settings_text
 from hsp.plans.answering import less_reserve
 from hsp.plans.plans import capacity_file
 from hsp.plans.service import Service

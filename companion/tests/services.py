@@ -1,26 +1,15 @@
-"""Demands that count in units: plans, what is kept of them and what is printed, added up here in queries."""
+"""What tests share: small services as texts, and a random one with the queries of its log."""
 
 from __future__ import annotations
 
 import csv
 import ipaddress
-import json
 import random
-import shlex
-import subprocess
-from collections import Counter
 from dataclasses import dataclass
 from pathlib import Path
 
-import pytest
-
-from hsp.base.programs import Programs, program
 from hsp.intake.records import Interface, ServerRecord, SiteRecord
 from hsp.intake.skeleton import BOTH
-from hsp.plans.service import read_service
-
-from conftest import Hsp
-from test_sites import invoke
 
 NETWORKS = "network,region\n10.1.0.0/16,eu\n10.2.0.0/16,us\n10.3.0.0/16,asia\n"
 CLIENTS = {"10.1.0.1": "eu", "10.2.0.1": "us", "10.3.0.1": "asia"}
@@ -65,33 +54,20 @@ def rows(path: Path) -> list[list[str]]:
     return list(csv.reader(path.read_text().splitlines()))[1:]
 
 
-def loads_of(folder: Path) -> Counter[tuple[str, int]]:
-    """The load of each server by the uses of plan.txt and the places of hsplan-stream, in the units of the plan."""
-    demand = rows(folder / "demand.csv")
-    places = Programs().places(read_service(str(folder), Programs(), {}).inputs, [it[1] for it in demand])
-    sites = [it.name for it in read_service(str(folder), Programs(), {}).sites]
-    loads: Counter[tuple[str, int]] = Counter()
-    for line in (folder / "plan.txt").read_text().splitlines():
-        if line.startswith("use "):
-            row, site, queries = map(int, line.split()[1:])
-            loads[sites[site], places[demand[row][1], sites[site]] + 1] += queries
-    return loads
-
-
 TWO_IN_ONE = Place("north", 2, ["192.0.2.1", "192.0.2.1"])
 OTHER = Place("south", 2, ["198.51.100.1"])
 
 
 def one_machine(folder: Path) -> Path:
-    """10,000 queries that all prefer a machine with two servers, of the limit 8,000, counted in thousands."""
-    handles = "".join(f"eu,20.500.1/item-{number},1\n" for number in range(10))
+    """10,000 queries that all prefer a machine with two servers, of the limit 8,000."""
+    handles = "".join(f"eu,20.500.1/item-{number},1000\n" for number in range(10))
     return written(
         folder,
         settings=TWO_IN_ONE.block() + OTHER.block() + host("192.0.2.1", 8_000),
         demand=handles,
         costs="eu,north,1\neu,south,100\n",
         capacity="north,1,9999\nnorth,2,9999\nsouth,1,9999\n",
-        titles='title = "One machine"\n\n[demand]\nunit = 1000\n',
+        titles='title = "One machine"\n',
     )
 
 
@@ -130,36 +106,3 @@ def random_service(tmp_path: Path, seed: int, handles: int = 400, share: float =
     )
     (tmp_path / "networks.csv").write_text(NETWORKS)
     return Random(folder, log, hosts, sites)
-
-
-def machines(service: Random, loads: Counter[tuple[str, int]]) -> Counter[str]:
-    """What each machine takes."""
-    sums: Counter[str] = Counter()
-    for it in service.sites:
-        for at, address in enumerate(it.addresses, 1):
-            sums[address] += loads[it.name, at]
-    return sums
-
-
-@pytest.mark.parametrize("seed", range(6))
-def test_a_plan_in_units_keeps_to_what_servers_and_machines_take(hsp: Hsp, tmp_path: Path, seed: int) -> None:
-    service, unit = random_service(tmp_path, seed), random.Random(seed).choice((3, 7, 10, 50))
-    folder, kept = service.folder, tmp_path / "queries.csv"
-    words_of_demand = ["--regions", str(tmp_path / "networks.csv"), "--into", str(folder), "--log", str(kept)]
-    invoke("demand", service.log, *words_of_demand, "--unit", unit)
-    lines = hsp("plan", str(folder)).stdout.splitlines()
-    loads = Counter({key: unit * count for key, count in loads_of(folder).items()})
-    room = {(site, int(number)): int(count) for site, number, count in rows(folder / "capacity.csv")}
-    assert sum(loads.values()) >= 20_000 and all(loads[key] <= room[key] for key in loads)
-    sums = machines(service, loads)
-    assert all(sums[address] <= limit for address, limit in service.hosts.items())
-    command = lines[-1].removeprefix("answer ").replace("/dev/stdin", shlex.quote(str(kept)))
-    assert f" --unit {unit} " in command
-    words = [program("hsplan-stream"), *shlex.split(command)[1:]]
-    done = subprocess.run(words, capture_output=True, text=True, check=True)
-    assert done.stderr == "assigned 20000 spent 0 unknown 0 refused 0\n"
-    answers = Counter((it.split()[1], int(it.split()[3])) for it in done.stdout.splitlines())
-    assert all(answers[key] <= loads[key] for key in answers)
-    cost = json.loads(hsp("plan", str(folder), "--json", "--no-save").stdout)["cost"]
-    invoke("demand", service.log, *words_of_demand, "--unit", 1)
-    assert json.loads(hsp("plan", str(folder), "--json", "--no-save").stdout)["cost"] <= cost
