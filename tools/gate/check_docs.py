@@ -12,7 +12,8 @@ It fails where
 
 - the README or docs/understand/ARCHITECTURE.md does not name a crate of crates.txt;
 - a crate stands on one of a storey above its own, or the two have it in different storeys;
-- a table of modules of docs/understand/ARCHITECTURE.md names one that is not there, or lacks one;
+- a table of modules of docs/understand/ARCHITECTURE.md names one that is not there, or lacks one, of a crate or of
+  the companion;
 - a document names a link, a `make` target or a script that is not there;
 - a word of a fault has no row in docs/use/FAULTS.md or no paragraph in a manual page;
 - the README states another logic of the kit than this machine's kit has;
@@ -138,6 +139,21 @@ def wrong_modules() -> Found:
             for it in sorted(there - stated - EVERYWHERE)
         ]
     return faults, count
+
+
+def wrong_packages() -> Found:
+    """The packages and modules of the companion that its table in docs/understand/ARCHITECTURE.md names and that are
+    not there, or that it lacks; and how many it names."""
+    table = programs.text_of("docs/understand/ARCHITECTURE.md").split("## The companion")[1].split("\n## ")[0]
+    package, stated = "", set[str]()
+    for row in rows(table):
+        package = "".join(named(row[0])) or package
+        stated |= {f"{package}/{it}" for it in named(row[1])}
+    top = Path(programs.TOP) / "companion" / "hsp"
+    there = {f"{it.parent.name}/{it.stem}" for it in top.glob("*/*.py") if it.stem != "__init__"}
+    faults = [f"docs/understand/ARCHITECTURE.md names what hsp does not have: {it}" for it in sorted(stated - there)]
+    faults += [f"docs/understand/ARCHITECTURE.md lacks a module of hsp: {it}" for it in sorted(there - stated)]
+    return faults, len(stated)
 
 
 def documents() -> list[str]:
@@ -312,6 +328,7 @@ KINDS = {
     "crates": missing_crates,
     "storeys": wrong_storeys,
     "modules of crates": wrong_modules,
+    "modules of hsp": wrong_packages,
     "links": missing_links,
     "targets and scripts": missing_targets,
     "lines outside of transcripts": unmarked,
