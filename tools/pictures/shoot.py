@@ -1,5 +1,5 @@
 #!/usr/bin/python3
-"""Writes the pages of the examples, and the picture of one that the README shows.
+"""Writes the pages of the examples, and the picture of one that the guide shows.
 
     tools/pictures/shoot.py            writes examples/two-sites/plan.html, examples/twelve-sites/plan.html and
                                    docs/pictures/page.png
