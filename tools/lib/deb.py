@@ -1,4 +1,5 @@
-"""The Debian package: programs, hsp, manual pages, completions, guide and examples in Debian's folders.
+"""The Debian package: programs, hsp, its units of systemd, manual pages, completions, guide and examples in Debian's
+folders.
 
 tools/debian has what Debian wants beside them. The modules of hsp are private to it, below /usr/share/hsplan. The
 pages of the guide are not compressed, since the manual pages name them, and they link to one another.
@@ -28,6 +29,8 @@ TEXTS = os.path.join(programs.TOP, "tools", "debian")
 MODULES = "usr/share/hsplan"
 DOCUMENTS = "usr/share/doc/hsplan"
 EXAMPLES = os.path.join(programs.TOP, "examples")
+# No unit is enabled by the package: each needs a user and folders that its operator makes.
+UNITS = {f"companion/units/{it}": f"usr/lib/systemd/system/{it}" for it in ("hsp-haproxy.service", "hsp-steer.service")}
 # Where Debian has files that an installation below a prefix puts elsewhere.
 ELSEWHERE = {"share/zsh/site-functions/": "share/zsh/vendor-completions/"}
 START = f"""#!/usr/bin/python3
@@ -131,7 +134,7 @@ def place(target: str) -> str:
 def places() -> dict[str, str]:
     """Where the package has the files of this tree, by their paths from the top."""
     found = {source: place(target) for source, target in programs.FILES.items()}
-    return found | {f"examples/{it}": f"{DOCUMENTS}/examples/{it}" for it in examples()}
+    return found | UNITS | {f"examples/{it}": f"{DOCUMENTS}/examples/{it}" for it in examples()}
 
 
 def held(made: dict[str, str]) -> dict[str, File]:
