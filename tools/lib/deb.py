@@ -30,7 +30,8 @@ MODULES = "usr/share/hsplan"
 DOCUMENTS = "usr/share/doc/hsplan"
 EXAMPLES = os.path.join(programs.TOP, "examples")
 # No unit is enabled by the package: each needs a user and folders that its operator makes.
-UNITS = {f"companion/units/{it}": f"usr/lib/systemd/system/{it}" for it in ("hsp-haproxy.service", "hsp-steer.service")}
+SERVICES = ("hsp-haproxy.service", "hsp-steer.service")
+UNITS = {f"companion/units/{it}": f"usr/lib/systemd/system/{it}" for it in SERVICES}
 # Where Debian has files that an installation below a prefix puts elsewhere.
 ELSEWHERE = {"share/zsh/site-functions/": "share/zsh/vendor-completions/"}
 START = f"""#!/usr/bin/python3
