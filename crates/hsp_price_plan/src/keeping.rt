@@ -126,7 +126,7 @@ pub(crate) fn keep_more(entries: &mut [u16], shape: &[SiteCost], which: Keep<'_>
     requires many { length shape.now ≤ length entries.old }
     requires within { LeadWithin (servers_in which) shape.now entries.old }
     requires low { IsLow which }
-    ensures { IsKeptBy (kept_by which) shape.now entries.old entries.new result }
+    ensures { IsKeptBy (kept_by which.entry) shape.now entries.old entries.new result }
 {
     match which {
         Keep::Least(extras) => keep_least(entries, shape, extras),

@@ -118,6 +118,7 @@ impl KeptRows {
         ensures added { OnOk result (self.new ≡ with_row self.old region name.now arcs.now count) }
         ensures kept { OnErr result (self.new ≡ self.old) }
     {
+        self.seen.write_u64(servers_number(arcs));
         self.row_regions.reserve(1)?;
         self.counts.reserve(1)?;
         self.places.reserve(self.sites)?;
@@ -125,7 +126,6 @@ impl KeptRows {
         push_entries(&mut self.places, self.sites, arcs)?;
         self.row_regions.push(region as u8)?;
         self.counts.push(count)?;
-        self.seen.write_u64(servers_number(arcs));
         Ok(())
     }
 
@@ -212,7 +212,7 @@ impl KeptRows {
     fn keep(&mut self, which: Keep<'_>) -> u64
         requires within { AreWithin (servers_in which) self.old.rows }
         requires low { IsLow which }
-        ensures kept { self.new ≡ with_each (kept_by which) self.old }
+        ensures kept { self.new ≡ with_each (kept_by which.entry) self.old }
         ensures count { result + loose_of self.new.rows ≡ loose_of self.old.rows }
         ensures settled { result ≡ 0 → self.new ≡ self.old }
     {

@@ -56,7 +56,7 @@ pub fn form_of(record: &ByteRecord) -> Result<CountForm, StreamFault>
 }
 
 // The fields of a row that has a region and a handle.
-#[tactic(auto, using(crate::proofs::KindsRows::ones))]
+#[tactic(auto, using(crate::proofs::LogRows::ones))]
 fn two_in(record: &ByteRecord) -> Option<Parts<'_>>
     ensures { option_map parts_shown result ≡ parts_in Ones (fields_of «record».now) }
 {
@@ -69,7 +69,7 @@ fn two_in(record: &ByteRecord) -> Option<Parts<'_>>
 }
 
 // The fields of a row that has a region, a handle and a count.
-#[tactic(auto, using(crate::proofs::KindsRows::counts))]
+#[tactic(auto, using(crate::proofs::LogRows::counts))]
 fn three_in(record: &ByteRecord) -> Option<Parts<'_>>
     ensures { option_map parts_shown result ≡ parts_in Counts (fields_of «record».now) }
 {

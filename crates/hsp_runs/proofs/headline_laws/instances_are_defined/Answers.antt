@@ -1,6 +1,6 @@
 use Rattle.hsp_runs.proofs.OneFault.{gives_nothing_else, gives_one_answer}
 use Rattle.hsp_runs.proofs.PageRead.{accepts_the_defined, gives_the_defined}
-use Rattle.hsp_runs.proofs.laws.instances_are_defined.Goals as goal
+use Rattle.hsp_runs.proofs.headline_laws.instances_are_defined.Goals as goal
 
 pub returns : goal.returns
 returns c =

@@ -36,10 +36,10 @@ index-region-requires c =
     c.self.invariant row_below in
     omega (arith, number, c.from.ensures, below, t.regions.ok.0)
 
-pub entries_of-requires : goal.entries_of-requires
-entries_of-requires c =
+pub entries_of-entries-requires : goal.entries_of-entries-requires
+entries_of-entries-requires c =
     let t = c.self.inside in
-    let row_below = inside (goal.at.entries_of-requires c).After-self in
+    let row_below = inside (goal.at.entries_of-entries-requires c).After-self in
     omega (
       arith,
       place_within (length t.row_regions.items) c.args.row t.sites row_below,
@@ -62,9 +62,9 @@ shape_is c row_below =
     c.index-region.result.now row_below below c.from.ensures c.index.ensures c.index-region.ensures)
 
 entries_are : (c : After-shape)
-    → c.entries_of.result.now ≡ entries_at c.self.inside.sites c.args.row c.self.inside.places.items
+    → c.entries_of-entries.result.now ≡ entries_at c.self.inside.sites c.args.row c.self.inside.places.items
 entries_are c =
-    c.entries_of.ensures
+    c.entries_of-entries.ensures
     ∙ ap (λ (places : List ℕ). take c.self.inside.sites (drop (c.args.row * c.self.inside.sites) places))
     c.deref.ensures.value
 
@@ -86,7 +86,7 @@ returns-clause-arcs c =
     let t = c.self.inside in
     let d = (goal.at.returns-clause-arcs c).After-shape in
     let row_below = inside (goal.at.returns-clause-arcs c).After-self in
-    ap (λ (shape : List SiteCost). arcs_by shape c.entries_of.result.now) (shape_is d row_below)
+    ap (λ (shape : List SiteCost). arcs_by shape c.entries_of-entries.result.now) (shape_is d row_below)
     ∙ ap (arcs_by (region_by t.regions.items t.row_regions.items c.args.row).shape) (entries_are d)
     ∙ ap (λ (row : KeptRow). row.arcs)
     (sym (get_or-rows_by t.sites t.regions.items t.row_regions.items t.counts.items t.places.items c.args.row no_row
