@@ -250,7 +250,7 @@ def passes(program: str, stream: str, room: str, handles: list[bytes]) -> dict[s
     return {
         "check": [program, "check", *by_plan],
         "dispatch": [program, "dispatch", *by_plan, "--log", "log.csv"],
-        "answer by a plan": [stream, "answer", *by_plan, "--log", "log.csv"],
+        "plan by prices": [stream, "plan", *by_prices],
         "answer by prices": [stream, "answer", *by_prices, "--prices", "prices.txt"],
     }
 

@@ -547,7 +547,7 @@ def check_failing(it: Programs, room: str) -> tuple[list[str], int]:
 def check_all(it: Programs, million: int, room: str) -> list[str]:
     draw = random.Random(49)
     # The memory of a run counts that of this process before it, so this comes while it is small.
-    found = check_million(it, million) + check_many_arcs(it)
+    found = check_many_arcs(it) + check_million(it, million)
     oracle.put_cases(it.folder)
     with open(os.path.join(it.folder, "demand.csv"), "rb") as file:
         it.plan_by_prices(file.read())
