@@ -193,6 +193,23 @@ def test_a_long_purchase_names_its_largest_parts(hsp: Hsp, browser: Any, twelve:
     assert page.run("return document.querySelectorAll('.bar .bought').length") == len(bought)
 
 
+def test_a_purchase_counts_in_what_is_above_capacity(hsp: Hsp, example: Example) -> None:
+    """The page of a shortage compares what the page of a folder with the purchase does, and so marks its servers."""
+    folder = example("two-sites")
+    demand = ["--demand", str(folder / "premiere.csv")]
+    hsp("view", str(folder), *demand, status=3)
+    short, table = (folder / "plan.html").read_text(encoding="utf-8"), folder / "capacity.csv"
+    rows = dict(line.rsplit(",", 1) for line in table.read_text().splitlines())
+    for it in json.loads(hsp("plan", str(folder), *demand, "--json", status=3).stdout)["least_purchase"]:
+        key = f"{it['site']},{it['server_id']}"
+        rows[key] = str(int(rows[key]) + it["more"])
+    table.write_text("".join(f"{key},{room}\n" for key, room in rows.items()))
+    hsp("view", str(folder), *demand)
+    bought = (folder / "plan.html").read_text(encoding="utf-8")
+    above = re.search(r"[0-9]+ servers would get [0-9,]+ queries above capacity", bought)
+    assert above and above[0] in short and short.count("<small>left alone") == bought.count("<small>left alone")
+
+
 def test_two_plans_of_one_title_have_distinct_names(hsp: Hsp, browser: Any, example: Example) -> None:
     folder = example("two-sites")
     (folder / "hsp.toml").write_text('title = "Films"\n')

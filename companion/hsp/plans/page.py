@@ -268,10 +268,10 @@ def _changed(words: str, before: dict[tuple[str, str], int], after: dict[tuple[s
     return [f"{words.format(*name)}: {shown(before, name)} → {shown(after, name)}" for name in other]
 
 
-def best_room(plan: Planned, hosts: list[Host]) -> tuple[str, int, bool] | None:
-    """Where room is worth most: its name, what one query more saves there, and whether that is only a bound."""
+def best_room(plan: Planned) -> tuple[str, int, bool] | None:
+    """Where room is worth most: its name, what one query more saves there, and whether it is a machine."""
     found = [(gain.server.label, gain.one, False) for gain in plan.gains if gain.all > 0]
-    found += [(host.address, host.price, True) for host in hosts if host.price]
+    found += [(host.address, host.one, True) for host in plan.hosts if host.one]
     return max(found, key=lambda pair: pair[1]) if found else None
 
 
@@ -334,7 +334,7 @@ def left_alone(view: View, plan: Planned) -> str:
     """What would be too full if all asked their cheapest site; nothing where that is the plan."""
     if not view.reference or view.before:
         return ""
-    count, queries = above(view.service, view.reference.loads)
+    count, queries = above(plan.service, view.reference.loads)
     hosts = above_limits(plan.hosts, view.reference.loads)
     servers = f"{some(count, 'server')} would get {queries:,} queries above capacity" if count else ""
     machines = f"{some(hosts, 'machine')} would get more than {'its limit' if hosts == 1 else 'their limits'}"
@@ -361,8 +361,8 @@ def plan_shown(view: View, plan: Planned) -> dict[str, object]:
         "step": step,
         "dear": [server for server in servers if server.is_dear],
         "full": [server for server in servers if server.is_full],
-        "tight": [host for host in plan.hosts if host.price],
-        "best": best_room(plan, plan.hosts),
+        "tight": [host for host in plan.hosts if host.one],
+        "best": best_room(plan),
         "by_shares": by_shares(plan),
         "reserve": reserve(servers, plan.hosts),
         "alone": left_alone(view, plan),
