@@ -230,7 +230,9 @@ def _gain(programs: Programs, plan: Planned, server: Server) -> Gain:
 
 
 def _with_one(programs: Programs, plan: Planned, host: Host) -> Host:
-    """A machine with what one query more saves there. A price only bounds that, so it is planned."""
+    """A machine with what one query more saves there, if it has a price."""
+    if not host.price:
+        return host
     service, own = plan.service, plan.service.settings
     hosts = [{**it, "limit": it["limit"] + (dotted(it["address"]) == host.address)} for it in own["host"]]
     settings = programs.put(settings_text(own) + hosts_text({"host": hosts}), ".toml")
@@ -245,13 +247,14 @@ def with_gains(
     from concurrent.futures import ThreadPoolExecutor  # loaded only here, as it takes others with it
 
     priced = [server for server in plan.service.servers if plan.prices[server.number] > 0 and plan.is_full(server)]
-    priced = sorted(priced, key=lambda server: -plan.prices[server.number])[:MOST_GAINS]
-    found, done = [], progress(len(priced))
+    priced.sort(key=lambda server: -plan.prices[server.number])
+    priced, found = priced[:MOST_GAINS], []
+    done = progress(len(priced))
     with ThreadPoolExecutor(min(4, os.cpu_count() or 1)) as pool:
         for gain in pool.map(lambda server: _gain(programs, plan, server), priced):
             found.append(gain)
             done()
-        hosts = list(pool.map(lambda host: _with_one(programs, plan, host) if host.price else host, plan.hosts))
+        hosts = list(pool.map(lambda host: _with_one(programs, plan, host), plan.hosts))
     found.sort(key=lambda saving: (-saving.one, -saving.all))
     return replace(plan, gains=found, hosts=hosts)
 
