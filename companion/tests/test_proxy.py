@@ -576,6 +576,25 @@ def test_a_long_path_of_a_socket_is_refused(hsp: Hsp, two: Path, tmp_path: Path)
     assert not (tmp_path / "proxy").exists()
 
 
+@pytest.mark.parametrize(
+    "words, said",
+    [
+        (["--listen", "127.0.0.1:8405"], "'127.0.0.1:8405' and '127.0.0.1:8405' overlap"),
+        (["--listen", "*:8405"], "'*:8405' and '127.0.0.1:8405' overlap"),
+        (["--listen", "[::1]:80", "--listen", ":80", "--listen", "192.0.2.1:080"], "':80' and '192.0.2.1:080' overlap"),
+        (["--listen", "127.0.0.1:8001"], "paris:2: http://127.0.0.1:8001 is 127.0.0.1:8001, where HAProxy itself"),
+        (["--listen", "*:8001"], "paris:2: http://127.0.0.1:8001 is *:8001, where HAProxy itself"),
+        (["--listen", "192.0.2.9:8001", "--listen", "[::1]:8405"], ""),
+    ],
+)
+def test_nothing_stands_where_haproxy_listens(
+    hsp: Hsp, two: Path, tmp_path: Path, words: list[str], said: str
+) -> None:
+    urls = {name: f"http://127.0.0.1:{7999 + at}" for at, name in enumerate(NAMES, 1)}
+    put(two, hsp=urls_text(urls))
+    assert said in exported(hsp, two, tmp_path / "proxy", *words, status=1 if said else 0)
+
+
 def certified(folder: Path, name: str) -> Path:
     """A certificate of a name and its key, in one file."""
     pem, key = folder / f"{name}.pem", folder / f"{name}.key"
