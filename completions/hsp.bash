@@ -46,7 +46,7 @@ _hsp_values() {
         *" --settings" | *" --costs" | *" --capacity" | *" --values" | *" --output" | *" -o" | *" --regions" | *" --log" | *" --demand" | *" --certificate" | *" --socket" | *" --tls-ca" | *" --tls-cert" | *" --tls-key" | *" --plan" | *" --near" | *" --metrics" | *" --chart" | *" --prices") echo -f ;;
         *" --reserve" | *" --unit" | *" --jobs" | *" --regex" | *" --client" | *" --handle" | *" --path" | *" --from" | *" --to" | *" --time" | *" --prefix" | *" --elsewhere" | *" --by" | *" --listen" | *" --trusted" | *" --watch" | *" --keep" | *" --workers" | *" --scheduler" | *" --patience" | *" --fronts" | *" --percent" | *" --name" | *" --every" | *" --period" | *" --title" | *" --server" | *" --lose" | *" --cost" | *" --times" | *" --points" | *" --step" | *" --servers" | *" --index" | *" --front") echo - ;;
         *" --into" | *" --before") echo -d ;;
-        *" --format") echo "-W auto server proxy json csv" ;;
+        *" --format") echo "-W auto server proxy json csv httplog" ;;
         *" --option") echo "-W na local handle" ;;
         *" --kind") echo "-W load region shortage" ;;
     esac
