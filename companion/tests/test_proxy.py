@@ -363,6 +363,9 @@ def test_a_proxy_fetches_answers_and_goes_elsewhere_where_a_server_is_down(
             name, asked, *headers = front.ask(path, CLIENTS["eu"]).text.decode().split("\n")
             assert (name, asked) == ("paris:2", path)
             assert f"x-forwarded-for={CLIENTS['eu']}" in headers
+            own = http.client.HTTPConnection("127.0.0.1", front.port)
+            own.request("GET", path, headers={"X-Forwarded-For": CLIENTS["eu"], "Upgrade": "h2c", "Connection": "Upgrade"})
+            assert b"upgrade=" not in own.getresponse().read().lower()
             assert f"host={urls['paris:2'].removeprefix('http://')}" in headers
             servers["paris:2"].shutdown()
             servers["paris:2"].server_close()

@@ -146,15 +146,14 @@ def keep(service: Service, path: str, near: Near | None) -> list[str]:
             refuse_clashes(near.beside, contents)
             lines = [*filter(None, [near.shown_by(path)]), *lines]
     refuse_clashes(service.own_inputs.files(), contents)
-    for name in contents:
-        os.makedirs(os.path.dirname(name) or ".", exist_ok=True)
+    root = os.path.dirname(path) or "."
     contents = {path: service.certificate.text.encode(), **contents}
     if path != path_in(service.folder, PLAN):
-        replace_all(contents)
+        replace_all(contents, root)
         return lines
     read = [*service.own_inputs.files(), *([near.held.path, *near.beside] if near and near.held else [])]
     with locked([service.folder]):
-        replace_all(contents)
+        replace_all(contents, root)
         old = forget(service.folder, contents, read)
     named = f"old   {listed(old)}: of plans of hours, or of an earlier plan; not of this one"
     return [*lines, named] if old else lines
