@@ -9,14 +9,15 @@ import os
 import signal
 import time
 from collections.abc import Callable, Collection, Iterable, Iterator
-from dataclasses import dataclass, field
+from dataclasses import dataclass, field, replace
 from fractions import Fraction
 from typing import Any
 
 import click
 
+from hsp.base.ends import ended
 from hsp.base.files import refuse_clashes, refuse_no_file, replace_all
-from hsp.base.numbers import queries_of
+from hsp.base.numbers import queries_of, some
 from hsp.base.options import ANY_FILE, PathName, Run, idle
 from hsp.base.paths import path_in, shell_word
 from hsp.base.programs import Missing, Programs, Refused
@@ -25,13 +26,15 @@ from hsp.base.unfit import Unfit
 from hsp.doctor.service_folder import read_in, sound, with_files
 from hsp.plans.service import NAMES, Service, read_service
 from hsp.proxy.config import CONFIG, COSTS, PLAN, PRICES, SITES, socket_in
-from hsp.proxy.proxies import Proxies
+from hsp.proxy.proxies import Proxies, Unwritten
 from hsp.proxy.standing import STATE, line_of, metrics_text, state_in, table_lines
 from hsp.proxy.steering import FAULTS, Steering
 from hsp.proxy.watched import Watched
 from hsp.scenarios.reserve import RESERVE, forgotten, reserved
 
 LOCK, NOTHING = "steer.lock", Fraction(0)
+# After so many times the seconds from plan to plan, a plan is late.
+LATE = 3
 # Why figures need a regular file.
 FIGURES = "hsp steer writes its figures there anew, time and again"
 # HAProxy is asked at least once in so many seconds whether a server is lost or has returned.
@@ -59,7 +62,7 @@ def _text(fault: BaseException) -> str:
     if isinstance(fault, OSError):
         return f"{fault.filename}: {fault.strerror}" if fault.filename else str(fault.strerror or fault)
     if isinstance(fault, Refused):
-        return f"hsplan refuses these files: {fault.line}"
+        return f"hsplan refuses these files: {fault.line}" if fault.line else f"hsplan was ended ({fault.status})"
     return fault.message if isinstance(fault, Unfit) else str(fault)
 
 
@@ -107,9 +110,11 @@ class _Loop:
         except FAULTS as fault:
             if isinstance(fault, OSError) and fault.filename is None:  # standard output is gone
                 raise
-            line = _text(fault)
+            line = _text(fault) + ("" if isinstance(fault, Unwritten) else f"; {kind}")
             if line != self._said.get(kind):
-                say(f"hsp: {line}; {kind}", err=True)
+                say(f"hsp: {line}", err=True)
+                with contextlib.suppress(Unwritten):
+                    self.steering.keep(line)
             self._said[kind] = line
 
     def reload(self) -> None:
@@ -121,7 +126,8 @@ class _Loop:
             self.steering.take(read_anew(self.folder, self.given, programs, self.reserve))
             self._refused = ""
         except FAULTS as fault:
-            doctor = f" (hsp doctor {shell_word(self.folder)})" if isinstance(fault, Refused) else ""
+            is_refused = isinstance(fault, Refused) and fault.line
+            doctor = f" (hsp doctor {shell_word(self.folder)})" if is_refused else ""
             line = f"hsp: {self.folder} isn't read anew: {_text(fault)}; the old plan stays{doctor}"
             if line != self._refused:
                 say(line, err=True)
@@ -151,6 +157,7 @@ class _Loop:
             say("hsp: the shortage is over", err=True)
         self._is_short = bool(state.left_out)
         give(line_of(state))
+        self.steering.keep()
 
     def measure(self) -> bool:
         """Writes the figures of the plan in force."""
@@ -221,6 +228,11 @@ def _show(folders: Collection[str]) -> None:
         say(line)
     for own in (own for own in proxies.all if not own.now):
         say(f"{own.folder} doesn't answer; its last counts are among these")
+    age = now.at - state.made
+    if state.every and age > LATE * state.every:
+        with contextlib.suppress(Missing, OSError), _alone(folders):
+            state = replace(state, fault="hsp steer isn't running")
+        ended(1, f"no plan came for {some(round(age), 'second')}: {state.fault or 'hsp steer is still planning'}")
 
 
 def beside_status(run: Run) -> Run:
@@ -283,7 +295,8 @@ def steer(folder: str, folders: tuple[str, ...], every: float, period: float, **
         service = _with_sites(reserved(sound(folder, programs, given), reserve, programs))
         if line := forgotten(service, programs):
             say(f"hsp: {line}", err=True)
-        loop = _Loop(Steering(folders, service, period), folder, given, every, metrics, watched, reserve)
+        steering = Steering(folders, service, period, 0.0 if is_once else every)
+        loop = _Loop(steering, folder, given, every, metrics, watched, reserve)
         if is_once:
             loop.step()
             loop.measure()
