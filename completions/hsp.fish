@@ -74,7 +74,7 @@ complete -c hsp -n "__fish_seen_subcommand_from sites; and not __fish_seen_subco
 complete -c hsp -n "__fish_seen_subcommand_from sites; and not __fish_seen_subcommand_from export fleet" -l capacity -x -d 'of each server'
 complete -c hsp -n "__fish_seen_subcommand_from steer; and not __fish_seen_subcommand_from export fleet" -l into -x -a "(__fish_complete_directories)" -d 'the folder that hsp export wrote; several for several proxies'
 complete -c hsp -n "__fish_seen_subcommand_from steer; and not __fish_seen_subcommand_from export fleet" -l every -x -d 'seconds from plan to plan'
-complete -c hsp -n "__fish_seen_subcommand_from steer; and not __fish_seen_subcommand_from export fleet" -l period -x -d 'seconds in which the demand comes, and for which capacities are'
+complete -c hsp -n "__fish_seen_subcommand_from steer; and not __fish_seen_subcommand_from export fleet" -l period -x -d 'seconds in which the demand comes, and for which capacities are; or 90m, 1h, 1d'
 complete -c hsp -n "__fish_seen_subcommand_from steer; and not __fish_seen_subcommand_from export fleet" -l metrics -r -F -d 'figures for Prometheus\' textfile collector'
 complete -c hsp -n "__fish_seen_subcommand_from steer; and not __fish_seen_subcommand_from export fleet" -l once -d 'one plan, and the end'
 complete -c hsp -n "__fish_seen_subcommand_from steer; and not __fish_seen_subcommand_from export fleet" -l status -d 'only prints the loads of now against plan and capacity'

@@ -227,3 +227,7 @@ def test_growth_over_a_log_says_beforehand_what_it_does(
         how = r"36 rows are joined where they have the same servers, about \d+ seconds"
         assert re.fullmatch(rf"hsp: {how}; then some 18 plans are made, of {of}", joined)
         assert re.fullmatch(r"hsp: 18 plans, about \d+ seconds on \d+ processors", planned)
+
+
+def test_a_growth_above_1000_percent_is_a_factor() -> None:
+    assert [percent_of(own) for own in (110_000, 110_859)] == ["+1,000.00%", "11.0859 times as much"]

@@ -22,6 +22,7 @@ from pathlib import Path
 from typing import Any
 from urllib.parse import quote
 
+import click
 import pytest
 
 from hsp.base.grammar import MOST_SITES
@@ -37,7 +38,7 @@ from hsp.proxy.proxies import Look
 from hsp.proxy.rest import Rest, rest_of, room_of
 from hsp.proxy.runtime import AT_ONCE, Reading, pieces
 from hsp.proxy.standing import Standing, State, kept, kept_in
-from hsp.proxy.steer import _alone, _Loop, _text, read_anew
+from hsp.proxy.steer import Seconds, _alone, _Loop, _text, read_anew
 from hsp.proxy.steering import Steering, state_of
 from hsp.proxy.watched import Watched
 
@@ -814,3 +815,11 @@ def test_systemd_takes_the_units(tmp_path: Path) -> None:
     for unit in units:
         words = ["systemd-analyze", "security", "--offline=true", "--threshold=20", unit]
         assert subprocess.run(words, capture_output=True).returncode == 0, unit
+
+
+def test_a_period_has_a_unit() -> None:
+    kind = Seconds(1, 86_400)
+    assert [kind.convert(own, None, None) for own in ("90m", "1h", "0.5d", "7s", "60")] == [5400, 3600, 43_200, 7, 60]
+    for own in ("2d", "0m", "h", "1w", "1.m"):
+        with pytest.raises(click.BadParameter):
+            kind.convert(own, None, None)

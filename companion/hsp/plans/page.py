@@ -15,6 +15,7 @@ from hsp.base.grammar import MOST_DEMAND_ROWS
 from hsp.base.numbers import average, listed, percent, queries_of, signed, some
 from hsp.base.paths import shell_word
 from hsp.base.text import escaped
+from hsp.plans.counted import rows_of as rows_of_log
 from hsp.plans.flows import beside_of
 from hsp.plans.plans import Gain, Host, Planned, Reference, Shortage, above, above_limits, by_shares, to_buy
 from hsp.plans.service import Row, Server, Service, dotted
@@ -231,7 +232,7 @@ def changes_between(old: Service, new: Service) -> list[str]:
     said = _changed("capacity of {} {}", _texts(old.capacities), _texts(new.capacities))
     said += _changed("cost {} to {}", _texts(old.costs), _texts(new.costs))
     if old.log or new.log:
-        is_other = _octets_of(old) != _octets_of(new)
+        is_other = _octets_of(old) != _octets_of(new) and _asked_in(old) != _asked_in(new)
         said += [f"demand: {old.asked:,} → {new.asked:,} queries"] if is_other else []
         return said + _changed("limit of {}{}", _limits(old), _limits(new))
     rows = [_counts(service) for service in (old, new)]
@@ -244,6 +245,12 @@ def changes_between(old: Service, new: Service) -> list[str]:
 def _octets_of(service: Service) -> str:
     """The sum of a demand's octets: a log is too long to be compared row by row."""
     return sum_of(service.inputs.demand)
+
+
+def _asked_in(service: Service) -> int:
+    """A sum of a demand that the order of its rows doesn't change, nor how they are split."""
+    rows = (row for rows in rows_of_log(service.inputs.demand) for row in rows)
+    return sum(hash((row.region, row.handle)) * row.queries for row in rows)
 
 
 def _counts(service: Service) -> dict[tuple[str, str], int]:

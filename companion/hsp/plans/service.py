@@ -109,7 +109,8 @@ class Service:
     @property
     def kept_back(self) -> str:
         """What is kept back, in words."""
-        return f"{percent_exactly(self.reserve)} of each capacity kept back" if self.reserve else ""
+        beside = f" (not {percent_exactly(100 * self.reserve)})" if self.reserve < Fraction(1, 100) else ""
+        return f"{percent_exactly(self.reserve)}{beside} of each capacity kept back" if self.reserve else ""
 
     @property
     def rows_are(self) -> str:

@@ -6,6 +6,7 @@ import contextlib
 import fcntl
 import math
 import os
+import re
 import signal
 import time
 from collections.abc import Callable, Collection, Iterable, Iterator
@@ -41,6 +42,7 @@ FIGURES = "hsp steer writes its figures there anew, time and again"
 TICK = 1.0
 # A day, and a year.
 MOST_EVERY, MOST_PERIOD = 86_400, 31_622_400
+UNITS = {"s": 1, "m": 60, "h": 3_600, "d": 86_400}
 
 
 @contextlib.contextmanager
@@ -190,6 +192,14 @@ class _Loop:
             signal.signal(signal.SIGHUP, before)
 
 
+class Seconds(click.FloatRange):
+    """A number of seconds, or of minutes, hours or days, as 90m, 1h or 1d."""
+
+    def convert(self, value: Any, param: click.Parameter | None, context: click.Context | None) -> Any:
+        match = re.fullmatch(r"([0-9]{1,8}(?:\.[0-9]{1,9})?)([smhd])", str(value))
+        return super().convert(float(match[1]) * UNITS[match[2]] if match else value, param, context)
+
+
 def _number(_: click.Context, option: click.Parameter, value: float) -> float:
     """A number, which nan isn't though it is in each range."""
     if math.isnan(value):
@@ -266,9 +276,9 @@ def beside_status(run: Run) -> Run:
     "--period",
     default=3600.0,
     show_default=True,
-    type=click.FloatRange(1, MOST_PERIOD),
+    type=Seconds(1, MOST_PERIOD),
     callback=_number,
-    help="seconds in which the demand comes, and for which capacities are",
+    help="seconds in which the demand comes, and for which capacities are; or 90m, 1h, 1d",
 )
 @click.option("--metrics", metavar="FILE", type=ANY_FILE, help="figures for Prometheus' textfile collector")
 @click.option("--once", is_flag=True, help="one plan, and the end")

@@ -63,8 +63,10 @@ class Purchase:
 
 
 def percent_of(factor: int) -> str:
-    """The growth of a factor."""
+    """The growth of a factor; as the factor itself where percents would be read for that."""
     change = (factor - STEP) / 100
+    if change > 1000:
+        return f"{factor / STEP:,.4f}".rstrip("0").rstrip(".") + " times as much"
     return f"{change:+,.2f}%".replace("-", "\u2212")
 
 
