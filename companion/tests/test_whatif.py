@@ -190,6 +190,7 @@ def test_changes_are_one_plan_together(hsp: Hsp, example: Example) -> None:
         (["--lose", "pariss"], 5, "no site 'pariss': did you mean paris?"),
         (["--times", "uss=2"], 5, "no region or handle 'uss': did you mean us?"),
         (["--cost", "us:paris=x"], 5, "'us:paris=x' is no change"),
+        (["--server", "paris:1=1.5"], 5, "and a whole number"),
     ],
 )
 def test_odd_changes_are_refused(hsp: Hsp, example: Example, words: list[str], status: int, said: str) -> None:

@@ -21,8 +21,8 @@ from hsp.plans.service import Row, Server, Service, table
 
 # What is changed: room at a full server, a lost site, all demand, the size of one server, or what is named.
 MORE, LOST, DEMAND, SIZE, TOGETHER = "more", "lost", "demand", "size", "together"
-# What a name is changed to: a size, a cost, or a factor.
-NUMBER = re.compile(r"[0-9]{1,10}(\.[0-9]{1,9})?")
+# What a name is changed to: a size or a cost, or a factor.
+WHOLE, FACTOR = re.compile(r"[0-9]{1,10}"), re.compile(r"[0-9]{1,10}(\.[0-9]{1,9})?")
 # What an option says each time.
 Words = Sequence[str]
 EIGHTHS = " \u258f\u258e\u258d\u258c\u258b\u258a\u2589"
@@ -86,7 +86,7 @@ class Changes:
             paid[region, _known(site, [it.name for it in service.sites], "site")] = int(cost)
         for site in lost:
             _known(site, [it.name for it in service.sites], "site")
-        for name, factor in map(_change, demand):
+        for name, factor in (_change(own, FACTOR) for own in demand):
             path = demand_times(service, self.programs, factor, _asked(service, name))
             rows = [] if service.log else [Row(region, handle, int(count)) for region, handle, count in table(path)]
             service = replace(service, inputs=service.inputs.but(demand=path), rows=rows)
@@ -96,11 +96,12 @@ class Changes:
         return self.planned(TOGETHER, "these changes", costs=costs_file, demand=asked, capacity=room_file)
 
 
-def _change(words: str) -> tuple[str, Fraction]:
+def _change(words: str, numbers: re.Pattern[str] = WHOLE) -> tuple[str, Fraction]:
     """What is changed, and to which number."""
     name, _, number = words.rpartition("=")
-    if not name or not NUMBER.fullmatch(number):
-        raise Missing(f"'{words}' is no change: write a name, '=' and a number")
+    if not name or not numbers.fullmatch(number):
+        whole = "a whole number" if numbers is WHOLE else "a number"
+        raise Missing(f"'{words}' is no change: write a name, '=' and {whole}")
     return name, Fraction(number)
 
 
