@@ -522,13 +522,13 @@ def test_a_full_disk_is_said_as_it_is(
 
 def test_a_status_without_a_plan_of_late_names_the_cause(hsp: Hsp, two: Path, into: Path, front: Front) -> None:
     own = Steering([str(into)], read_service(str(two), Programs(), {}), 1e5, 0.2)
-    own.step(own.read())
+    own.state = replace(own.step(own.read()), made=time.time() - 20)
     own.keep("demand.csv is broken")
-    time.sleep(1)
     with _alone([str(into)]):
         assert "seconds: demand.csv is broken" in hsp("steer", "--status", "--into", str(into), status=1).stderr
     ended = hsp("steer", "--status", "--into", str(into), status=1)
-    assert "hsp: no plan came for 1 second: hsp steer isn't running\n" == ended.stderr and "paris:2" in ended.stdout
+    assert re.fullmatch("hsp: no plan came for 2[0-9] seconds: hsp steer isn't running\n", ended.stderr)
+    assert "paris:2" in ended.stdout
 
 
 def test_no_plan_is_above_a_capacity_by_rounding(two: Path) -> None:

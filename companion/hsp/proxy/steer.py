@@ -34,8 +34,8 @@ from hsp.proxy.watched import Watched
 from hsp.scenarios.reserve import RESERVE, forgotten, reserved
 
 LOCK, NOTHING = "steer.lock", Fraction(0)
-# After so many times the seconds from plan to plan, a plan is late.
-LATE = 3
+# A plan is late after so many times the seconds from plan to plan, and so many seconds, which planning may take.
+LATE, LEAST_LATE = 3, 10
 # Why figures need a regular file.
 FIGURES = "hsp steer writes its figures there anew, time and again"
 # HAProxy is asked at least once in so many seconds whether a server is lost or has returned.
@@ -158,8 +158,10 @@ class _Loop:
         if self._is_short and not state.left_out:
             say("hsp: the shortage is over", err=True)
         self._is_short = bool(state.left_out)
-        give(line_of(state))
-        self.steering.keep()
+        try:
+            self.steering.keep()
+        finally:
+            give(line_of(state))
 
     def measure(self) -> bool:
         """Writes the figures of the plan in force."""
@@ -239,7 +241,7 @@ def _show(folders: Collection[str]) -> None:
     for own in (own for own in proxies.all if not own.now):
         say(f"{own.folder} doesn't answer; its last counts are among these")
     age = now.at - state.made
-    if state.every and age > LATE * state.every:
+    if state.every and age > max(LATE * state.every, LEAST_LATE):
         with contextlib.suppress(Missing, OSError), _alone(folders):
             state = replace(state, fault="hsp steer isn't running")
         ended(1, f"no plan came for {some(round(age), 'second')}: {state.fault or 'hsp steer is still planning'}")
