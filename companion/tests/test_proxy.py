@@ -540,7 +540,7 @@ def test_an_export_less_a_reserve_is_that_of_less_capacity(
     assert f"hsp: {two}/plan.txt {why}" in exported(hsp, two, tmp_path / "plain", *words).splitlines()
     assert not exported(hsp, two, tmp_path / "less", *words, "--reserve", "0.5")
     said = hsp("export", "haproxy", str(two), "--into", f"{tmp_path}/less", *words, "--reserve", "0.5").stdout
-    assert ", 0.5% of each capacity kept back; check yes" in said
+    assert ", 0.5% (not 50%) of each capacity kept back; check yes" in said
     for role, end in (("capacity", "csv"), ("settings", "toml")):
         if (two / f"{role}-less-reserve.{end}").exists():
             (two / f"{role}.{end}").write_bytes((two / f"{role}-less-reserve.{end}").read_bytes())
