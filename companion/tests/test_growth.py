@@ -106,7 +106,7 @@ def test_what_has_no_end_and_what_has_no_begin(hsp: Hsp, tmp_path: Path) -> None
     """Room for all that a table can count, and a region that lacks room whatever the other asks."""
     wide = one_site(tmp_path / "wide", [("x", "20.1/0", 1000)], [1_000_000_000])
     assert hsp("grow", str(wide)).stdout.splitlines()[1] == (
-        "all demand  fits until +99,900.00%, as far as a demand can count"
+        "all demand  fits until 1,000 times as much, as far as a demand can count"
     )
     short = one_site(tmp_path / "short", [("x", "20.1/0", 9), ("y", "20.1/0", 1)], [5])
     lines = hsp("grow", str(short)).stdout.splitlines()
