@@ -24,7 +24,7 @@ _hsp_options() {
         "steer") echo "--settings --demand --costs --capacity --values --into --every --period --metrics --once --status --reserve --help" ;;
         "survive") echo "--settings --demand --costs --capacity --values --reserve --near --buy --into --no-save --unit --all --csv --help" ;;
         "view") echo "--settings --demand --costs --capacity --values --before --reserve --more --unit --title --output --help" ;;
-        "whatif") echo "--settings --demand --costs --capacity --values --server --from --to --points --step --unit --csv --chart --help" ;;
+        "whatif") echo "--settings --demand --costs --capacity --values --server --lose --cost --times --from --to --points --step --unit --csv --chart --help" ;;
         "where") echo "--json --help" ;;
         "doctor -- locate") echo "--option --servers --settings --values" ;;
         "doctor -- site") echo "--index" ;;
@@ -44,9 +44,9 @@ _hsp_values() {
     case $1 in
         "sites --capacity") echo - ;;
         *" --settings" | *" --costs" | *" --capacity" | *" --values" | *" --output" | *" -o" | *" --regions" | *" --log" | *" --demand" | *" --certificate" | *" --socket" | *" --tls-ca" | *" --tls-cert" | *" --tls-key" | *" --plan" | *" --near" | *" --metrics" | *" --chart" | *" --prices") echo -f ;;
-        *" --reserve" | *" --unit" | *" --jobs" | *" --regex" | *" --client" | *" --handle" | *" --path" | *" --from" | *" --to" | *" --time" | *" --prefix" | *" --elsewhere" | *" --by" | *" --listen" | *" --trusted" | *" --watch" | *" --keep" | *" --workers" | *" --scheduler" | *" --patience" | *" --fronts" | *" --percent" | *" --name" | *" --every" | *" --period" | *" --title" | *" --server" | *" --points" | *" --step" | *" --servers" | *" --index" | *" --front") echo - ;;
+        *" --reserve" | *" --unit" | *" --jobs" | *" --regex" | *" --client" | *" --handle" | *" --path" | *" --from" | *" --to" | *" --time" | *" --prefix" | *" --elsewhere" | *" --by" | *" --listen" | *" --trusted" | *" --watch" | *" --keep" | *" --workers" | *" --scheduler" | *" --patience" | *" --fronts" | *" --percent" | *" --name" | *" --every" | *" --period" | *" --title" | *" --server" | *" --lose" | *" --cost" | *" --times" | *" --points" | *" --step" | *" --servers" | *" --index" | *" --front") echo - ;;
         *" --into" | *" --before") echo -d ;;
-        *" --format") echo "-W auto server proxy json csv" ;;
+        *" --format") echo "-W auto server proxy json csv httplog" ;;
         *" --option") echo "-W na local handle" ;;
         *" --kind") echo "-W load region shortage" ;;
     esac

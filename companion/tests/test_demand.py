@@ -221,6 +221,40 @@ def test_what_is_skipped_is_counted_with_its_first_line(tmp_path: Path) -> None:
     assert "a handle of another prefix" in only.stderr
 
 
+ESCAPED = {
+    r"GET /20.5/a\b HTTP/1.1": r"20.5/a\b",
+    "GET /20.5/a#22#5C#23x HTTP/1.1": '20.5/a"\\#x',
+    "GET /hdl:20.5/c%41 HTTP/1.1": "20.5/cA",
+    "GET /20.5/x%zz HTTP/1.1": "",
+    "GET /20.5/x%2 HTTP/1.1": "",
+    "<BADREQ>": "",
+}
+MARKED = '10.1.2.3 haproxy - [26/Nov/2026:10:00:00 +0000] "{}" 307 86 "eu:0" "paris:2"'
+HTTPLOG = 'Nov 26 10:00:01 lb haproxy[7]: 10.1.2.3:5123 [26/Nov/2026:10:00:00.655] in~ s/s1 1/0/3/9 200 27 - - {x} "{}"'
+
+
+@pytest.mark.parametrize("line, more", [(MARKED, []), (MARKED, [proxy_line(asked(1, 8)[0])]), (HTTPLOG, [])])
+def test_a_log_of_haproxy_is_read_by_its_own_escapes(tmp_path: Path, line: str, more: list[str]) -> None:
+    """Also among lines of others, which are looked at one by one; and what HAProxy answers 400 is no query."""
+    lines = [line.replace("{}", request) for request in ESCAPED]
+    (tmp_path / "log").write_text("\n".join([*lines, *more, ""]))
+    words = ["demand", tmp_path / "log", "--regions", regions_file(tmp_path), "--to", "2026-11-26T10:30"]
+    result = invoke(*words)
+    others = {key for it in more for key in wanted(asked(1, 8))}
+    found = {handle for region, handle in counts_of(result.stdout).keys() - others}
+    assert found == set(filter(None, ESCAPED.values()))
+    assert "2  a % without two digits" in result.stderr and "1  another request than GET" in result.stderr
+
+
+def test_nested_json_is_read(tmp_path: Path) -> None:
+    """Caddy's log has the client's address in an object of its own."""
+    line = {"ts": 1795687200.5, "request": {"remote_ip": "10.1.2.3", "uri": "/20.5/a?x"}, "status": 307}
+    (tmp_path / "log").write_text(json.dumps(line) + "\n")
+    names = ["--client", "request.remote_ip", "--path", "request.uri", "--time", "ts", "--from", "2026-11-26T09:00"]
+    result = invoke("demand", tmp_path / "log", "--regions", regions_file(tmp_path), *names)
+    assert {handle for _, handle in counts_of(result.stdout)} == {"20.5/a"}
+
+
 def random_networks(draw: random.Random) -> dict[str, str]:
     """Networks of both kinds, many of them inside others."""
     found = {}

@@ -3,6 +3,8 @@
 from __future__ import annotations
 
 import os
+import re
+import subprocess
 from collections.abc import Callable
 from pathlib import Path
 
@@ -11,6 +13,8 @@ import pytest
 from hsp.base.programs import Programs
 from hsp.doctor import examined, faults, table_faults
 from hsp.doctor.question import Diagnosis, Question, draft_of
+
+from conftest import Hsp
 
 Example = Callable[[str], Path]
 HEAD = b"region,handle,count\n"
@@ -79,3 +83,26 @@ def test_a_header_is_no_row(tmp_path: Path) -> None:
     assert list(table_faults.faulty_rows(question, "demand")) == []
     result = Diagnosis([], 1)
     assert faults._without_faulty(question, "demand", result) is question and result.findings == []
+
+
+def test_a_matrix_of_costs_is_turned_by_a_command(hsp: Hsp, example: Example) -> None:
+    folder = example("two-sites")
+    rows = [line.split(",") for line in (folder / "costs.csv").read_text().splitlines()[1:]]
+    sites = list(dict.fromkeys(site for _, site, _ in rows))
+    costs = {(region, site): cost for region, site, cost in rows}
+    regions = dict.fromkeys(region for region, _, _ in rows)
+    lines = [[region, *(costs.get((region, site), "") for site in sites)] for region in regions]
+    (folder / "costs.csv").write_text("".join(",".join(line) + "\n" for line in [["", *sites], *lines]))
+    said = hsp("doctor", str(folder), status=1).stdout
+    assert "a matrix, with a column for each site" in said and "[[site]]" not in said
+    command = re.search(r"awk .*turned.csv", said)
+    assert command
+    subprocess.run(command[0], shell=True, check=True, cwd=folder)
+    turned = (folder / "turned.csv").read_text().splitlines()
+    assert turned[0] == "region,site,cost" and sorted(turned[1:]) == sorted(map(",".join, rows))
+
+
+def test_no_sign_stands_for_all_servers(hsp: Hsp, example: Example) -> None:
+    folder = example("two-sites")
+    (folder / "capacity.csv").write_text("site,server_id,capacity\nparis,*,1500\nreston,1,9\n")
+    assert "a row for each server, as no sign stands for all" in hsp("doctor", str(folder), status=1).stdout

@@ -106,7 +106,7 @@ def test_what_has_no_end_and_what_has_no_begin(hsp: Hsp, tmp_path: Path) -> None
     """Room for all that a table can count, and a region that lacks room whatever the other asks."""
     wide = one_site(tmp_path / "wide", [("x", "20.1/0", 1000)], [1_000_000_000])
     assert hsp("grow", str(wide)).stdout.splitlines()[1] == (
-        "all demand  fits until +99,900.00%, as far as a demand can count"
+        "all demand  fits until 1,000 times as much, as far as a demand can count"
     )
     short = one_site(tmp_path / "short", [("x", "20.1/0", 9), ("y", "20.1/0", 1)], [5])
     lines = hsp("grow", str(short)).stdout.splitlines()
@@ -227,3 +227,7 @@ def test_growth_over_a_log_says_beforehand_what_it_does(
         how = r"36 rows are joined where they have the same servers, about \d+ seconds"
         assert re.fullmatch(rf"hsp: {how}; then some 18 plans are made, of {of}", joined)
         assert re.fullmatch(r"hsp: 18 plans, about \d+ seconds on \d+ processors", planned)
+
+
+def test_a_growth_above_1000_percent_is_a_factor() -> None:
+    assert [percent_of(own) for own in (110_000, 110_859)] == ["+1,000.00%", "11.0859 times as much"]

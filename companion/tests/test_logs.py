@@ -304,6 +304,9 @@ def test_where_of_a_table_is_what_its_row_says(hsp: Hsp, example: Example) -> No
     assert hsp("where", folder, "eu", "film", status=1).stdout == "film from eu  refused BadHandle NoSlash\n"
     why = f"  why  {folder}/costs.csv has no cost of mars at any site\n"
     assert hsp("where", folder, "mars", "20.1/a", status=1).stdout == f"20.1/a from mars  unknown\n{why}"
+    bare = hsp("where", folder, "eu", "20.500.1234/film-5").stdout
+    for before in ("hdl:", "doi:", "https://hdl.handle.net/", "http://a/api/handles/"):
+        assert hsp("where", folder, "eu", f"{before}20.500.1234%2Ffilm%2D5?noredirect").stdout == bare
     short = ("where", folder, "eu", "20.500.1234/film-5")
     capacity = Path(folder) / "capacity.csv"
     capacity.write_text(re.sub(r",[0-9]+\n", ",1\n", capacity.read_text()))

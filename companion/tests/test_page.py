@@ -11,6 +11,8 @@ import shutil
 import subprocess
 from collections import Counter
 from collections.abc import Callable
+from dataclasses import replace
+from fractions import Fraction
 from pathlib import Path
 from typing import Any
 from urllib.parse import unquote
@@ -193,6 +195,23 @@ def test_a_long_purchase_names_its_largest_parts(hsp: Hsp, browser: Any, twelve:
     assert page.run("return document.querySelectorAll('.bar .bought').length") == len(bought)
 
 
+def test_a_purchase_counts_in_what_is_above_capacity(hsp: Hsp, example: Example) -> None:
+    """The page of a shortage compares what the page of a folder with the purchase does, and so marks its servers."""
+    folder = example("two-sites")
+    demand = ["--demand", str(folder / "premiere.csv")]
+    hsp("view", str(folder), *demand, status=3)
+    short, table = (folder / "plan.html").read_text(encoding="utf-8"), folder / "capacity.csv"
+    rows = dict(line.rsplit(",", 1) for line in table.read_text().splitlines())
+    for it in json.loads(hsp("plan", str(folder), *demand, "--json", status=3).stdout)["least_purchase"]:
+        key = f"{it['site']},{it['server_id']}"
+        rows[key] = str(int(rows[key]) + it["more"])
+    table.write_text("".join(f"{key},{room}\n" for key, room in rows.items()))
+    hsp("view", str(folder), *demand)
+    bought = (folder / "plan.html").read_text(encoding="utf-8")
+    above = re.search(r"[0-9]+ servers would get [0-9,]+ queries above capacity", bought)
+    assert above and above[0] in short and short.count("<small>left alone") == bought.count("<small>left alone")
+
+
 def test_two_plans_of_one_title_have_distinct_names(hsp: Hsp, browser: Any, example: Example) -> None:
     folder = example("two-sites")
     (folder / "hsp.toml").write_text('title = "Films"\n')
@@ -343,3 +362,22 @@ def test_all_pages_have_one_head() -> None:
         "day.html",
         "page.html",
     ]
+
+
+def test_a_log_in_another_order_has_not_changed(example: Example) -> None:
+    """Nor has one whose rows are split; another count, region or handle is a change."""
+    folder, programs = example("two-sites"), Programs()
+    found = []
+    split = "us,20.1/b,2\nus,20.1/b,3\neu,20.1/a,2000000\n"
+    for rows in ("eu,20.1/a,2000000\nus,20.1/b,5\n", split, "eu,20.1/a,2000005\n"):
+        (folder / "demand.csv").write_text(f"region,handle,count\n{rows}")
+        kept = folder / f"{len(found)}.csv"
+        kept.write_bytes((folder / "demand.csv").read_bytes())
+        found.append(read_service(str(folder), programs, {"demand": str(kept)}))
+    assert changes_between(found[0], found[1]) == []
+    assert changes_between(found[0], found[2]) == ["demand: 2,000,005 → 2,000,005 queries"]
+
+
+def test_a_reserve_below_1_percent_is_said_twice(example: Example) -> None:
+    service = replace(read_service(str(example("two-sites")), Programs(), {}), reserve=Fraction(15, 10_000))
+    assert service.kept_back == "0.15% (not 15%) of each capacity kept back"

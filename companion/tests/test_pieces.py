@@ -471,3 +471,15 @@ def test_standard_input_is_a_log_beside_others(tmp_path: Path) -> None:
     table = list(csv.reader(tables[0].decode().splitlines()))[1:]
     own = {(region, handle): int(count) for region, handle, count in table}
     assert own == {**counts, ("eu", "20.1/a"): 200_000}
+
+
+@pytest.mark.parametrize("piece", [(0, None), (0, 90_000), (150_000, None), (200_000, 250_000)])
+def test_a_log_that_is_cut_while_it_is_read_is_refused(tmp_path: Path, piece: tuple[int, int | None]) -> None:
+    """What was counted of it may be a part only."""
+    path = tmp_path / "log"
+    path.write_bytes(b"123456789\n" * 30_000)
+    found = logs._blocks(logs.Piece(str(path), *piece), [1], logs.unwatched, 4096)
+    next(found, b"")
+    os.truncate(path, 2000)
+    with pytest.raises(Missing, match="became shorter while it was read"):
+        list(found)

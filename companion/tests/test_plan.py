@@ -22,7 +22,7 @@ from click.testing import CliRunner
 from hsp.base.numbers import part
 from hsp.base.programs import BOUNDLESS, Programs, Refused, program
 from hsp.cli import main
-from hsp.plans.plans import capacity_file, cheapest, least_purchase, planned, shortage, with_gains, with_purchase
+from hsp.plans.plans import capacity_file, cheapest, least_purchase, planned, purchased, shortage, with_gains
 from hsp.plans.service import Service, read_service
 
 from conftest import Hsp
@@ -82,7 +82,7 @@ def test_the_least_purchase_suffices_and_one_less_does_not(example: Example) -> 
     assert with_capacities(service, programs, room).is_plan
     for key in room:
         assert not with_capacities(service, programs, {**room, key: room[key] - 1}).is_plan
-    after = with_purchase(service, programs, bought)
+    _, after = purchased(service, programs)
     assert after and after.certificate.cost == with_capacities(service, programs, room).cost
 
 
@@ -112,6 +112,19 @@ def test_a_price_may_be_above_what_room_saves(example: Example) -> None:
     service, programs = read(example("base"))
     found = with_gains(planned(service, programs), programs)
     assert sorted((found.prices[it.server.number], it.one) for it in found.gains) == [(2, 0), (3, 1)]
+
+
+def test_room_at_a_machine_is_what_a_plan_saves(example: Example) -> None:
+    """Its price only bounds that: by the settings with a limit that is greater by one the cost is planned anew."""
+    folder, programs = example("two-sites"), Programs()
+    (folder / "settings.toml").write_text(text := (folder / "hosts.toml").read_text())
+    service = read_service(str(folder), programs, {"demand": str(folder / "premiere.csv")})
+    _, after = purchased(service, programs)
+    assert after
+    host = next(it for it in with_gains(planned(after, programs), programs).hosts if it.price)
+    more = programs.put(text.replace(f"limit = {host.limit}\n", f"limit = {host.limit + 1}\n"), ".toml")
+    wider, _ = programs.plan(after.inputs.but(settings=more))
+    assert 0 < after.certificate.cost - wider.cost == host.one < host.price
 
 
 def test_cheapest_sites_are_the_sum_of_the_cheapest_costs(twelve: Path) -> None:

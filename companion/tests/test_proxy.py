@@ -363,6 +363,9 @@ def test_a_proxy_fetches_answers_and_goes_elsewhere_where_a_server_is_down(
             name, asked, *headers = front.ask(path, CLIENTS["eu"]).text.decode().split("\n")
             assert (name, asked) == ("paris:2", path)
             assert f"x-forwarded-for={CLIENTS['eu']}" in headers
+            own = http.client.HTTPConnection("127.0.0.1", front.port)
+            own.request("GET", path, headers={"X-Forwarded-For": CLIENTS["eu"], "Upgrade": "h2c", "Connection": "Upgrade"})
+            assert b"upgrade=" not in own.getresponse().read().lower()
             assert f"host={urls['paris:2'].removeprefix('http://')}" in headers
             servers["paris:2"].shutdown()
             servers["paris:2"].server_close()
@@ -537,7 +540,7 @@ def test_an_export_less_a_reserve_is_that_of_less_capacity(
     assert f"hsp: {two}/plan.txt {why}" in exported(hsp, two, tmp_path / "plain", *words).splitlines()
     assert not exported(hsp, two, tmp_path / "less", *words, "--reserve", "0.5")
     said = hsp("export", "haproxy", str(two), "--into", f"{tmp_path}/less", *words, "--reserve", "0.5").stdout
-    assert ", 0.5% of each capacity kept back; check yes" in said
+    assert ", 0.5% (not 50%) of each capacity kept back; check yes" in said
     for role, end in (("capacity", "csv"), ("settings", "toml")):
         if (two / f"{role}-less-reserve.{end}").exists():
             (two / f"{role}.{end}").write_bytes((two / f"{role}-less-reserve.{end}").read_bytes())
@@ -574,6 +577,25 @@ def test_a_long_path_of_a_socket_is_refused(hsp: Hsp, two: Path, tmp_path: Path)
     said = exported(hsp, two, tmp_path / "proxy", "--socket", f"/tmp/{'long' * 30}", status=1)
     assert "a socket has a path of at most 95 octets; give --socket" in said
     assert not (tmp_path / "proxy").exists()
+
+
+@pytest.mark.parametrize(
+    "words, said",
+    [
+        (["--listen", "127.0.0.1:8405"], "'127.0.0.1:8405' and '127.0.0.1:8405' overlap"),
+        (["--listen", "*:8405"], "'*:8405' and '127.0.0.1:8405' overlap"),
+        (["--listen", "[::1]:80", "--listen", ":80", "--listen", "192.0.2.1:080"], "':80' and '192.0.2.1:080' overlap"),
+        (["--listen", "127.0.0.1:8001"], "paris:2: http://127.0.0.1:8001 is 127.0.0.1:8001, where HAProxy itself"),
+        (["--listen", "*:8001"], "paris:2: http://127.0.0.1:8001 is *:8001, where HAProxy itself"),
+        (["--listen", "192.0.2.9:8001", "--listen", "[::1]:8405"], ""),
+    ],
+)
+def test_nothing_stands_where_haproxy_listens(
+    hsp: Hsp, two: Path, tmp_path: Path, words: list[str], said: str
+) -> None:
+    urls = {name: f"http://127.0.0.1:{7999 + at}" for at, name in enumerate(NAMES, 1)}
+    put(two, hsp=urls_text(urls))
+    assert said in exported(hsp, two, tmp_path / "proxy", *words, status=1 if said else 0)
 
 
 def certified(folder: Path, name: str) -> Path:

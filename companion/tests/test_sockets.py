@@ -156,3 +156,10 @@ def test_what_only_looks_as_an_address_is_none(hsp: Hsp, example: Example, tmp_p
     ended = hsp(*words, "--listen", f"{host}:80", status=1)
     assert ended.stderr.startswith(f"hsp: '{host}:80' is no address to listen at")
     assert url_of(f"http://{host}:80") is None and url_of("http://a1:80") and url_of("http://[::1]")
+
+
+def test_a_long_line_of_a_table_is_read_in_its_length() -> None:
+    """Each word of it may be the beginning of a count."""
+    before = time.monotonic()
+    assert runtime._counts("key=a " * 300_000 + "\n0x1: key=b use=0 http_req_cnt=7 gpc0=1\n") == {"b": 7}
+    assert time.monotonic() - before < 5

@@ -22,21 +22,24 @@ from pathlib import Path
 from typing import Any
 from urllib.parse import quote
 
+import click
 import pytest
 
 from hsp.base.grammar import MOST_SITES
-from hsp.base.programs import Programs
+from hsp.base.programs import Programs, Refused
 from hsp.base.unfit import Unfit
 from hsp.intake.addresses import name_of
 from hsp.plans.plans import servers_at
 from hsp.plans.service import Service, read_service
+from hsp.proxy import proxies
 from hsp.proxy.counts import Counts, counted
 from hsp.proxy.kinds import kinds_of
+from hsp.proxy.proxies import Look
 from hsp.proxy.rest import Rest, rest_of, room_of
 from hsp.proxy.runtime import AT_ONCE, Reading, pieces
 from hsp.proxy.standing import Standing, State, kept, kept_in
-from hsp.proxy.steer import _Loop, read_anew
-from hsp.proxy.steering import Steering
+from hsp.proxy.steer import Seconds, _alone, _Loop, _text, read_anew
+from hsp.proxy.steering import Steering, state_of
 from hsp.proxy.watched import Watched
 
 from lib import examples
@@ -491,10 +494,55 @@ def test_of_several_proxies_only_one_has_to_fit_and_answer(two: Path, into: Path
     config = beside(into) / "haproxy.cfg"
     config.write_text(config.read_text().replace("server paris:1 ", "server lyon:1 "))
     assert list(own.step(own.read()).proxies.values()) == [True, False]
-    assert "written from other sites or servers" in str(own.faults()[str(beside(into))])
+    assert "it was exported again; reload HAProxy" in str(own.faults()[str(beside(into))])
     (into / "plan.map").write_text("mine\n")
     with pytest.raises(Unfit):
         own.step(own.read())
+
+
+def test_a_full_disk_is_said_as_it_is(
+    two: Path, into: Path, front: Front, monkeypatch: pytest.MonkeyPatch, capsys: pytest.CaptureFixture[str]
+) -> None:
+    """HAProxy has the new plan, whose files come with a later one."""
+    held = Steering([str(into)], read_service(str(two), Programs(), {}), 1e5)
+    own, before = _Loop(held, str(two), {}, 10, None, Watched([])), lines_of_file(into)
+
+    def full(contents: dict[str, bytes]) -> None:
+        raise OSError(28, "No space left on device", "plan.map")
+
+    monkeypatch.setattr(proxies, "replace_all", full)
+    own._try("the last map stays", own._step_if_due)
+    why = "HAProxy has the new plan, and begins by an older one if it restarts"
+    assert capsys.readouterr().err == f"hsp: plan.map: No space left on device; {why}\n"
+    assert lines_of_file(into) == before and not kept_in(str(into))
+    monkeypatch.undo()
+    held.keep()
+    assert set(lines_of_file(into)) == set(lines_in(front)) and kept_in(str(into))
+
+
+def test_a_status_without_a_plan_of_late_names_the_cause(hsp: Hsp, two: Path, into: Path, front: Front) -> None:
+    own = Steering([str(into)], read_service(str(two), Programs(), {}), 1e5, 0.2)
+    own.state = replace(own.step(own.read()), made=time.time() - 20)
+    own.keep("demand.csv is broken")
+    with _alone([str(into)]):
+        assert "seconds: demand.csv is broken" in hsp("steer", "--status", "--into", str(into), status=1).stderr
+    ended = hsp("steer", "--status", "--into", str(into), status=1)
+    assert re.fullmatch("hsp: no plan came for 2[0-9] seconds: hsp steer isn't running\n", ended.stderr)
+    assert "paris:2" in ended.stdout
+
+
+def test_no_plan_is_above_a_capacity_by_rounding(two: Path) -> None:
+    service = read_service(str(two), Programs(), {})
+    rooms = {name_of(it): service.capacity(it) for it in service.servers}
+    rest, counts = Rest([], 0, 0, 0, dict.fromkeys(rooms, 3)), Counts(0, 1.0, "", {}, {}, 0.0)
+    for less, planned in ((2, 0), (4, -1), (-5, 5)):
+        taken = replace(counts, taken={name: room - less for name, room in rooms.items()})
+        servers = state_of(service, rest, taken, Look(0.0, (), frozenset()), {}).servers
+        assert {name: own.planned for name, own in servers.items()} == {it: rooms[it] + planned for it in rooms}
+
+
+def test_an_hsplan_that_is_killed_is_no_refusal() -> None:
+    assert _text(Refused(-9, "")) == "hsplan was ended (-9)"
 
 
 def test_a_server_dies_and_returns(two: Path, into: Path, front: Front, mirrors: Mirrors) -> None:
@@ -767,3 +815,11 @@ def test_systemd_takes_the_units(tmp_path: Path) -> None:
     for unit in units:
         words = ["systemd-analyze", "security", "--offline=true", "--threshold=20", unit]
         assert subprocess.run(words, capture_output=True).returncode == 0, unit
+
+
+def test_a_period_has_a_unit() -> None:
+    kind = Seconds(1, 86_400)
+    assert [kind.convert(own, None, None) for own in ("90m", "1h", "0.5d", "7s", "60")] == [5400, 3600, 43_200, 7, 60]
+    for own in ("2d", "0m", "h", "1w", "1.m"):
+        with pytest.raises(click.BadParameter):
+            kind.convert(own, None, None)

@@ -191,6 +191,22 @@ def test_a_link_is_not_written_through(hsp: Hsp, tmp_path: Path, name: str) -> N
     assert [it.name for it in (tmp_path / "other").iterdir()] == ["plan.txt"]
 
 
+def test_a_link_that_is_planted_after_the_check_is_not_followed(
+    hsp: Hsp, tmp_path: Path, monkeypatch: pytest.MonkeyPatch
+) -> None:
+    folder, victim = three_sites(tmp_path / "three", 300), put(tmp_path / "victim", {"plan.txt": b"mine"})
+    checked = Fallbacks.refuse
+
+    def planted(own: Fallbacks, losses: list[str]) -> None:
+        checked(own, losses)
+        (folder / "fallback").mkdir()
+        (folder / "fallback/site-a").symlink_to(victim)
+
+    monkeypatch.setattr(Fallbacks, "refuse", planted)
+    assert "no folder of its own" in hsp("survive", str(folder), status=1).stderr
+    assert [(it.name, it.read_text()) for it in victim.iterdir()] == [("plan.txt", "mine")]
+
+
 def three_sites(folder: Path, room: int) -> Path:
     """Three sites of one server each, and 300 queries."""
     sites = [(name, examples.site_octets(name, 1, [f"192.0.2.{at}"])) for at, name in enumerate("abc")]

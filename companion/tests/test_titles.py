@@ -14,7 +14,7 @@ from hsp.base.unfit import Unfit
 from hsp.plans.titles import REMEDY, uncounted
 from hsp.proxy.steer import read_anew
 
-from conftest import Hsp
+from conftest import TOP, Hsp
 from scenarios import Example
 from services import random_service
 from test_sites import invoke
@@ -133,3 +133,13 @@ def test_what_cannot_be_taken_out_is_refused_in_one_line(tmp_path: Path, text: s
     with pytest.raises(Unfit, match="hsp.toml: (its table .demand. can't be taken out; take it out by hand|not TOML)"):
         uncounted(str(tmp_path))
     assert (tmp_path / "hsp.toml").read_text() == text
+
+
+@pytest.mark.parametrize("text", ["x = " + "9" * 5000, "a = " + "[" * 1000 + "]" * 1000])
+def test_what_no_reader_of_toml_takes_is_one_line(hsp: Hsp, tmp_path: Path, text: str) -> None:
+    """A number may be too long, and lists nested too deep."""
+    own = shutil.copytree(TOP / "examples/two-sites", tmp_path / "own")
+    (own / "hsp.toml").write_text(text)
+    for words in (["plan"], ["doctor"], ["view"]):
+        ended = hsp(*words, str(own), status=1)
+        assert "hsp.toml" in ended.stdout + ended.stderr and "Traceback" not in ended.stderr

@@ -4,6 +4,8 @@ from __future__ import annotations
 
 import csv
 import io
+import re
+import shutil
 from collections.abc import Callable
 from pathlib import Path
 from xml.etree import ElementTree
@@ -156,3 +158,40 @@ def test_a_curve_has_its_numbers_where_they_belong(hsp: Hsp, example: Example) -
     each = (up[-1][0] - up[0][0]) / (up[-1][1] - up[0][1])
     for room, (_, y) in zip(rooms, dots):
         assert y + 4 == pytest.approx(up[0][0] + each * (costs[room] - up[0][1]), abs=0.3)
+
+
+def test_changes_are_one_plan_together(hsp: Hsp, example: Example) -> None:
+    """Two servers, a cost, a region and a handle by a factor: the plan of the changed files."""
+    folder = example("two-sites")
+    changed = folder.parent / "changed"
+    words = ["--server", "paris:1=1700", "--server", "reston:3=1200", "--cost", "us:paris=60"]
+    words += ["--times", "eu=0.5", "--times", "20.500.1234/film-5=1.5"]
+    found = cases(hsp, str(folder), *words)
+    shutil.copytree(folder, changed)
+    for name, key, number in (("capacity", "paris,1", 1700), ("capacity", "reston,3", 1200), ("costs", "us,paris", 60)):
+        text = (changed / f"{name}.csv").read_text()
+        (changed / f"{name}.csv").write_text(re.sub(f"(?m)^{key},.*$", f"{key},{number}", text))
+    rows = [line.split(",") for line in (changed / "demand.csv").read_text().splitlines()]
+    for row in rows[1:]:
+        row[2] = str(-(-int(row[2]) // 2)) if row[0] == "eu" else row[2]
+        row[2] = str(-(-int(row[2]) * 3 // 2)) if row[1] == "20.500.1234/film-5" else row[2]
+    (changed / "demand.csv").write_text("".join(",".join(row) + "\n" for row in rows))
+    wanted = read_service(str(changed), Programs(), {}).certificate
+    assert [(it["case"], it["cost"]) for it in found] == [("together", str(wanted.cost))] and wanted.is_plan
+    lost = cases(hsp, str(folder), "--lose", "paris", "--server", "reston:1=99")[0]
+    assert int(lost["lack"]) > int(next(it for it in cases(hsp, str(folder)) if it["what"] == "paris")["lack"])
+
+
+@pytest.mark.parametrize(
+    ("words", "status", "said"),
+    [
+        (["--server", "paris:1", "--server", "reston:1"], 2, "give each server as SITE:ID=N"),
+        (["--server", "paris:1=9", "--from", "3"], 2, "no other sizes"),
+        (["--lose", "pariss"], 5, "no site 'pariss': did you mean paris?"),
+        (["--times", "uss=2"], 5, "no region or handle 'uss': did you mean us?"),
+        (["--cost", "us:paris=x"], 5, "'us:paris=x' is no change"),
+        (["--server", "paris:1=1.5"], 5, "and a whole number"),
+    ],
+)
+def test_odd_changes_are_refused(hsp: Hsp, example: Example, words: list[str], status: int, said: str) -> None:
+    assert said in hsp("whatif", str(example("two-sites")), *words, status=status).stderr

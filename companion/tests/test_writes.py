@@ -279,3 +279,21 @@ def test_a_desk_without_a_folder_says_so(monkeypatch: pytest.MonkeyPatch) -> Non
     with pytest.raises(OSError, match="set TMPDIR to another folder") as fault:
         Programs()
     assert fault.value.filename == "TMPDIR"
+
+
+def test_no_link_below_a_folder_is_followed(tmp_path: Path) -> None:
+    """A link that was planted after a check is refused as a folder, and replaced as a file."""
+    own, victim = tmp_path / "own", tmp_path / "victim"
+    for folder in (own / "a", victim):
+        folder.mkdir(parents=True)
+    (victim / "plan.txt").write_text("mine")
+    (own / "a/plan.txt").symlink_to(victim / "plan.txt")
+    files.replace_all({f"{own}/a/plan.txt": b"new", f"{own}/c/d/plan.txt": b"new"}, str(own))
+    assert not (own / "a/plan.txt").is_symlink() and (own / "c/d/plan.txt").read_text() == "new"
+    (own / "b").symlink_to(victim)
+    for below in ("b", "b/deeper"):
+        with pytest.raises(Unfit, match="no folder of its own"):
+            files.replace_all({f"{own}/{below}/plan.txt": b"new", f"{own}/a/plan.txt": b"newer"}, str(own))
+    files.forget(str(own), f"{own}/b", ["plan.txt"])
+    assert [it.read_text() for it in (victim / "plan.txt", own / "a/plan.txt")] == ["mine", "new"]
+    assert [it.name for it in victim.iterdir()] == ["plan.txt"]

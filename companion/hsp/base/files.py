@@ -21,6 +21,8 @@ from hsp.base.programs import Missing
 from hsp.base.signals import uncut
 from hsp.base.unfit import Unfit
 
+# How a folder is opened that is no link.
+FOLDER = os.O_RDONLY | os.O_DIRECTORY | os.O_NOFOLLOW | os.O_CLOEXEC
 # So many seconds a run waits for another one that writes in the same folder.
 PATIENCE = 30
 # The folders, by device and number, that this process has locked.
@@ -37,10 +39,44 @@ def _named(path: str, part: str = "") -> Iterator[None]:
         raise OSError(fault.errno, fault.strerror, own) from None
 
 
-def created(path: str, rights: int = 0o666) -> IO[bytes]:
-    """A file that wasn't there before, and isn't behind a link."""
+def created(path: str, rights: int = 0o666, at: int | None = None) -> IO[bytes]:
+    """A file that wasn't there before, and isn't behind a link; of a folder by its descriptor."""
     flags = os.O_WRONLY | os.O_CREAT | os.O_EXCL | os.O_NOFOLLOW | os.O_CLOEXEC
-    return open(os.open(path, flags, rights), "wb")
+    return open(os.open(path, flags, rights, dir_fd=at), "wb")
+
+
+def opened(root: str, folder: str, is_made: bool = True) -> int:
+    """A folder below another one, by its descriptor; it is made where it isn't there. No link below `root` is
+    followed."""
+    at = os.open(root, os.O_RDONLY | os.O_DIRECTORY | os.O_CLOEXEC)
+    for name in os.path.relpath(folder, root).split(os.sep):
+        above = at
+        try:
+            with contextlib.suppress(FileExistsError):
+                if is_made:
+                    os.mkdir(name, dir_fd=above)
+            at = os.open(name, FOLDER, dir_fd=above)
+        except OSError as fault:
+            if fault.errno in (errno.ENOTDIR, errno.ELOOP):
+                raise Unfit(f"{folder}: no folder of its own; files are written there") from None
+            raise OSError(fault.errno, fault.strerror, folder) from None
+        finally:
+            os.close(above)
+    return at
+
+
+def forget(root: str, folder: str, names: Iterable[str]) -> None:
+    """Takes away files of a folder below another one, as `opened` finds it."""
+    try:
+        at = opened(root, folder, False)
+    except (FileNotFoundError, Unfit):
+        return
+    try:
+        for name in names:
+            with contextlib.suppress(FileNotFoundError):
+                os.unlink(name, dir_fd=at)
+    finally:
+        os.close(at)
 
 
 def _stream(path: str) -> str | int | None:
@@ -141,11 +177,12 @@ def locked(folders: Iterable[str]) -> Iterator[None]:
 
 
 class Output:
-    """A file that is written piece by piece under a name of its own, or a stream that is written as it goes."""
+    """A file that is written piece by piece under a name of its own, or a stream that is written as it goes. In a
+    folder by its descriptor a file takes the place of a link, which else stays one."""
 
-    def __init__(self, path: str) -> None:
-        self.path, self._stream = path, _stream(path)
-        self.target = os.path.realpath(path)
+    def __init__(self, path: str, at: int | None = None) -> None:
+        self.path, self._at, self._stream = path, at, _stream(path) if at is None else None
+        self.target = os.path.realpath(path) if at is None else os.path.basename(path)
         self._part = os.path.join(os.path.dirname(self.target), f".hsp-{secrets.token_hex(8)}")
         self._file: IO[bytes] | None = None
 
@@ -153,12 +190,19 @@ class Output:
     def is_file(self) -> bool:
         return self._stream is None
 
+    def _mode(self) -> int:
+        """The kind and the rights of what stands in its place; 0 where nothing does."""
+        with contextlib.suppress(OSError):
+            return os.stat(self.target, dir_fd=self._at, follow_symlinks=self._at is None).st_mode
+        return 0
+
     def begin(self) -> None:
+        mode = self._mode()
         with _named(self.path, self._part):
-            if os.path.isdir(self.target):  # it would be seen only when others have their names already
+            if stat.S_ISDIR(mode):  # it would be seen only when others have their names already
                 raise IsADirectoryError(errno.EISDIR, os.strerror(errno.EISDIR))
             if self._stream is None:
-                self._file = created(self._part, 0o600 if os.path.exists(self.target) else 0o666)
+                self._file = created(self._part, 0o600 if stat.S_ISREG(mode) else 0o666, self._at)
             else:
                 self._file = open(os.dup(self._stream) if isinstance(self._stream, int) else self._stream, "wb")
 
@@ -172,16 +216,16 @@ class Output:
         assert self._file
         with _named(self.path):
             self._file.flush()
-            with contextlib.suppress(FileNotFoundError):
-                if self.is_file:
-                    os.fchmod(self._file.fileno(), stat.S_IMODE(os.stat(self.target).st_mode))
+            mode = self._mode()
+            if self.is_file and stat.S_ISREG(mode):
+                os.fchmod(self._file.fileno(), stat.S_IMODE(mode))
             self._file.close()
 
     def publish(self) -> None:
         """Gives a file its name. A link stays a link."""
         if self.is_file:
             with _named(self.path, self._part):
-                os.replace(self._part, self.target)
+                os.replace(self._part, self.target, src_dir_fd=self._at, dst_dir_fd=self._at)
 
     def discard(self) -> None:
         """Takes away what has no name yet."""
@@ -189,7 +233,7 @@ class Output:
             with contextlib.suppress(OSError):
                 self._file.close()
         with contextlib.suppress(OSError):
-            os.unlink(self._part)
+            os.unlink(self._part, dir_fd=self._at)
 
 
 class Outputs:
@@ -197,22 +241,31 @@ class Outputs:
 
     def __init__(self) -> None:
         self._all: list[Output] = []
+        self._folders: dict[str, int] = {}
 
-    def open(self, path: str) -> Output:
-        self._all.append(Output(path))
+    def open(self, path: str, root: str = "") -> Output:
+        """A file. Where its folder is one below `root`, no link leads to another one."""
+        folder = os.path.dirname(path)
+        is_below = bool(root) and not os.path.relpath(folder or ".", root).startswith(".")
+        if is_below and folder not in self._folders:
+            self._folders[folder] = opened(root, folder)
+        self._all.append(Output(path, self._folders[folder] if is_below else None))
         self._all[-1].begin()
         return self._all[-1]
 
     def publish(self) -> None:
         for written in self._all:
             written.finish()
-        with locked(os.path.dirname(written.target) for written in self._all if written.is_file), uncut():
+        folders = (os.path.dirname(os.path.realpath(written.path)) for written in self._all if written.is_file)
+        with locked(folders), uncut():
             for written in self._all:
                 written.publish()
 
     def discard(self) -> None:
         for written in self._all:
             written.discard()
+        while self._folders:
+            os.close(self._folders.popitem()[1])
 
 
 @contextlib.contextmanager
@@ -233,11 +286,11 @@ def growing(path: str) -> Iterator[Output]:
         yield outputs.open(path)
 
 
-def replace_all(contents: Mapping[str, bytes]) -> None:
-    """Writes the whole files, or leaves all of them as they are."""
+def replace_all(contents: Mapping[str, bytes], root: str = "") -> None:
+    """Writes the whole files, or leaves all of them as they are. Below `root` no link leads to another folder."""
     with together() as outputs:
         for path, text in contents.items():
-            outputs.open(path).write(text)
+            outputs.open(path, root).write(text)
 
 
 def create(folder: str, texts: Mapping[str, str]) -> list[str]:

@@ -29,12 +29,11 @@ from hsp.plans.plans import (
     Reference,
     by_shares,
     cheapest,
-    least_purchase,
     planned,
+    purchased,
     shortage,
     to_buy,
     with_gains,
-    with_purchase,
 )
 from hsp.plans.service import Server, Service
 from hsp.plans.terminal import head, plan_lines, shortage_lines
@@ -122,11 +121,10 @@ def purchase_of(service: Service, bought: Mapping[Server, int]) -> list[dict[str
 def show_shortage(service: Service, programs: Programs, as_json: bool) -> NoReturn:
     """Shows who lacks what, and what has to be bought. Ends with status 3."""
     short = shortage(service, programs)
-    bought = None if short.stranded else least_purchase(service, programs)
-    after = with_purchase(service, programs, bought) if bought else None
+    bought, after = purchased(service, programs)
     programs.insist_held()
     if as_json:
-        purchase = purchase_of(service, bought) if bought and after else []
+        purchase = purchase_of(service, bought) if bought else []
         report = {"title": service.titles.title, "served": False, "queries": service.asked, "lack": short.lack}
         give(json.dumps({**report, "least_purchase": purchase or None}, indent=2, ensure_ascii=False) + "\n")
     else:
@@ -148,15 +146,14 @@ def keep(service: Service, path: str, near: Near | None) -> list[str]:
             refuse_clashes(near.beside, contents)
             lines = [*filter(None, [near.shown_by(path)]), *lines]
     refuse_clashes(service.own_inputs.files(), contents)
-    for name in contents:
-        os.makedirs(os.path.dirname(name) or ".", exist_ok=True)
+    root = os.path.dirname(path) or "."
     contents = {path: service.certificate.text.encode(), **contents}
     if path != path_in(service.folder, PLAN):
-        replace_all(contents)
+        replace_all(contents, root)
         return lines
     read = [*service.own_inputs.files(), *([near.held.path, *near.beside] if near and near.held else [])]
     with locked([service.folder]):
-        replace_all(contents)
+        replace_all(contents, root)
         old = forget(service.folder, contents, read)
     named = f"old   {listed(old)}: of plans of hours, or of an earlier plan; not of this one"
     return [*lines, named] if old else lines
@@ -203,8 +200,7 @@ def plan(folder: str, **given: Any) -> None:
     found = planned(service, programs)
     reference = cheapest(service, programs)
     if not said.as_csv:
-        priced = [server for server in service.servers if found.prices[server.number] > 0 and found.is_full(server)]
-        found = with_gains(found, programs, progress(len(priced)))
+        found = with_gains(found, programs, progress)
     later = ahead(service, path) if said.more and not said.as_csv else None
     programs.insist(service.inputs, service.plan_file)
     programs.insist_held()

@@ -20,7 +20,7 @@ from hsp.base.text import say
 from hsp.commands.shared import OUTPUT, ahead, progress, write
 from hsp.doctor.service_folder import read_in, sound, with_files
 from hsp.plans.page import Fact, View, changes_between, render
-from hsp.plans.plans import Reference, cheapest, least_purchase, planned, shortage, with_gains, with_purchase
+from hsp.plans.plans import Reference, cheapest, planned, purchased, shortage, with_gains
 from hsp.plans.service import Service
 from hsp.plans.sources import sources_of
 from hsp.scenarios.ahead import moved_fact, moved_since
@@ -69,12 +69,10 @@ def view_of(service: Service, programs: Programs, before: str | None) -> View:
     after: Service | None = service
     if not service.certificate.is_plan:
         shown.short = shortage(service, programs)
-        bought = None if shown.short.stranded else least_purchase(service, programs)
-        after = with_purchase(service, programs, bought) if bought else None
-        shown.bought = bought if bought and after else {}
+        bought, after = purchased(service, programs)
+        shown.bought = bought or {}
     if after:
-        found = planned(after, programs)
-        shown.plan = with_gains(found, programs, progress(sum(price > 0 for price in found.prices)))
+        shown.plan = with_gains(planned(after, programs), programs, progress)
         programs.insist(after.inputs, after.plan_file)
         programs.insist_held()
     held = earlier(before, programs, service) if before else None

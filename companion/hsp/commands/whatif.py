@@ -2,9 +2,13 @@
 
 from __future__ import annotations
 
+from types import SimpleNamespace
+from typing import Any
+
 import click
 
 from hsp.base.files import refuse_clashes
+from hsp.base.options import given as options_given
 from hsp.base.options import idle, needs
 from hsp.base.programs import Programs
 from hsp.base.text import give, say
@@ -15,10 +19,17 @@ from hsp.plans.whatif import Changes, full_servers, server_named, sizes, standar
 from hsp.plans.whatif import csv_of as cases_csv
 from hsp.plans.whatif import lines as case_lines
 
+# The options of changes, beside those for other files; and those that are only of the sizes of one server.
+OWN = ("server", "lose", "cost", "times", "low", "high", "points", "unit")
+IDLE = {"--from", "--to", "--points", "--step"}
+
 
 @click.command()
 @with_files
-@click.option("--server", metavar="SITE:ID", help="the cost by the size of this server")
+@click.option("--server", multiple=True, metavar="SITE:ID[=N]", help="the cost by the size of this server; or its size")
+@click.option("--lose", multiple=True, metavar="SITE", help="without this site")
+@click.option("--cost", multiple=True, metavar="REGION:SITE=N", help="another cost, or a first one")
+@click.option("--times", multiple=True, metavar="NAME=F", help="the demand of a region, or of a handle, times F")
 @click.option("--from", "low", type=click.IntRange(0), metavar="N", help="the least size; half of the present one")
 @click.option(
     "--to", "high", type=click.IntRange(0), metavar="N", help="the greatest size; half more than the present one"
@@ -34,30 +45,27 @@ from hsp.plans.whatif import lines as case_lines
 @needs("--to", "--server")
 @needs("--points", "--server")
 @idle("--step", "--server", why="it is of more room at each full server")
-def whatif(
-    folder: str,
-    server: str | None,
-    low: int | None,
-    high: int | None,
-    points: int,
-    step: float,
-    unit: str | None,
-    as_csv: bool,
-    chart: str | None,
-    **given: str | None,
-) -> None:
-    """Plans again with one thing changed.
+def whatif(folder: str, step: float, as_csv: bool, chart: str | None, **given: Any) -> None:
+    """Plans again with one thing changed, or several together.
 
-    By default: more room at each full server, each site lost, and 10% more demand.
+    By default: more room at each full server, each site lost, and 10% more demand. --server with =N, --lose, --cost and
+    --times may be repeated, and all of them are applied together in one plan.
     """
+    words = SimpleNamespace(**{key: given.pop(key) for key in OWN})
     refuse_clashes(read_in(folder, given), [chart] if chart else [])
+    sized, named = [it for it in words.server if "=" not in it], [it for it in words.server if "=" in it]
+    together = [named, words.lose, words.cost, words.times]
+    if len(sized) + any(together) > 1 or any(together) and IDLE & options_given():
+        raise click.UsageError("changes together are numbers: give each server as SITE:ID=N, and no other sizes")
     programs = Programs()
-    service = sound(folder, programs, given, cost=unit)
-    if server:
-        own = server_named(service, server)
-        room = service.capacity(own)
+    service = sound(folder, programs, given, cost=words.unit)
+    if any(together):
+        cases = [Changes(service, programs).together(*together)]
+    elif sized:
+        own = server_named(service, sized[0])
+        room, low, high = service.capacity(own), words.low, words.high
         ends = (room // 2 if low is None else low, room * 3 // 2 if high is None else high)
-        cases = sizes(Changes(service, programs, progress(points)), own, min(ends), max(ends), points)
+        cases = sizes(Changes(service, programs, progress(words.points)), own, min(ends), max(ends), words.points)
     else:
         number = len(full_servers(service)) + len(service.sites) + 1
         cases = standard(Changes(service, programs, progress(number)), step)

@@ -141,7 +141,7 @@ def titles_faults(folder: str) -> list[Finding]:
         remedy = f"iconv -f windows-1252 -t utf-8 {shell_word(path)} > utf8.toml"
         words = Words(f"{TITLES} isn't UTF-8", remedy, "a letter of Latin-1")
         return [found(path, Place(), words)]
-    except tomllib.TOMLDecodeError as fault:
+    except (ValueError, RecursionError) as fault:
         advised = re.search(r"line (\d+)", str(fault))
         number = (
             int(advised[1])

@@ -97,6 +97,20 @@ def _of_names(text: Text, wanted: list[str]) -> Cause | None:
     return None
 
 
+def _of_matrix(text: Text, wanted: list[str]) -> Cause | None:
+    """Costs with a column for each site."""
+    rows = [line.split(",") for line in text.lines if line.strip()]
+    head, rows = rows[0], rows[1:]
+    are_costs = all(len(row) == len(head) and all(re.fullmatch("[0-9]*", own) for own in row[1:]) for row in rows)
+    if wanted[0] != HEADERS["costs"] or len(head) < 3 or not rows or not are_costs:
+        return None
+    turned = [f"{row[0]},{site},{cost}" for row in rows for site, cost in zip(head[1:], row[1:]) if cost]
+    way = f"""awk -F, 'NR == 1 {{split($0, s); print "{wanted[0]}"; next}} """
+    way += """{for (i = 2; i <= NF; i++) if ($i != "") print $1 "," s[i] "," $i}'"""
+    remedy = f"{way} {shell_word(text.path)} > turned.csv"
+    return Cause("a matrix, with a column for each site", remedy, "\n".join([wanted[0], *turned, ""]))
+
+
 def _of_fronts(first: str, wanted: list[str]) -> Cause | None:
     """A log with a column of fronts where none is wanted, or the other way round."""
     if f"front,{first}" in wanted:
@@ -133,7 +147,8 @@ def cause_of(text: Text, wanted: list[str]) -> Cause:
         )
     if not first.strip() and text.lines[at] in wanted:
         return Cause("blanks above the header", "take the lines out", "\n".join([""] * at + text.lines[at:]))
-    found_one = _of_fronts(first, wanted) or _of_access(first) or _of_whole(text, wanted) or _of_names(text, wanted)
+    found_one = _of_fronts(first, wanted) or _of_access(first) or _of_whole(text, wanted)
+    found_one = found_one or _of_matrix(text, wanted) or _of_names(text, wanted)
     if found_one:
         return found_one
     names = [name.strip() for name in first.split(",")]

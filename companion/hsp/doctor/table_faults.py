@@ -179,6 +179,7 @@ def bad_number(faulty: Faulty) -> Words:
     if name == "server_id" and not fields[at].strip().isdigit():
         remedy = "write the identifier of the server, as hsplan site prints it"
         remedy += "" if fields[at].strip() else "; or take the row out, if it is a sum"
+        remedy += "; a row for each server, as no sign stands for all" if fields[at].strip() == "*" else ""
         words = replace(words, remedy=remedy)
     return words
 

@@ -156,7 +156,7 @@ def _candidates(text: Text) -> Iterator[tuple[int, str]]:
         tomllib.loads(text.octets.decode("utf-8-sig"))
     except UnicodeDecodeError as fault:
         yield decoded_lines(text, fault.start), "utf-8"
-    except tomllib.TOMLDecodeError as fault:
+    except ValueError as fault:
         place = re.search(r"line (\d+), column", str(fault))
         if place:
             yield int(place[1]), str(fault)
@@ -254,7 +254,7 @@ def _best(text: Text, numbers: list[int]) -> int:
         except tomllib.TOMLDecodeError as fault:
             place = re.search(r"line (\d+)", str(fault))
             return int(place[1]) if place else len(lines)
-        except (UnicodeDecodeError, UnicodeEncodeError, RecursionError):
+        except (ValueError, RecursionError):
             return 0
         return len(lines) + 1
 

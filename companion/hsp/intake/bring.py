@@ -139,7 +139,7 @@ def sites(paths: tuple[str, ...], into: str | None, names: tuple[str, ...], capa
 
 def form_of(given: dict[str, Any]) -> Form:
     """The form of the logs by the options."""
-    if given["format"] in ("server", "proxy"):
+    if given["format"] in ("server", "proxy", "httplog"):
         refuse_fields(given["format"])
     refuse_time(given["by"])
     pattern = None

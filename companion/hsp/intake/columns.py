@@ -9,7 +9,7 @@ from __future__ import annotations
 from collections.abc import Callable, Sequence
 from typing import NamedTuple
 
-from hsp.intake.forms import OTHER_OPERATION, RESOLUTION
+from hsp.intake.forms import MARK, OTHER_OPERATION, RESOLUTION, as_others
 from hsp.intake.times import Time, time_of
 
 # In place of a handle or a region: the line has to be looked at by itself.
@@ -59,7 +59,11 @@ def of_proxy(text: bytes, number: int, is_timed: bool) -> Columns | None:
     fields = _Fields(text, number, b'"')
     if not fields.are_alike or fields.width < PROXY_WIDTH or fields.first.count(b'] "') != number:
         return None
-    heads, asked = fields.column(0), fields.column(1)
+    heads, asked, marked = fields.column(0), fields.column(1), fields.first.count(MARK)
+    if marked:
+        if marked < number:
+            return None
+        asked = [as_others(own) if b"#" in own or b"\\" in own else own for own in asked]
     if not is_timed:
         return Columns([head.partition(b" ")[0] for head in heads], asked, ())
     parts = [head.partition(b" ") for head in heads]

@@ -3,7 +3,9 @@
 from __future__ import annotations
 
 import csv
+import functools
 import json
+import operator
 import re
 from collections.abc import Callable, Iterable
 from dataclasses import dataclass
@@ -25,9 +27,10 @@ OTHER_OPERATION = "another operation than a resolution"
 OTHER_REQUEST = "another request than GET or HEAD"
 OTHER_PREFIX = "a handle of another prefix"
 LINE_END = "a line end in the handle"
+NO_OCTET = "a % without two digits behind it"
 NO_TIME, OTHER_TIME = "no time in the line", "another time than the wanted one"
 RESOLUTION = b"1"
-NAMES = ("server", "proxy", "json", "csv")
+NAMES = ("server", "proxy", "json", "csv", "httplog")
 # Values of so many octets are remembered, so that what comes again costs a look-up; and what each takes besides.
 MOST_REMEMBERED, BESIDE = 1 << 26, 250
 LONGEST_REMEMBERED = 1 << 10
@@ -35,6 +38,10 @@ LONGEST_REMEMBERED = 1 << 10
 REQUEST = re.compile(rb"(?:GET|HEAD) +(?:https?://[^/ ]*)?(/[^ ]*)(?: HTTP/\d(?:\.\d)?)?", re.IGNORECASE)
 METHOD = re.compile(rb"[A-Z]+ ")
 QUOTED = re.compile(rb'[^"\\]*(?:\\.[^"\\]*)*"')
+# What stands behind the address in a log of hsp export haproxy; and what HAProxy logs as no other server does.
+MARK, NO_REQUEST = b" haproxy - [", b"<BADREQ>"
+OF_HAPROXY = re.compile(rb"\\|#([0-9A-F]{2})")
+LONE_PERCENT = re.compile(rb"%(?![0-9A-Fa-f]{2})")
 ESCAPED = re.compile(rb"\\(?:x([0-9A-Fa-f]{2})|(.))", re.DOTALL)
 # What a proxy's address and path have before the handle.
 BEFORE_HANDLE = re.compile(rb"(?:https?://[^/]*)?/*(?:api/handles/+)?(?:hdl:|doi:)?", re.IGNORECASE)
@@ -86,7 +93,8 @@ class Form:
         """The handle that a path of a proxy asks for: without the query, and percent-decoded."""
         plain = path.partition(b"?")[0]
         before = BEFORE_HANDLE.match(plain)
-        return self.handle_of(unquote_to_bytes(plain[before.end() if before else 0 :]))
+        handle = plain[before.end() if before else 0 :]
+        return NO_OCTET if LONE_PERCENT.search(handle) else self.handle_of(unquote_to_bytes(handle))
 
     def handle_of_request(self, request: bytes) -> bytes | str:
         if b"\\" in request:
@@ -94,7 +102,7 @@ class Form:
         match = REQUEST.fullmatch(request)
         if match:
             return self.handle_of_path(match[1])
-        return OTHER_REQUEST if METHOD.match(request) else ODD
+        return OTHER_REQUEST if METHOD.match(request) or request == NO_REQUEST else ODD
 
     def take(self, first: bytes) -> Take:
         """How a line is taken. `first` is the first line, the header of a table."""
@@ -102,7 +110,8 @@ class Form:
             return self._of_pattern(self.pattern)
         if self.name == "csv":
             return self._of_table(first)
-        return {"server": self._of_server, "proxy": self._of_proxy, "json": self._of_json}[self.name]()
+        own = {"server": self._of_server, "proxy": self._of_proxy, "json": self._of_json, "httplog": self._of_httplog}
+        return own[self.name]()
 
     def clock(self, first: bytes) -> Clock:
         """How the time of a line is read. `first` is the first line, the header of a table."""
@@ -112,6 +121,8 @@ class Form:
             return self._clock_of_table(first)
         if self.name == "json":
             return self._clock_of_json()
+        if self.name == "httplog":
+            return lambda line: time_of(line.partition(b" [")[2].partition(b"]")[0])
         if self.name == "proxy":
             return lambda line: time_of(line.partition(b" ")[2].partition(b"[")[2].partition(b"]")[0])
         return lambda line: time_of(line.partition(b'"')[2].partition(b'"')[0])
@@ -133,7 +144,7 @@ class Form:
 
         def clock(line: bytes) -> Time | None:
             try:
-                return time_of(str(load(line.decode())[name]).encode())
+                return time_of(str(_in(load(line.decode()), name)).encode())
             except (ValueError, KeyError, TypeError, RecursionError):
                 return None
 
@@ -175,11 +186,27 @@ class Form:
             request, quote, _ = rest.partition(b'"')
             if middle[-2:] != b"] " or not quote:
                 raise Odd
+            if MARK in head:
+                return address, handles[as_others(request)]
             if request[-1:] == b"\\":
                 match = QUOTED.match(rest)
                 if not match:
                     raise Odd
                 request = match[0][:-1]
+            return address, handles[request]
+
+        return take
+
+    def _of_httplog(self) -> Take:
+        """HAProxy's own log: `.. CLIENT:PORT [TIME] .. "REQUEST"`."""
+        handles = Remembered(lambda request: self.handle_of_request(as_others(request)))
+
+        def take(line: bytes) -> Taken:
+            head, bracket, rest = line.partition(b" [")
+            address, colon, port = head.rpartition(b" ")[2].rpartition(b":")
+            request, quote, _ = rest.partition(b'"')[2].rpartition(b'"')
+            if not bracket or not colon or not port.isdigit() or not quote:
+                raise Odd
             return address, handles[request]
 
         return take
@@ -215,7 +242,7 @@ class Form:
         def take(line: bytes) -> Taken:
             try:
                 said: Any = load(line.decode())
-                return said[client].encode(), handles[said[name].encode()]
+                return _in(said, client).encode(), handles[_in(said, name).encode()]
             except (ValueError, KeyError, TypeError, AttributeError, RecursionError):
                 raise Odd from None
 
@@ -234,6 +261,16 @@ class Form:
             return match["client"], handles[match[name]]
 
         return take
+
+
+def _in(said: Any, name: str) -> Any:
+    """A field of an object, or `outer.inner` of an object in it."""
+    return said[name] if name in said else functools.reduce(operator.getitem, name.split("."), said)
+
+
+def as_others(request: bytes) -> bytes:
+    """A request of HAProxy's log as other servers log it: for some octets HAProxy writes `#XX`, and `\\` as it is."""
+    return OF_HAPROXY.sub(lambda match: b"\\x" + match[1] if match[1] else rb"\\", request)
 
 
 def within(span: Span) -> Tag:

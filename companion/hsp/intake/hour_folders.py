@@ -57,8 +57,8 @@ def in_folders(folders: Sequence[str]) -> Iterator[None]:
 def write_hours(tally: HourTally, folders: Sequence[str], files: Outputs) -> None:
     """Writes the demand of each hour, and the hsp.toml of its folder where that tells of another one."""
     for hour, (folder, path) in enumerate(zip(folders, tables_in(folders))):
-        file = files.open(path)
+        file = files.open(path, os.path.dirname(folder) or ".")
         for piece in tally.table(hour):
             file.write(piece)
         for titles, octets in uncounted(folder).items():
-            files.open(titles).write(octets)
+            files.open(titles, os.path.dirname(folder) or ".").write(octets)

@@ -14,6 +14,7 @@ import zlib
 from collections.abc import Callable, Iterable, Iterator
 from typing import IO, Any, NamedTuple, cast
 
+from hsp.base.programs import Missing
 from hsp.base.unfit import Unfit, shown
 
 
@@ -177,15 +178,23 @@ def _within(file: io.BufferedReader, piece: Piece, size: int) -> Iterator[bytes]
         yield block
 
 
+def _refuse_cut(file: io.BufferedReader, piece: Piece) -> None:
+    """Refuses a plain log that is shorter now than what was read of it, or than where a piece of it ends."""
+    raw = getattr(file, "raw", None)
+    if isinstance(raw, io.FileIO) and stat.S_ISREG((found := os.fstat(raw.fileno())).st_mode):
+        if found.st_size < max(file.tell(), piece.end or 0):
+            raise Missing(f"{piece.path}: it became shorter while it was read; copy it first, and read the copy")
+
+
 def _blocks(piece: Piece, numbers: list[int], watch: Watch, size: int) -> Iterator[bytes]:
     path = piece.path
     with opened(path, watch) as file:
         try:
             if piece.begin or piece.end:
                 yield from _within(file, piece, size)
-                return
-            while block := file.read1(size):
-                yield block
+            else:
+                yield from iter(lambda: file.read1(size), b"")
+            _refuse_cut(file, piece)
         except DAMAGE as error:
             raise Unfit(f"{path}: line {numbers[0]}: it can't be unpacked further: {error}") from None
         except OSError as error:

@@ -8,7 +8,7 @@ from hsp.base.numbers import queries_of, signed
 from hsp.base.programs import Missing
 from hsp.plans.page import step_of
 from hsp.plans.service import Service
-from hsp.plans.whatif import DEMAND, LOST, MORE, SIZE, Case, greatest
+from hsp.plans.whatif import DEMAND, LOST, MORE, SIZE, TOGETHER, Case, greatest
 
 WIDE = 680
 STYLE = """<style>
@@ -117,6 +117,7 @@ def bars(cases: list[Case], step: float) -> str:
         MORE: f"{step:g}% more room at one server: what it saves",
         LOST: "One site lost: what it costs",
         DEMAND: "All regions together: what it costs",
+        TOGETHER: "All changes in one plan: what they cost",
     }
     parts, y, most = [], 30, greatest(cases)
     for variant, head in heads.items():

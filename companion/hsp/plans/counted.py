@@ -114,16 +114,16 @@ def row_text(row: Asked) -> bytes:
     return b"%b,%b,%d\n" % row
 
 
-def grown(path: str, factor: Fraction, region: str | None = None) -> Iterator[bytes]:
-    """The log with the queries of all regions, or of one, times a factor, in pieces: each row has its part of the sum, so
-    that only the whole is rounded up."""
+def grown(path: str, factor: Fraction, name: str | None = None) -> Iterator[bytes]:
+    """The log with all queries, or those of one region or handle, times a factor, in pieces: each row has its part of
+    the sum, so that only the whole is rounded up."""
     yield f"{HEADERS['demand']}\n".encode()
-    own = region.encode() if region is not None else None
+    own = name.encode() if name is not None else None
     before = after = 0
     for rows in rows_of(path):
         lines = []
         for row in rows:
-            if own in (None, row.region):
+            if own in (None, row.region, row.handle):
                 before += row.queries
                 row = row._replace(queries=times(before, factor) - after)
                 after += row.queries

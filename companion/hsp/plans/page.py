@@ -15,6 +15,7 @@ from hsp.base.grammar import MOST_DEMAND_ROWS
 from hsp.base.numbers import average, listed, percent, queries_of, signed, some
 from hsp.base.paths import shell_word
 from hsp.base.text import escaped
+from hsp.plans.counted import rows_of as rows_of_log
 from hsp.plans.flows import beside_of
 from hsp.plans.plans import Gain, Host, Planned, Reference, Shortage, above, above_limits, by_shares, to_buy
 from hsp.plans.service import Row, Server, Service, dotted
@@ -231,7 +232,7 @@ def changes_between(old: Service, new: Service) -> list[str]:
     said = _changed("capacity of {} {}", _texts(old.capacities), _texts(new.capacities))
     said += _changed("cost {} to {}", _texts(old.costs), _texts(new.costs))
     if old.log or new.log:
-        is_other = _octets_of(old) != _octets_of(new)
+        is_other = _octets_of(old) != _octets_of(new) and _asked_in(old) != _asked_in(new)
         said += [f"demand: {old.asked:,} → {new.asked:,} queries"] if is_other else []
         return said + _changed("limit of {}{}", _limits(old), _limits(new))
     rows = [_counts(service) for service in (old, new)]
@@ -244,6 +245,12 @@ def changes_between(old: Service, new: Service) -> list[str]:
 def _octets_of(service: Service) -> str:
     """The sum of a demand's octets: a log is too long to be compared row by row."""
     return sum_of(service.inputs.demand)
+
+
+def _asked_in(service: Service) -> int:
+    """A sum of a demand that the order of its rows doesn't change, nor how they are split."""
+    rows = (row for rows in rows_of_log(service.inputs.demand) for row in rows)
+    return sum(hash((row.region, row.handle)) * row.queries for row in rows)
 
 
 def _counts(service: Service) -> dict[tuple[str, str], int]:
@@ -268,10 +275,10 @@ def _changed(words: str, before: dict[tuple[str, str], int], after: dict[tuple[s
     return [f"{words.format(*name)}: {shown(before, name)} → {shown(after, name)}" for name in other]
 
 
-def best_room(plan: Planned, hosts: list[Host]) -> tuple[str, int, bool] | None:
-    """Where room is worth most: its name, what one query more saves there, and whether that is only a bound."""
+def best_room(plan: Planned) -> tuple[str, int, bool] | None:
+    """Where room is worth most: its name, what one query more saves there, and whether it is a machine."""
     found = [(gain.server.label, gain.one, False) for gain in plan.gains if gain.all > 0]
-    found += [(host.address, host.price, True) for host in hosts if host.price]
+    found += [(host.address, host.one, True) for host in plan.hosts if host.one]
     return max(found, key=lambda pair: pair[1]) if found else None
 
 
@@ -334,7 +341,7 @@ def left_alone(view: View, plan: Planned) -> str:
     """What would be too full if all asked their cheapest site; nothing where that is the plan."""
     if not view.reference or view.before:
         return ""
-    count, queries = above(view.service, view.reference.loads)
+    count, queries = above(plan.service, view.reference.loads)
     hosts = above_limits(plan.hosts, view.reference.loads)
     servers = f"{some(count, 'server')} would get {queries:,} queries above capacity" if count else ""
     machines = f"{some(hosts, 'machine')} would get more than {'its limit' if hosts == 1 else 'their limits'}"
@@ -361,8 +368,8 @@ def plan_shown(view: View, plan: Planned) -> dict[str, object]:
         "step": step,
         "dear": [server for server in servers if server.is_dear],
         "full": [server for server in servers if server.is_full],
-        "tight": [host for host in plan.hosts if host.price],
-        "best": best_room(plan, plan.hosts),
+        "tight": [host for host in plan.hosts if host.one],
+        "best": best_room(plan),
         "by_shares": by_shares(plan),
         "reserve": reserve(servers, plan.hosts),
         "alone": left_alone(view, plan),

@@ -41,7 +41,7 @@ class Gain:
 
 @dataclass(frozen=True)
 class Host:
-    """A machine with a limit: what its servers take together."""
+    """A machine with a limit: what its servers take together, and what one query more saves there, once planned."""
 
     address: str
     limit: int
@@ -49,6 +49,7 @@ class Host:
     price: int
     servers: list[Server]
     is_full: bool
+    one: int = 0
 
 
 @dataclass(frozen=True)
@@ -228,19 +229,34 @@ def _gain(programs: Programs, plan: Planned, server: Server) -> Gain:
     return Gain(server, plan.cost - one.cost, load - room, plan.cost - free.cost)
 
 
-def with_gains(plan: Planned, programs: Programs, done: Callable[[], None] = lambda: None) -> Planned:
-    """The plan with what room saves at its full servers. A price only bounds that, so each is planned."""
+def _with_one(programs: Programs, plan: Planned, host: Host) -> Host:
+    """A machine with what one query more saves there, if it has a price."""
+    if not host.price:
+        return host
+    service, own = plan.service, plan.service.settings
+    hosts = [{**it, "limit": it["limit"] + (dotted(it["address"]) == host.address)} for it in own["host"]]
+    settings = programs.put(settings_text(own) + hosts_text({"host": hosts}), ".toml")
+    more, _ = programs.plan(joined(service, programs).but(settings=settings))
+    return replace(host, one=plan.cost - more.cost)
+
+
+def with_gains(
+    plan: Planned, programs: Programs, progress: Callable[[int], Callable[[], None]] = lambda _: lambda: None
+) -> Planned:
+    """The plan with what room saves at its full servers and machines. A price only bounds that, so each is planned."""
     from concurrent.futures import ThreadPoolExecutor  # loaded only here, as it takes others with it
 
     priced = [server for server in plan.service.servers if plan.prices[server.number] > 0 and plan.is_full(server)]
     priced.sort(key=lambda server: -plan.prices[server.number])
-    found = []
+    priced, found = priced[:MOST_GAINS], []
+    done = progress(len(priced))
     with ThreadPoolExecutor(min(4, os.cpu_count() or 1)) as pool:
-        for gain in pool.map(lambda server: _gain(programs, plan, server), priced[:MOST_GAINS]):
+        for gain in pool.map(lambda server: _gain(programs, plan, server), priced):
             found.append(gain)
             done()
+        hosts = list(pool.map(lambda host: _with_one(programs, plan, host), plan.hosts))
     found.sort(key=lambda saving: (-saving.one, -saving.all))
-    return replace(plan, gains=found)
+    return replace(plan, gains=found, hosts=hosts)
 
 
 def reached_by(short: Service, programs: Programs) -> list[Server]:
@@ -310,6 +326,13 @@ def with_purchase(service: Service, programs: Programs, bought: dict[Server, int
     if not certificate.is_plan:
         return None
     return replace(service, inputs=inputs, capacities=room, certificate=certificate, plan_file=path)
+
+
+def purchased(service: Service, programs: Programs) -> tuple[dict[Server, int] | None, Service | None]:
+    """A least purchase and the service after it; None of both where that can't be planned."""
+    bought = least_purchase(service, programs)
+    after = with_purchase(service, programs, bought) if bought else None
+    return (bought if after else None), after
 
 
 def to_buy(service: Service, bought: Mapping[Server, int]) -> dict[Server, int]:

@@ -101,6 +101,28 @@ def is_address(text: str) -> bool:
     return bool(match and is_port(match[2]) and (match[1] in (None, "*") or is_host(match[1])))
 
 
+def _place(text: str) -> tuple[str, int]:
+    """The host and the port of an address to listen at."""
+    match = ADDRESS.fullmatch(text)
+    assert match
+    host = (match[1] or "*").strip("[]").lower()
+    host = {"*": "0.0.0.0", "localhost": "127.0.0.1"}.get(host, host)
+    return (str(ipaddress.ip_address(host)) if ":" in host else host), int(match[2])
+
+
+def overlap(one: str, other: str) -> bool:
+    """Whether two addresses to listen at are one, or one of them is that port of every host of IPv4, or of IPv6."""
+    (host, port), (second, its) = _place(one), _place(other)
+    is_alike = port == its and (":" in host) == (":" in second)
+    return is_alike and (host == second or not {"0.0.0.0", "::"}.isdisjoint((host, second)))
+
+
+def leads_to(url: Url, address: str) -> bool:
+    """Whether a URL is an address to listen at. One of every host is surely asked by a loopback address."""
+    (host, port), own = _place(address), _place(f"{url.host}:{url.port}")
+    return own[1] == port and (own[0] == host or host in ("0.0.0.0", "::") and own[0] in ("127.0.0.1", "::1"))
+
+
 def network_of(text: str) -> str | None:
     """A network as HAProxy reads it, or none where it isn't one."""
     try:

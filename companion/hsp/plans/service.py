@@ -109,7 +109,9 @@ class Service:
     @property
     def kept_back(self) -> str:
         """What is kept back, in words."""
-        return f"{percent_exactly(self.reserve)} of each capacity kept back" if self.reserve else ""
+        is_small = Fraction(1, 10_000) <= self.reserve < Fraction(1, 100)  # 0.15 is seldom meant as 0.15%
+        beside = f" (not {percent_exactly(100 * self.reserve)})" if is_small else ""
+        return f"{percent_exactly(self.reserve)}{beside} of each capacity kept back" if self.reserve else ""
 
     @property
     def rows_are(self) -> str:

@@ -53,7 +53,7 @@ def plan_lines(plan: Planned, reference: Reference | None, every: bool) -> Itera
     yield f"cost  {bold(f'{plan.cost:,}{unit}')}, {each}{unit} a query{beside}"
     yield from full_lines(plan, every)
     for host in plan.hosts:
-        note = f"; one query more saves at most {host.price:,}{unit}" if host.price else ""
+        note = f"; one query more saves {host.one:,}{unit}" if host.one else ""
         yield f"host  {host.address} takes {host.load:,} of {host.limit:,}{note}"
     yield from region_lines(plan, reference, every)
     yield f"by shares of regions only  {by_shares(plan).words}"

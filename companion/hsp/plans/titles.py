@@ -31,7 +31,7 @@ def titles_of(folder: str) -> dict[str, Any]:
         if any(QUOTED.sub("", line).count(".") > MOST_POINTS for line in text.splitlines()):
             raise Unfit(f"{path}: a key of more than {MOST_POINTS} parts")
         return tomllib.loads(text)
-    except (tomllib.TOMLDecodeError, UnicodeDecodeError) as error:
+    except (ValueError, RecursionError) as error:  # a number may be too long, and lists nested too deep
         raise Unfit(f"{path}: not TOML: {error}") from error
 
 

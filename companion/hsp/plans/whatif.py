@@ -1,10 +1,11 @@
-"""The plan again with one thing changed. Each line is a plan of hsplan."""
+"""The plan again with one thing changed, or several things together. Each line is a plan of hsplan."""
 
 from __future__ import annotations
 
 import csv
 import io
-from collections.abc import Callable, Iterable, Iterator
+import re
+from collections.abc import Callable, Iterable, Iterator, Sequence
 from dataclasses import dataclass, replace
 from fractions import Fraction
 
@@ -13,13 +14,17 @@ from hsp.base.numbers import average, listed, queries_of, signed
 from hsp.base.programs import Missing, Programs
 from hsp.base.spelling import near
 from hsp.base.text import bold, colored
-from hsp.plans.counted import grown, is_log, times
+from hsp.plans.counted import grown, is_log, rows_of, times
 from hsp.plans.joined import joined
 from hsp.plans.plans import capacity_file
-from hsp.plans.service import Server, Service
+from hsp.plans.service import Row, Server, Service, table
 
-# What is changed: room at a full server, a lost site, all demand, or the size of one server.
-MORE, LOST, DEMAND, SIZE = "more", "lost", "demand", "size"
+# What is changed: room at a full server, a lost site, all demand, the size of one server, or what is named.
+MORE, LOST, DEMAND, SIZE, TOGETHER = "more", "lost", "demand", "size", "together"
+# What a name is changed to: a size or a cost, or a factor.
+WHOLE, FACTOR = re.compile(r"[0-9]{1,10}"), re.compile(r"[0-9]{1,10}(\.[0-9]{1,9})?")
+# What an option says each time.
+Words = Sequence[str]
 EIGHTHS = " \u258f\u258e\u258d\u258c\u258b\u258a\u2589"
 FULL_BLOCK = "\u2588"
 
@@ -69,15 +74,62 @@ class Changes:
         path = demand_times(self.service, self.programs, 1 + Fraction(percent) / 100)
         return self.planned(DEMAND, f"{percent:g}% more demand", demand=path)
 
+    def together(self, servers: Words, lost: Words, costs: Words, demand: Words) -> Case:
+        """All of these changes in one plan."""
+        service, put_table = self.service, self.programs.put_table
+        rooms, paid = dict(service.capacities), dict(service.costs)
+        for name, room in map(_change, servers):
+            own = server_named(service, name)
+            rooms[own.site, own.id] = int(room)
+        for name, cost in map(_change, costs):
+            region, _, site = name.partition(":")
+            paid[region, _known(site, [it.name for it in service.sites], "site")] = int(cost)
+        for site in lost:
+            _known(site, [it.name for it in service.sites], "site")
+        for name, factor in (_change(own, FACTOR) for own in demand):
+            path = demand_times(service, self.programs, factor, _asked(service, name))
+            rows = [] if service.log else [Row(region, handle, int(count)) for region, handle, count in table(path)]
+            service = replace(service, inputs=service.inputs.but(demand=path), rows=rows)
+        left = ((*key, cost) for key, cost in paid.items() if key[1] not in lost)
+        costs_file, room_file = put_table(HEADERS["costs"], left), capacity_file(self.programs, rooms)
+        asked = joined(service, self.programs).demand
+        return self.planned(TOGETHER, "these changes", costs=costs_file, demand=asked, capacity=room_file)
 
-def demand_times(service: Service, programs: Programs, factor: Fraction, region: str | None = None) -> str:
-    """The demand where each row, or each of a region, asks for so many times as much. Each row is rounded up, and the
-    rows of a log all together."""
+
+def _change(words: str, numbers: re.Pattern[str] = WHOLE) -> tuple[str, Fraction]:
+    """What is changed, and to which number."""
+    name, _, number = words.rpartition("=")
+    if not name or not numbers.fullmatch(number):
+        whole = "a whole number" if numbers is WHOLE else "a number"
+        raise Missing(f"'{words}' is no change: write a name, '=' and {whole}")
+    return name, Fraction(number)
+
+
+def _known(name: str, names: Sequence[str], what: str) -> str:
+    """The name, which has to be one of these."""
+    if name not in names:
+        meant = near(name, names)
+        raise Missing(f"no {what} '{name}'" + (f": did you mean {meant}?" if meant else ""))
+    return name
+
+
+def _asked(service: Service, name: str) -> str:
+    """The name of a region, or a handle, of the demand."""
+    if service.log and any(row.handle == name.encode() for rows in rows_of(service.inputs.demand) for row in rows):
+        return name
+    return _known(name, [*service.regions, *(row.handle for row in service.rows)], "region or handle")
+
+
+def demand_times(service: Service, programs: Programs, factor: Fraction, name: str | None = None) -> str:
+    """The demand where each row, or each of a region or a handle, asks for so many times as much. Each row is rounded
+    up, and the rows of a log all together."""
     if service.log:
         path = programs.put(b"", ".csv")
-        programs.add(path, grown(joined(service, programs).demand, factor, region))
+        demand = service.inputs.demand if name and "/" in name else joined(service, programs).demand
+        programs.add(path, grown(demand, factor, name))
         return path
-    counts = (times(row.count, factor) if region in (None, row.region) else row.count for row in service.rows)
+    are_own = (name in (None, row.region, row.handle) for row in service.rows)
+    counts = (times(row.count, factor) if is_own else row.count for row, is_own in zip(service.rows, are_own))
     lines = (f"{head}{count}\n" for head, count in zip(service.row_heads, counts))
     return programs.put(f"{HEADERS['demand']}\n{''.join(lines)}", ".csv")
 
@@ -159,6 +211,7 @@ def lines(service: Service, cases: list[Case], step: float) -> Iterator[str]:
     else:
         yield f"now   {colored('short', 'red')} by {queries_of(now.demand - now.capacity)}"
     heads = {MORE: f"{step:g}% more room at", LOST: "without the site", DEMAND: "all regions together"}
+    heads[TOGETHER] = "all changes in one plan"
     most = greatest(case for case in cases if case.variant in heads)
     for variant, head in heads.items():
         own = [case for case in cases if case.variant == variant]

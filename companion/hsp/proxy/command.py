@@ -2,6 +2,7 @@
 
 from __future__ import annotations
 
+import itertools
 import os
 from dataclasses import dataclass
 from fractions import Fraction
@@ -18,8 +19,8 @@ from hsp.base.programs import Missing, Prices, Programs
 from hsp.base.text import say
 from hsp.base.unfit import Unfit, shown
 from hsp.doctor.service_folder import read_in, refuse_shortage, sound, with_files
-from hsp.intake.addresses import targets_of, twins
-from hsp.plans.proxied import CHECK, PROXY, Proxied, is_address, network_of, proxied_in
+from hsp.intake.addresses import Target, targets_of, twins
+from hsp.plans.proxied import CHECK, PROXY, Proxied, is_address, leads_to, network_of, overlap, proxied_in
 from hsp.plans.service import Service
 from hsp.plans.titles import TITLES, titles_of
 from hsp.proxy.config import CONFIG, LONGEST_SOCKET, SOCKET, Frame, files_of, quoted, refuse_others
@@ -82,6 +83,9 @@ def frame_of(words: Words, said: Proxied) -> Frame:
     for address in (*said.listen, words.watch):
         if not is_address(address):
             raise Unfit(f"{shown(address)} is no address to listen at, such as 127.0.0.1:8080, *:80 or [::1]:8080")
+    for one, other in itertools.combinations((*said.listen, words.watch), 2):
+        if overlap(one, other):
+            raise Unfit(f"{shown(one)} and {shown(other)} overlap: give --listen and --watch places of their own")
     if said.check and not CHECK.fullmatch(said.check):
         raise Unfit(f"check: {shown(said.check)} is no path such as /api/handles/0.NA/20.500.1234")
     socket = os.path.abspath(words.socket or os.path.join(words.into, SOCKET))
@@ -92,6 +96,13 @@ def frame_of(words: Words, said: Proxied) -> Frame:
     authority = os.path.abspath(said.authority) if said.authority else ""
     trusted = _networks(said.trusted)
     return Frame(said.listen, words.watch, socket, certificate, authority, trusted, said.check, words.is_proxy)
+
+
+def refuse_itself(targets: list[Target], frame: Frame) -> None:
+    """Refuses a server whose URL leads back to the proxy."""
+    for target, address in itertools.product(targets, (*frame.listen, frame.watch)):
+        if leads_to(target.url, address):
+            raise Unfit(f"{target.name}: {target.url.text} is {address}, where HAProxy itself listens: a loop")
 
 
 def checked(folder: str, programs: Programs, given: dict[str, str | None], part: Fraction) -> Service:
@@ -156,6 +167,7 @@ def haproxy(folder: str, reserve: Fraction, **given: Any) -> None:
     networks = map_of(said.regions, said.elsewhere, programs)
     service = checked(folder, programs, given, reserve)
     targets = targets_of(service, said.urls, programs)
+    refuse_itself(targets, frame)
     contents = files_of(service, targets, networks.lines, frame)
     refuse_clashes(inputs, [path_in(words.into, name) for name in contents])
     programs.insist_held()

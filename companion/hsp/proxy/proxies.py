@@ -31,6 +31,10 @@ class Look:
     down: frozenset[str]
 
 
+class Unwritten(Missing):
+    """HAProxy has a new plan, and a file of it isn't written."""
+
+
 class Proxy:
     """A proxy that is steered."""
 
@@ -44,6 +48,8 @@ class Proxy:
         self.fault: Exception | None = None
         # The maps that this run of HAProxy has from here, and its configuration as it was then.
         self._run, self._maps, self._config = "", dict[str, Sequence[str]](), b""
+        # The maps that it has, and whose files aren't written yet.
+        self._unwritten: dict[str, bytes] = {}
 
     def read(self, length: float) -> None:
         """Reads what HAProxy says now. Where it says nothing, the last counts stay."""
@@ -58,7 +64,7 @@ class Proxy:
         is_new = self.now is not None and self._run not in ("", self.now.run)
         return is_new and whole(path_in(self.folder, CONFIG)) != self._config
 
-    def _refuse_older(self) -> None:
+    def refuse_older(self) -> None:
         """Refuses a HAProxy that began before its configuration was written: a new map may name what it hasn't."""
         path = path_in(self.folder, CONFIG)
         assert self.now
@@ -68,21 +74,21 @@ class Proxy:
             raise Unfit(f"{self.folder}: it was exported again; reload HAProxy")
 
     def swap(self, maps: Mapping[str, Sequence[str]]) -> None:
-        """Swaps the plan, and other maps where this HAProxy has other ones, and writes their files."""
+        """Swaps the plan, and other maps where this HAProxy has other ones."""
         assert self.now
         before = self._maps if self._run == self.now.run else {}
         fresh = {name: lines for name, lines in maps.items() if name == PLAN or before.get(name) != lines}
         refuse_others(self.folder, {name: b"" for name in fresh})
-        self._refuse_older()
         self._maps = {}
         self.runtime.swap(fresh)
-        replace_all({path_in(self.folder, name): sealed(text_of(lines)) for name, lines in fresh.items()})
+        self._unwritten |= {path_in(self.folder, name): sealed(text_of(lines)) for name, lines in fresh.items()}
         self._run, self._maps, self._config = self.now.run, dict(maps), whole(path_in(self.folder, CONFIG))
 
     def keep(self, state: State) -> None:
-        """Writes the plan and the counts, from which the next run goes on."""
-        if self.counts:
-            replace_all({path_in(self.folder, STATE): kept(state, self.counts)})
+        """Writes the maps, and the plan and the counts, from which the next run goes on."""
+        own = {path_in(self.folder, STATE): kept(state, self.counts)} if self.counts else {}
+        replace_all({**self._unwritten, **own})
+        self._unwritten = {}
 
 
 class Proxies:
@@ -118,5 +124,12 @@ class Proxies:
         return sum_of((own.counts for own in self.all if own.counts), int(at // length), length)
 
     def keep(self, state: State) -> None:
+        """Writes the files of all. Where one can't be written, the others are."""
+        faults = []
         for own in self.all:
-            own.keep(state)
+            try:
+                own.keep(state)
+            except OSError as fault:
+                faults.append(f"{fault.filename}: {fault.strerror}")
+        if faults:
+            raise Unwritten(f"{'; '.join(faults)}; HAProxy has the new plan, and begins by an older one if it restarts")

@@ -17,7 +17,6 @@ PATIENCE = 5
 MOST_OF_ANSWER = 1 << 24
 # So many octets of a map are sent at once: HAProxy reads a command and what belongs to it into one buffer of 16 kB.
 AT_ONCE = 8_000
-COUNT = re.compile(r"\bkey=(\S+) .*\bhttp_req_cnt=([0-9]+)")
 # A number of HAProxy. What has more digits is none of its counters.
 NUMBER = re.compile(r"[0-9]{1,15}")
 VERSION = re.compile(r"New version created: ([0-9]+)")
@@ -41,6 +40,12 @@ def _number(text: str) -> int:
     if not NUMBER.fullmatch(text):
         raise ValueError
     return int(text)
+
+
+def _counts(table: str) -> dict[str, int]:
+    """What each server was given, by the lines of HAProxy's table."""
+    lines = (dict(word.partition("=")[::2] for word in line.split()) for line in table.splitlines())
+    return {line["key"]: _number(line["http_req_cnt"]) for line in lines if {"key", "http_req_cnt"} <= line.keys()}
 
 
 def pieces(lines: Iterable[str]) -> Iterator[str]:
@@ -103,7 +108,7 @@ class Runtime:
         table = self.say("show table taken")
         down, now = self.down(), time.time()
         try:
-            counts = {name: _number(count) for name, count in COUNT.findall(table)}
+            counts = _counts(table)
             run, began = f"{said['Pid']} {said.get('Start_time_sec', '')}", now - _number(said["Uptime_sec"])
         except (KeyError, ValueError):
             raise self._no_haproxy() from None

@@ -50,6 +50,9 @@ class State:
     # The folders of all proxies that are steered together, and whether each has this plan.
     proxies: dict[str, bool]
     servers: dict[str, Standing]
+    # After how many seconds the next plan is due, if ever, and why none came.
+    every: float = 0.0
+    fault: str = ""
 
     def given(self, counts: Counts, down: frozenset[str]) -> State:
         """The same plan with the counts of now."""
@@ -68,7 +71,8 @@ def time_text(seconds: float) -> str:
 def line_of(state: State) -> str:
     """A state as one line of JSON."""
     said = {"time": time_text(state.made), **asdict(state), "left": round(state.left, 4)}
-    del said["made"]
+    for key in ("made", "every", "fault"):
+        del said[key]
     return f"{json.dumps(said)}\n"
 
 
@@ -90,9 +94,9 @@ def _are_numbers(state: State, counts: Counts) -> bool:
         *wholes,
         *(number for own in state.servers.values() for number in (own.load, own.planned, own.capacity)),
     ]
-    numbers += [counts.at, *state.proxies.values()]
+    numbers += [counts.at, state.every, *state.proxies.values()]
     are_counts = all(isinstance(number, int) and number >= 0 for number in wholes)
-    return all(map(_is_number, numbers)) and are_counts and counts.length >= 1
+    return all(map(_is_number, numbers)) and are_counts and counts.length >= 1 and isinstance(state.fault, str)
 
 
 def kept_in(folder: str) -> tuple[State, Counts] | None:

@@ -6,17 +6,19 @@ import contextlib
 import fcntl
 import math
 import os
+import re
 import signal
 import time
 from collections.abc import Callable, Collection, Iterable, Iterator
-from dataclasses import dataclass, field
+from dataclasses import dataclass, field, replace
 from fractions import Fraction
 from typing import Any
 
 import click
 
+from hsp.base.ends import ended
 from hsp.base.files import refuse_clashes, refuse_no_file, replace_all
-from hsp.base.numbers import queries_of
+from hsp.base.numbers import queries_of, some
 from hsp.base.options import ANY_FILE, PathName, Run, idle
 from hsp.base.paths import path_in, shell_word
 from hsp.base.programs import Missing, Programs, Refused
@@ -25,19 +27,22 @@ from hsp.base.unfit import Unfit
 from hsp.doctor.service_folder import read_in, sound, with_files
 from hsp.plans.service import NAMES, Service, read_service
 from hsp.proxy.config import CONFIG, COSTS, PLAN, PRICES, SITES, socket_in
-from hsp.proxy.proxies import Proxies
+from hsp.proxy.proxies import Proxies, Unwritten
 from hsp.proxy.standing import STATE, line_of, metrics_text, state_in, table_lines
 from hsp.proxy.steering import FAULTS, Steering
 from hsp.proxy.watched import Watched
 from hsp.scenarios.reserve import RESERVE, forgotten, reserved
 
 LOCK, NOTHING = "steer.lock", Fraction(0)
+# A plan is late after so many times the seconds from plan to plan, and so many seconds, which planning may take.
+LATE, LEAST_LATE = 3, 10
 # Why figures need a regular file.
 FIGURES = "hsp steer writes its figures there anew, time and again"
 # HAProxy is asked at least once in so many seconds whether a server is lost or has returned.
 TICK = 1.0
 # A day, and a year.
 MOST_EVERY, MOST_PERIOD = 86_400, 31_622_400
+UNITS = {"s": 1, "m": 60, "h": 3_600, "d": 86_400}
 
 
 @contextlib.contextmanager
@@ -59,7 +64,7 @@ def _text(fault: BaseException) -> str:
     if isinstance(fault, OSError):
         return f"{fault.filename}: {fault.strerror}" if fault.filename else str(fault.strerror or fault)
     if isinstance(fault, Refused):
-        return f"hsplan refuses these files: {fault.line}"
+        return f"hsplan refuses these files: {fault.line}" if fault.line else f"hsplan was ended ({fault.status})"
     return fault.message if isinstance(fault, Unfit) else str(fault)
 
 
@@ -107,9 +112,11 @@ class _Loop:
         except FAULTS as fault:
             if isinstance(fault, OSError) and fault.filename is None:  # standard output is gone
                 raise
-            line = _text(fault)
+            line = _text(fault) + ("" if isinstance(fault, Unwritten) else f"; {kind}")
             if line != self._said.get(kind):
-                say(f"hsp: {line}; {kind}", err=True)
+                say(f"hsp: {line}", err=True)
+                with contextlib.suppress(Unwritten):
+                    self.steering.keep(line)
             self._said[kind] = line
 
     def reload(self) -> None:
@@ -121,7 +128,8 @@ class _Loop:
             self.steering.take(read_anew(self.folder, self.given, programs, self.reserve))
             self._refused = ""
         except FAULTS as fault:
-            doctor = f" (hsp doctor {shell_word(self.folder)})" if isinstance(fault, Refused) else ""
+            is_refused = isinstance(fault, Refused) and fault.line
+            doctor = f" (hsp doctor {shell_word(self.folder)})" if is_refused else ""
             line = f"hsp: {self.folder} isn't read anew: {_text(fault)}; the old plan stays{doctor}"
             if line != self._refused:
                 say(line, err=True)
@@ -150,7 +158,10 @@ class _Loop:
         if self._is_short and not state.left_out:
             say("hsp: the shortage is over", err=True)
         self._is_short = bool(state.left_out)
-        give(line_of(state))
+        try:
+            self.steering.keep()
+        finally:
+            give(line_of(state))
 
     def measure(self) -> bool:
         """Writes the figures of the plan in force."""
@@ -181,6 +192,14 @@ class _Loop:
                 time.sleep(min(TICK, self.every, self.steering.until_turn(time.time())))
         finally:
             signal.signal(signal.SIGHUP, before)
+
+
+class Seconds(click.FloatRange):
+    """A number of seconds, or of minutes, hours or days, as 90m, 1h or 1d."""
+
+    def convert(self, value: Any, param: click.Parameter | None, context: click.Context | None) -> Any:
+        match = re.fullmatch(r"([0-9]{1,8}(?:\.[0-9]{1,9})?)([smhd])", str(value))
+        return super().convert(float(match[1]) * UNITS[match[2]] if match else value, param, context)
 
 
 def _number(_: click.Context, option: click.Parameter, value: float) -> float:
@@ -221,6 +240,11 @@ def _show(folders: Collection[str]) -> None:
         say(line)
     for own in (own for own in proxies.all if not own.now):
         say(f"{own.folder} doesn't answer; its last counts are among these")
+    age = now.at - state.made
+    if state.every and age > max(LATE * state.every, LEAST_LATE):
+        with contextlib.suppress(Missing, OSError), _alone(folders):
+            state = replace(state, fault="hsp steer isn't running")
+        ended(1, f"no plan came for {some(round(age), 'second')}: {state.fault or 'hsp steer is still planning'}")
 
 
 def beside_status(run: Run) -> Run:
@@ -254,9 +278,9 @@ def beside_status(run: Run) -> Run:
     "--period",
     default=3600.0,
     show_default=True,
-    type=click.FloatRange(1, MOST_PERIOD),
+    type=Seconds(1, MOST_PERIOD),
     callback=_number,
-    help="seconds in which the demand comes, and for which capacities are",
+    help="seconds in which the demand comes, and for which capacities are; or 90m, 1h, 1d",
 )
 @click.option("--metrics", metavar="FILE", type=ANY_FILE, help="figures for Prometheus' textfile collector")
 @click.option("--once", is_flag=True, help="one plan, and the end")
@@ -283,7 +307,8 @@ def steer(folder: str, folders: tuple[str, ...], every: float, period: float, **
         service = _with_sites(reserved(sound(folder, programs, given), reserve, programs))
         if line := forgotten(service, programs):
             say(f"hsp: {line}", err=True)
-        loop = _Loop(Steering(folders, service, period), folder, given, every, metrics, watched, reserve)
+        steering = Steering(folders, service, period, 0.0 if is_once else every)
+        loop = _Loop(steering, folder, given, every, metrics, watched, reserve)
         if is_once:
             loop.step()
             loop.measure()

@@ -61,15 +61,17 @@ def state_of(service: Service, rest: Rest, counts: Counts, now: Look, proxies: d
     for server in service.servers:
         name = name_of(server)
         load = counts.taken.get(name, 0)
-        servers[name] = Standing(load, load + rest.loads[name], service.capacity(server), name in now.down)
+        room = service.capacity(server)
+        planned = min(load + rest.loads[name], max(load, room))  # a rounded rest is no more than its room
+        servers[name] = Standing(load, planned, room, name in now.down)
     return State(now.at, counts.left(now.at), rest.asked, rest.left_out, rest.cost, proxies, servers)
 
 
 class Steering:
     """Proxies whose plan is kept in step."""
 
-    def __init__(self, folders: Collection[str], service: Service, length: float) -> None:
-        self._length, self._proxies = length, Proxies(folders)
+    def __init__(self, folders: Collection[str], service: Service, length: float, every: float = 0.0) -> None:
+        self._length, self._every, self._proxies = length, every, Proxies(folders)
         self._held = self._fit(service)
         self.state: State | None = None
         self._signs: tuple[object, ...] = ()
@@ -117,6 +119,7 @@ class Steering:
     def _swap(self, proxy: Proxy, rest: Rest) -> None:
         """Has one proxy answer by a plan. Where it can't, it goes on by its last map, and the others don't wait."""
         try:
+            proxy.refuse_older()
             refuse_other_sites(proxy.folder, self._held.service, self._held.targets)
             proxy.swap({**rest.maps, **self._held.maps})
             proxy.fault = None
@@ -135,6 +138,11 @@ class Steering:
         if len(faults) == len(self._proxies.all):
             raise next(iter(faults.values()))
         steered = {own.name: own.folder not in faults for own in self._proxies.all}
-        self.state = state_of(service, rest, counts, now, steered)
-        self._proxies.keep(self.state)
+        self.state = replace(state_of(service, rest, counts, now, steered), every=self._every)
         return self.state
+
+    def keep(self, fault: str = "") -> None:
+        """Writes the state, and why no newer plan came."""
+        if self.state:
+            self.state = replace(self.state, fault=fault)
+            self._proxies.keep(self.state)

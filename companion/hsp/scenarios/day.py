@@ -12,7 +12,7 @@ from typing import Any
 import click
 
 from hsp.base.ends import SHORTAGE
-from hsp.base.files import locked, refuse_clashes, refuse_no_folder, replace_all
+from hsp.base.files import forget, locked, refuse_clashes, refuse_no_folder, replace_all
 from hsp.base.numbers import listed, some
 from hsp.base.options import ANY_FILE, LINES, PathName, apart, idle
 from hsp.base.paths import path_in
@@ -103,11 +103,11 @@ def _forget(day: Day, folder: str) -> None:
     """Takes away the plans of hours that are short now, and of blocks that are none any more. All else stays."""
     names = {block.name for block in day.blocks}
     old = [own for own in _blocks_in(folder) if os.path.basename(own) not in names]
-    short = [path_in(plan.hour.folder, PLAN) for plan in day.plans if not plan.is_plan]
-    for path in [*short, *(path_in(own, name) for own in old for name in (PLAN, NAMES["demand"]))]:
-        with contextlib.suppress(FileNotFoundError):
-            os.unlink(path)
+    for plan in day.plans:
+        if not plan.is_plan:
+            forget(folder, plan.hour.folder, [PLAN])
     for own in old:
+        forget(folder, own, [PLAN, NAMES["demand"]])
         with contextlib.suppress(OSError):
             os.rmdir(own)
 
@@ -223,10 +223,8 @@ def _save(found: Day, folder: str, page: str, programs: Judged) -> list[str]:
     blocks = [block_view(inputs, block, path_in(within, block.name)) for block in found.blocks]
     text = render_day(found, folder, commands, blocks, programs.judged_so_far)
     _refuse_clashes(found.service, [plan.hour for plan in found.plans], [*contents, page])
-    for path in contents:
-        os.makedirs(os.path.dirname(path) or ".", exist_ok=True)
     with locked([folder]):
-        replace_all({**contents, page: text.encode()})
+        replace_all({**contents, page: text.encode()}, folder)
         _forget(found, folder)
         return forget_of_hours(folder, contents, found.service.own_inputs.files())
 

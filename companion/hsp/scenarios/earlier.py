@@ -6,6 +6,7 @@ import contextlib
 import os
 from collections.abc import Collection
 
+from hsp.base import files
 from hsp.base.paths import path_in
 from hsp.plans.answering import LESS_CAPACITY, LESS_SETTINGS
 from hsp.plans.service import OF_DAY, OF_WEEK
@@ -44,7 +45,7 @@ def forget(folder: str, written: Collection[str], read: Collection[str]) -> list
     real = {os.path.realpath(path) for path in read}
     near, inputs = _near(folder), _inputs(folder, [*written, *read])
     if near and not real.intersection(map(os.path.realpath, near)) and not set(near).intersection(written):
-        _remove(near)
+        files.forget(folder, path_in(folder, FOLDER), KEPT)
         with contextlib.suppress(OSError):
             os.rmdir(path_in(folder, FOLDER))
     if _plans_of_hours(folder):

@@ -11,7 +11,7 @@ from collections.abc import Iterable, Sequence
 from dataclasses import dataclass
 
 from hsp.base.bounds import whole
-from hsp.base.files import locked, refuse_clashes, refuse_no_folder, replace_all
+from hsp.base.files import forget, locked, refuse_clashes, refuse_no_folder, replace_all
 from hsp.base.paths import path_in
 from hsp.base.unfit import Unfit
 from hsp.plans.answering import LESS_CAPACITY, LESS_SETTINGS, kept_beside
@@ -37,6 +37,11 @@ class Fallbacks:
     programs: Judged
 
     @property
+    def root(self) -> str:
+        """The folder above, below which no link is followed."""
+        return os.path.dirname(self.folder) or "."
+
+    @property
     def table(self) -> str:
         return path_in(self.folder, TABLE)
 
@@ -57,16 +62,15 @@ class Fallbacks:
         os.makedirs(self.folder, exist_ok=True)
         with locked([self.folder]):
             gone = self._earlier() - {found.loss.folder for found in all_found}
-            _remove(self.table)
+            forget(self.root, self.folder, [TABLE])
             for folder in [*gone, *(found.loss.folder for found in all_found if found.cost is None)]:
                 self._forget(folder, OWN)
             for found in all_found:
                 if found.cost is not None:
-                    os.makedirs(self.path(found), exist_ok=True)
                     contents = self._contents(found)
-                    replace_all(contents)
+                    replace_all(contents, self.root)
                     self._forget(found.loss.folder, set(OWN) - {os.path.basename(path) for path in contents})
-            replace_all({self.table: self._text(all_found).encode()})
+            replace_all({self.table: self._text(all_found).encode()}, self.root)
         return sum(found.cost is not None for found in all_found)
 
     def _contents(self, found: After) -> dict[str, bytes]:
@@ -92,10 +96,7 @@ class Fallbacks:
     def _forget(self, folder: str, names: Iterable[str]) -> None:
         """Takes away files of a loss, and its folder where nothing else is there. A link is not followed."""
         path = path_in(self.folder, folder)
-        if os.path.islink(path):
-            return
-        for name in names:
-            _remove(path_in(path, name))
+        forget(self.root, path, names)
         with contextlib.suppress(OSError):
             os.rmdir(path)
 
@@ -116,11 +117,6 @@ def csv_of(service: Service, all_found: Sequence[After], kept: Fallbacks | None 
         lost = found.forced if found.moved is not None else ""
         writer.writerow([loss.kind, loss.name, str(is_served).lower(), cost, change, found.lack, moved, lost, plan])
     return out.getvalue()
-
-
-def _remove(path: str) -> None:
-    with contextlib.suppress(FileNotFoundError, NotADirectoryError):
-        os.unlink(path)
 
 
 __all__ = ["FOLDER", "Fallbacks", "TABLE", "csv_of"]

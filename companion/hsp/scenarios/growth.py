@@ -12,7 +12,7 @@ from hsp.base.grammar import GREATEST_COUNT, GREATEST_ROW_COUNT
 from hsp.base.programs import Certificate
 from hsp.plans.counted import times
 from hsp.plans.flows import flows_of
-from hsp.plans.plans import least_purchase, reached_by, with_purchase
+from hsp.plans.plans import purchased, reached_by
 from hsp.plans.service import Row, Server, Service
 from hsp.plans.whatif import demand_times
 from hsp.scenarios.judged import Judged, side_by_side
@@ -63,8 +63,10 @@ class Purchase:
 
 
 def percent_of(factor: int) -> str:
-    """The growth of a factor."""
+    """The growth of a factor; as the factor itself where percents would be read for that."""
     change = (factor - STEP) / 100
+    if change > 1000:
+        return f"{factor / STEP:,.4f}".rstrip("0").rstrip(".") + " times as much"
     return f"{change:+,.2f}%".replace("-", "\u2212")
 
 
@@ -175,9 +177,8 @@ class Growing:
         if certificate.is_plan:
             return Purchase(percent, asked, 0, {}, certificate.cost)
         lack = certificate.demand - certificate.capacity
-        bought = least_purchase(grown, self._programs)
-        after = with_purchase(grown, self._programs, bought) if bought else None
-        return Purchase(percent, asked, lack, bought if after else None, after.certificate.cost if after else None)
+        bought, after = purchased(grown, self._programs)
+        return Purchase(percent, asked, lack, bought, after.certificate.cost if after else None)
 
     def _asked(self, factor: Fraction) -> int:
         """The queries of all rows times a factor, each rounded up as in its table; those of a log all together."""
