@@ -55,7 +55,6 @@ quick:
 	tools/gate/check_docs.py --names
 	tools/gate/list_reading.py --check
 	tools/gate/list_calls.py --check
-	tools/gate/write_vectors.py --check
 	tools/gate/write_grammar.py --check
 	tools/gate/check_manual.py
 	tools/gate/check_completions.py

@@ -2,7 +2,7 @@
 
 _hsp_commands() {
     case $1 in
-        "") echo "day demand doctor export fleet grow new plan sites steer survive view whatif where --help --version" ;;
+        "") echo "capacity costs day demand doctor export fleet forecast grow new plan sites steer survive view whatif where within --help --version" ;;
         export) echo "haproxy --help" ;;
         fleet) echo "demand dispatch --help" ;;
         "doctor --") echo "locate site plan check dispatch report places answer interfaces faults" ;;
@@ -11,21 +11,25 @@ _hsp_commands() {
 
 _hsp_options() {
     case $1 in
+        "capacity") echo "--into --per --seconds --below --share --site --regex --duration --help" ;;
+        "costs") echo "--into --regions --by --elsewhere --site --percentile --by-distance --regex --duration --help" ;;
         "day") echo "--settings --costs --capacity --values --week --reserve --near --unit --all --output --no-save --csv --help" ;;
-        "demand") echo "--regions --into --output --log --jobs --format --regex --client --handle --path --from --to --busiest-hour --time --prefix --elsewhere --by --help" ;;
+        "demand") echo "--regions --into --output --log --jobs --percentile --mean --format --regex --client --handle --path --from --to --busiest-hour --time --prefix --elsewhere --by --help" ;;
         "doctor") echo "--settings --demand --costs --capacity --values --strict --json --help" ;;
         "export haproxy") echo "--settings --demand --costs --capacity --values --into --regions --elsewhere --listen --certificate --trusted --watch --socket --proxy --reserve --help" ;;
         "fleet demand") echo "--regions --into --output --keep --format --regex --client --handle --path --from --to --busiest-hour --time --prefix --elsewhere --by --workers --scheduler --tls-ca --tls-cert --tls-key --installed --patience --help" ;;
         "fleet dispatch") echo "--fronts --plan --workers --scheduler --tls-ca --tls-cert --tls-key --installed --patience --help" ;;
+        "forecast") echo "--regions --jobs --format --regex --client --handle --path --from --to --busiest-hour --time --prefix --elsewhere --by --help" ;;
         "grow") echo "--settings --demand --costs --capacity --values --percent --unit --json --help" ;;
         "new") echo "--example --help" ;;
-        "plan") echo "--settings --demand --costs --capacity --values --unit --reserve --near --more --all --output --no-save --csv --json --help" ;;
-        "sites") echo "--into --name --capacity --help" ;;
+        "plan") echo "--settings --demand --costs --capacity --values --unit --reserve --within --near --more --all --output --no-save --csv --json --help" ;;
+        "sites") echo "--into --name --capacity --update --remove --host --no-save --help" ;;
         "steer") echo "--settings --demand --costs --capacity --values --into --every --period --metrics --once --status --reserve --help" ;;
         "survive") echo "--settings --demand --costs --capacity --values --reserve --near --buy --into --no-save --unit --all --csv --help" ;;
         "view") echo "--settings --demand --costs --capacity --values --before --reserve --more --unit --title --output --help" ;;
         "whatif") echo "--settings --demand --costs --capacity --values --server --lose --cost --times --from --to --points --step --unit --csv --chart --help" ;;
         "where") echo "--json --help" ;;
+        "within") echo "--settings --demand --costs --capacity --values --into --no-save --unit --help" ;;
         "doctor -- locate") echo "--option --servers --settings --values" ;;
         "doctor -- site") echo "--index" ;;
         "doctor -- plan") echo "--settings --demand --costs --capacity --values" ;;
@@ -43,9 +47,11 @@ _hsp_options() {
 _hsp_values() {
     case $1 in
         "sites --capacity") echo - ;;
-        *" --settings" | *" --costs" | *" --capacity" | *" --values" | *" --output" | *" -o" | *" --regions" | *" --log" | *" --demand" | *" --certificate" | *" --socket" | *" --tls-ca" | *" --tls-cert" | *" --tls-key" | *" --plan" | *" --near" | *" --metrics" | *" --chart" | *" --prices") echo -f ;;
-        *" --reserve" | *" --unit" | *" --jobs" | *" --regex" | *" --client" | *" --handle" | *" --path" | *" --from" | *" --to" | *" --time" | *" --prefix" | *" --elsewhere" | *" --by" | *" --listen" | *" --trusted" | *" --watch" | *" --keep" | *" --workers" | *" --scheduler" | *" --patience" | *" --fronts" | *" --percent" | *" --name" | *" --every" | *" --period" | *" --title" | *" --server" | *" --lose" | *" --cost" | *" --times" | *" --points" | *" --step" | *" --servers" | *" --index" | *" --front") echo - ;;
         *" --into" | *" --before") echo -d ;;
+        *" --per") echo "-W day hour minute second" ;;
+        *" --seconds" | *" --below" | *" --share" | *" --site" | *" --regex" | *" --by" | *" --elsewhere" | *" --percentile" | *" --reserve" | *" --unit" | *" --jobs" | *" --client" | *" --handle" | *" --path" | *" --from" | *" --to" | *" --time" | *" --prefix" | *" --listen" | *" --trusted" | *" --watch" | *" --keep" | *" --workers" | *" --scheduler" | *" --patience" | *" --fronts" | *" --percent" | *" --within" | *" --name" | *" --remove" | *" --host" | *" --every" | *" --period" | *" --title" | *" --server" | *" --lose" | *" --cost" | *" --times" | *" --points" | *" --step" | *" --servers" | *" --index" | *" --front") echo - ;;
+        *" --duration") echo "-W us ms s" ;;
+        *" --regions" | *" --by-distance" | *" --settings" | *" --costs" | *" --capacity" | *" --values" | *" --output" | *" -o" | *" --log" | *" --demand" | *" --certificate" | *" --socket" | *" --tls-ca" | *" --tls-cert" | *" --tls-key" | *" --plan" | *" --near" | *" --metrics" | *" --chart" | *" --prices") echo -f ;;
         *" --format") echo "-W auto server proxy json csv httplog" ;;
         *" --option") echo "-W na local handle" ;;
         *" --kind") echo "-W load region shortage" ;;
@@ -65,6 +71,7 @@ _hsp_words() {
         "survive") echo -d ;;
         "view") echo -d ;;
         "whatif") echo -d ;;
+        "within") echo -d ;;
         *) echo -f ;;
     esac
 }

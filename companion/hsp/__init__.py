@@ -1,3 +1,3 @@
 """hsp shows and explains the load plans of Handle System services. It asks hsplan for every rule."""
 
-__version__ = "2.0.0"
+__version__ = "2.1.0"

@@ -490,10 +490,10 @@ def test_counts_that_were_put_into_files_are_one_log() -> None:
 
 
 def test_a_log_is_refused_that_hsplan_stream_refuses(tmp_path: Path) -> None:
-    """As with 65 regions, of which it takes 64, and with a region that is no name."""
-    for name, said in (("r", "log: TooManyRegions row 64; join networks to at most 64 regions"), ("é", "BadName")):
+    """As with 4,097 regions, of which it takes 4,096, and with a region that is no name."""
+    for name, said in (("r", "log: TooManyRegions row 4096; join networks to at most 4,096 regions"), ("é", "BadName")):
         tally = Tally(Programs())
-        tally.count({(f"{name}{at}".encode(), b"20.1/a"): 1_000_001 for at in range(65)})
+        tally.count({(f"{name}{at}".encode(), b"20.1/a"): 1_000_001 for at in range(4_097)})
         with pytest.raises(Exception, match=f"hsplan-stream refuses this demand: .*{said}"):
             tally.demand()
 

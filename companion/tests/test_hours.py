@@ -98,7 +98,7 @@ def test_each_hour_has_its_day_with_most_queries(tmp_path: Path, name: str, word
     (tmp_path / "s").mkdir()
     said = invoke(*words, "--into", tmp_path / "s", "--by", word).stdout
     wanted = chosen_of(rows, word)
-    assert {path.name for path in (tmp_path / "s").iterdir()} == {"demand.csv", *wanted}
+    assert {path.name for path in (tmp_path / "s").iterdir()} == {"demand.csv", "hsp.toml", *wanted}
     kept = [row for queries in wanted.values() for row in queries]
     order = sorted(pairs(kept).items(), key=lambda own: (-own[1], own[0]))
     for folder, queries in wanted.items():

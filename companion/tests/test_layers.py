@@ -8,7 +8,7 @@ from pathlib import Path
 
 PACKAGE = Path(__file__).resolve().parents[1] / "hsp"
 # Each package imports itself and those before it.
-LAYERS = ["base", "plans", "intake", "doctor", "scenarios", "proxy", "fleet", "commands", "cli", "__main__"]
+LAYERS = ["base", "plans", "intake", "measures", "doctor", "scenarios", "proxy", "fleet", "commands", "cli", "__main__"]
 
 
 def modules() -> dict[str, Path]:

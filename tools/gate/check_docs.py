@@ -216,8 +216,9 @@ def unmarked() -> Found:
 
 def fault_words() -> list[str]:
     """The words that the line of a fault may have, from the sources."""
-    sources = [f"crates/hsp_runs/src/{it}" for it in ("fault_text.rt", "fault_words.rt", "verdict_text.rt")]
-    sources += ["crates/hsp_stream/src/fault_text.rt", "crates/hsp_price_runs/src/verdict_text.rt"]
+    texts = ("fault_text.rt", "fault_words.rt", "price_reason.rt", "stream_fault_text.rt")
+    sources = [f"crates/hsp_inputs/src/{it}" for it in texts]
+    sources += [f"crates/{it}/src/verdict_text.rt" for it in ("hsp_runs", "hsp_price_runs")]
     found = [word for it in sources for word in re.findall(r'b"(?:\d+ )?([A-Z][A-Za-z0-9]+)', programs.text_of(it))]
     return sorted(set(found) | {"Usage", "read failed", "write failed"})
 

@@ -34,7 +34,8 @@ RUNS = os.path.join(programs.TOP, "crates", "hsp_runs")
 # How many words of definitions and clauses are read in a minute.
 RATE = 130
 LOGS, RUNS_OVER_LOGS, LAWS = (f"Rattle.hsp_runs.specs.{it}" for it in ("Logs", "Dispatch", "Laws"))
-HEADLINE, PAGE_LAWS = (f"Rattle.hsp_runs.specs.{it}" for it in ("Headline", "HeadlineLaws"))
+HEADLINE, PAGE_LAWS = (f"Rattle.hsp_inputs.specs.{it}" for it in ("Headline", "HeadlineLaws"))
+SHOWN = "Rattle.hsp_runs.specs.Shown"
 # The calls of the headline, and their clauses that are of the page: without the order of faults.
 CALLS = (
     ("plan.rt", "plan_run", ("shows", "always")),
@@ -48,7 +49,7 @@ PARTS = (
     ("Which inputs define which instance", ((HEADLINE, "Defines"),)),
     (
         "What a certificate shows of it, and that there always is one",
-        tuple((HEADLINE, it) for it in ("ShowsOf", "PlansAlways", "SaysYesAlways")),
+        tuple((SHOWN, it) for it in ("ShowsOf", "PlansAlways", "SaysYesAlways")),
     ),
     (
         "What logs show of it, and that they are always answered",
@@ -82,11 +83,13 @@ PARTS = (
 )
 # The files of the page in reading order, and what each is.
 FILES = (
-    ("Headline.antt", "the page"),
-    ("Shown.antt", "what a certificate shows"),
-    ("Logs.antt", "what logs show"),
-    ("Stated.antt", "how documents and tables state their rows"),
+    ("hsp_inputs", "Headline.antt", "the page"),
+    ("hsp_runs", "Shown.antt", "what a certificate shows"),
+    ("hsp_runs", "Logs.antt", "what logs show"),
+    ("hsp_inputs", "Stated.antt", "how documents and tables state their rows"),
 )
+# How many of them are read before the calls.
+FIRST = 2
 # What an auditor asks, the file that answers it, and the words of the answer in that file.
 QUESTIONS = (
     ("May two sites have one name?", "Headline.antt", "pub names : IsDistinct"),
@@ -94,8 +97,8 @@ QUESTIONS = (
     ("To which sites may a region's queries go, and at what cost?", "Headline.antt", "pub cost : Contains costs"),
     ("To which server of a site does a row's handle go?", "Headline.antt", "number_at sites arc.site (server_place"),
     ("Is a site's server without a row of capacity let in?", "Headline.antt", "× Contains capacities (record {"),
-    ("May `plan` refuse inputs that define an instance?", "Headline.antt", "PlansAlways inputs answer ="),
-    ("May `check` refuse a certificate that holds?", "Headline.antt", "SaysYesAlways inputs octets answer ="),
+    ("May `plan` refuse inputs that define an instance?", "Shown.antt", "PlansAlways inputs answer ="),
+    ("May `check` refuse a certificate that holds?", "Shown.antt", "SaysYesAlways inputs octets answer ="),
     ("What does the text of a plan show of cheaper plans?", "Shown.antt", "pub best : Best n"),
     ("What must hold of each price in the text?", "Shown.antt", "pub prices : Prices n"),
     (
@@ -184,18 +187,19 @@ def promised(file: str, call: str, names: tuple[str, ...]) -> list[str]:
 
 def page_file(name: str) -> str:
     """Where a file of the page stands."""
-    return os.path.join(RUNS, "specs", name)
+    crate = next(it for it, file, _ in FILES if file == name)
+    return os.path.join(programs.TOP, "crates", crate, "specs", name)
 
 
 def figures() -> list[str]:
     """How many words the page and the clauses of the calls have, and how long it takes to read them."""
     lines, total = [f"At {RATE} words a minute:", "", "| Read | Lines | Words | Minutes |", "|---|---|---|---|"], 0
-    for name, what in FILES:
+    for at, (_, name, what) in enumerate(FILES, 1):
         text = Path(page_file(name)).read_text("utf-8").rstrip("\n").split("\n")
         words = words_in(text)
         total += words
         lines.append(f"| `{name}`, {what} | {len(text)} | {words} | {words / RATE:.1f} |")
-        if name == FILES[0][0]:
+        if at == FIRST:
             heads = [line for call in CALLS for line in promised(*call)]
             words = words_in(heads)
             total += words

@@ -39,9 +39,11 @@ ROWS = {
     "sites": "MOST_SITES",
     "servers of a site, and of all sites together": "MOST_SERVERS",
     "hosts": "MOST_HOSTS",
-    "regions in one table, or in a log of `plan`, `check` or `report`": "MOST_REGIONS",
+    "regions in one table": "MOST_REGIONS",
+    "regions in a log of `hsplan-stream`, and in the costs beside it": "MOST_LOG_REGIONS",
     "rows of the demand": "MOST_DEMAND_ROWS",
     "rows of the costs": "MOST_COST_ROWS",
+    "rows of the costs beside a log of `hsplan-stream`": "MOST_LOG_COST_ROWS",
     "rows of the capacities": "MOST_CAPACITY_ROWS",
     "count of a row, cost of a query": "GREATEST_COUNT GREATEST_COST",
     "capacity of a server": "GREATEST_CAPACITY",
@@ -197,7 +199,7 @@ def _kind(parameter: click.Parameter) -> str:
     if isinstance(parameter.type, click.Path):
         return FILE if parameter.type.file_okay else FOLDER
     metavar = parameter.metavar or ""
-    return FILE if re.search(r"\b(FILE|LOG)\b", metavar) else OTHER
+    return FILE if re.search(r"\b(FILE|LOG|SOURCE)\b", metavar) else OTHER
 
 
 def _of_click(path: str, command: click.Command) -> Command:

@@ -5,7 +5,8 @@ absent.
     tools/lib/packages.py
 
 The companion and its tests need some of them: where one of these stays absent, the script fails. By the others more is
-tried: completions in further shells, manual pages by a further formatter, the package in a fresh Debian.
+tried: completions in further shells, manual pages by a further formatter, the package in a fresh Debian, and what hsp
+reads of the tools that write it.
 """
 from __future__ import annotations
 
@@ -19,7 +20,7 @@ NEEDED = (
     "python3-click python3-distributed python3-hypothesis python3-jinja2 python3-maxminddb python3-pil "
     "python3-pytest python3-pytest-xdist python3-scipy python3-selenium xz-utils"
 ).split()
-WANTED = "dash debootstrap fish lintian mandoc zsh".split()
+WANTED = "apache2-bin dash debootstrap fish fping lintian mandoc nghttp2-client nginx-light rrdtool wrk zsh".split()
 
 
 def absent(names: list[str]) -> list[str]:

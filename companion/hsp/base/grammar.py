@@ -117,10 +117,14 @@ MOST_SERVERS = 1_024
 MOST_HOSTS = 1_024
 # The greatest number of regions that the rows of one table may name.
 MOST_REGIONS = 64
+# The greatest number of regions that the rows of a log may name, and a table of costs beside a log.
+MOST_LOG_REGIONS = 4_096
 # The greatest number of rows in the table of demand.
 MOST_DEMAND_ROWS = 8_192
 # The greatest number of rows in the table of costs.
 MOST_COST_ROWS = 2_048
+# The greatest number of rows in a table of costs beside a log.
+MOST_LOG_COST_ROWS = 131_072
 # The greatest number of rows in the table of capacities.
 MOST_CAPACITY_ROWS = 1_024
 # The greatest number of rows in a log.

@@ -54,6 +54,21 @@ def queries_of(number: int) -> str:
     return some(number, "query", "queries")
 
 
+# How long a time of a name is, in seconds.
+PERIODS = {"day": 86_400, "hour": 3600, "minute": 60, "second": 1}
+
+
+def duration(seconds: int) -> str:
+    """A length of time in the two largest units that it has: `1 hour`, `2 days and 3 hours`."""
+    words: list[str] = []
+    left = seconds
+    for name, own in PERIODS.items():
+        if left >= own and len(words) < 2:
+            words.append(some(left // own, name))
+            left %= own
+    return " and ".join(words) or "0 seconds"
+
+
 def listed(words: Iterable[str], most: int = 4) -> str:
     """Words in a list, of which the last ones are only counted where there are more than `most`."""
     shown = list(words)

@@ -6,7 +6,9 @@ A command refuses an empty path, and what does nothing, in one line, with status
 from __future__ import annotations
 
 import functools
+import re
 from collections.abc import Callable
+from fractions import Fraction
 from typing import Any, TypeVar, cast
 
 import click
@@ -26,6 +28,24 @@ class PathName(click.Path):
         return super().convert(value, param, context)
 
 
+class Percent(click.ParamType):
+    """A part in percent, as an exact number, within bounds that some words say."""
+
+    name = "percent"
+
+    def __init__(self, is_within: Callable[[Fraction], bool], words: str) -> None:
+        self._is_within, self._words = is_within, words
+
+    def convert(self, value: Any, param: click.Parameter | None, context: click.Context | None) -> Fraction:
+        if isinstance(value, Fraction):
+            return value
+        part = Fraction(value) / 100 if re.fullmatch(r"[0-9]{1,3}(\.[0-9]{1,9})?", str(value)) else None
+        if part is None or not self._is_within(part):
+            self.fail(f"'{value}' is no part {self._words}", param, context)
+        return part
+
+
+PERCENTILE = Percent(lambda part: 0 < part <= 1, "above 0 and up to 100, such as 50 or 99.9")
 # A file that the command opens itself, and says why where it can't.
 ANY_FILE = PathName(readable=False)
 
@@ -74,4 +94,16 @@ def apart(option: str, other: str, why: str) -> Callable[[Run], Run]:
     return _before(lambda there: line if there.issuperset((option, other)) else "")
 
 
-__all__ = ["ANY_FILE", "LINES", "PathName", "Run", "apart", "given", "idle", "is_word", "needs"]
+__all__ = [
+    "ANY_FILE",
+    "LINES",
+    "PERCENTILE",
+    "PathName",
+    "Percent",
+    "Run",
+    "apart",
+    "given",
+    "idle",
+    "is_word",
+    "needs",
+]

@@ -43,9 +43,10 @@ from hsp.scenarios.in_force import PLAN, files_beside
 from hsp.scenarios.judged import Judged
 from hsp.scenarios.near_plan import Near, near_plan
 from hsp.scenarios.reserve import RESERVE, reserved
+from hsp.scenarios.within import WITHIN, bounded
 
 # The options of `hsp plan` beside those for other files.
-PLAN_WORDS = ("unit", "reserve", "near", "more", "every", "output", "no_save", "as_csv", "as_json")
+PLAN_WORDS = ("unit", "reserve", "within", "near", "more", "every", "output", "no_save", "as_csv", "as_json")
 
 
 def shares_of(plan: Planned) -> list[tuple[str, str, int, float]]:
@@ -163,6 +164,7 @@ def keep(service: Service, path: str, near: Near | None) -> list[str]:
 @with_files
 @click.option("--unit", help="of costs, such as ms")
 @RESERVE
+@WITHIN
 @click.option(
     "--near",
     metavar="OLD",
@@ -177,6 +179,7 @@ def keep(service: Service, path: str, near: Near | None) -> list[str]:
 @click.option("--json", "as_json", is_flag=True, help="the same sums for other programs")
 @apart("--csv", "--json", "each takes the place of the lines")
 @apart("-o", "--no-save", "no certificate is kept")
+@apart("--within", "--near", "a plan near another one has all of its costs")
 @idle("--more", "--csv", why="the table has shares only")
 @idle("--all", "--csv", why=LINES)
 @idle("--all", "--json", why="JSON has all of them")
@@ -192,7 +195,8 @@ def plan(folder: str, **given: Any) -> None:
     refuse_clashes([*read_in(folder, given), *beside], [] if said.no_save else [path])
     programs, judged = Programs(), Judged() if said.near else None
     programs.hold(beside)
-    service = reserved(sound(folder, programs, given, cost=said.unit), said.reserve, programs)
+    service = bounded(sound(folder, programs, given, cost=said.unit), said.within, programs)
+    service = reserved(service, said.reserve, programs)
     if not service.certificate.is_plan:
         show_shortage(service, programs, said.as_json)
     near = near_plan(said.near, service, judged) if judged else None

@@ -27,7 +27,7 @@ from hsp.doctor.toml_places import value_of
 from hsp.plans.answering import less_reserve
 from hsp.plans.proxied import PROXY, PROXY_KEYS, proxied_of
 from hsp.plans.service import ACCEPT, NAMES, TITLE_KEYS, VALUES, Service, dotted, is_of_hour, newer_than
-from hsp.plans.titles import TITLES
+from hsp.plans.titles import SECONDS, TITLES
 
 # A demand beyond so many times all capacity, or a capacity beyond so many times the demand, has likely another unit.
 FAR_ABOVE, FAR_BELOW = 10, 1000
@@ -432,7 +432,7 @@ def titles(read: Read) -> None:
         return
     text = read_text(path)
     said = tomllib.loads(decoded(text.octets))
-    whole = (*TITLE_KEYS, ACCEPT, PROXY)
+    whole = (*TITLE_KEYS, SECONDS, ACCEPT, PROXY)
     own_proxy = said.get(PROXY, {})
     proxied = own_proxy if isinstance(own_proxy, dict) else {}
     for own, known in ((said, whole), (proxied, PROXY_KEYS)):

@@ -56,10 +56,11 @@ def next_step(service: Service, programs: Programs) -> str:
         command = f"hsp demand LOG.. --regions FILE --into {shell_word(service.folder)}"
         return step(command, "counts the queries of access logs, by a table network,region")
     if not {region for region, _ in service.costs} & set(service.regions):
-        example = f"{service.regions[0]},{service.sites[0].name},N"
-        return step(NAMES["costs"], f"has no cost of {listed(service.regions, 6)} yet: write rows as {example}")
+        command = f"hsp costs SOURCE.. --into {shell_word(service.folder)}"
+        return step(command, f"writes costs of {listed(service.regions, 6)}, from pings or a log with response times")
     if not any(service.capacities.values()):
-        return step(NAMES["capacity"], "has only servers that take 0: write what each takes")
+        command = f"hsp capacity SITE=N.. --into {shell_word(service.folder)}"
+        return step(command, "writes what each server takes, from numbers, load tests or logs: all take 0")
     path = os.path.join(service.folder, "plan.txt")
     if not os.path.isfile(path):
         return step(f"hsp plan{at}", "plans, and keeps the plan in plan.txt")

@@ -18,7 +18,7 @@ from hsp.base.grammar import (
     LOG_HEADERS,
     LONGEST_HANDLE,
     LONGEST_NAME,
-    MOST_REGIONS,
+    MOST_LOG_REGIONS,
     NAME_RULE,
     NAME_SIGNS,
 )
@@ -441,9 +441,9 @@ def bad_front(faulty: Faulty) -> Words:
 def too_many_regions(faulty: Faulty) -> Words:
     why, remedy = (
         "a region for each network or country",
-        f"join networks under at most {MOST_REGIONS} names of regions",
+        f"join networks under at most {MOST_LOG_REGIONS:,} names of regions",
     )
-    message = f"{quoted(faulty.fields[0])} is the {MOST_REGIONS + 1}th region"
+    message = f"{quoted(faulty.fields[0])} is the {MOST_LOG_REGIONS + 1:,}th region"
     return Words(message, remedy, why, group=f"TooManyRegions {why}")
 
 

@@ -25,6 +25,7 @@ from hsp.intake.bring import (
     FOLDER,
     form_of,
     give_demand,
+    folder_of,
     of_folder,
     output_of,
     refuse_field,
@@ -37,6 +38,7 @@ from hsp.intake.bring import (
     with_forms,
     without_costs,
     write_demand,
+    stale_lines,
 )
 from hsp.intake.queries import Judge, Reading
 from hsp.intake.regions import regions_in
@@ -125,7 +127,8 @@ def demand(logs: tuple[str, ...], regions: str, into: str | None, keep: str | No
     seek = regions_in(regions, given["by"], given["elsewhere"], programs)
     reading, tally = Reading(form, seek, Judge(programs)), Tally(programs)
     say_twice([log.path for log in named if not log.host])
-    of_folder(into, output)  # what can't be written is refused before logs are read, which takes long
+    own_folder = folder_of(into, output)
+    of_folder(own_folder)  # what can't be written is refused before logs are read, which takes long
     asked = {"form": fields_of_form(form), "by": given["by"], "elsewhere": given["elsewhere"], "span": astuple(span)}
     files = {"networks": whole(regions), **kit.programs(), "hsp.zip": kit.companion()}
     targets: Targets = [(log.kept, log.host) for log in named]
@@ -140,9 +143,10 @@ def demand(logs: tuple[str, ...], regions: str, into: str | None, keep: str | No
         with locked(os.path.dirname(os.path.realpath(path)) for path in [output] if path):
             if output:
                 with together() as outputs:
-                    write_demand(found, output, into, outputs)
+                    write_demand(found, output, own_folder, outputs)
             engine.publish([(log.kept, head, host) for log, head, host in zip(named, heads, hosts) if log.kept])
     if not output:
         give_demand(found)
-    for line in [*summary(logs, reading, tally, not given["prefix"]), *rows_lines(output, found), *lacking]:
+    rows = [*rows_lines(output, found), *stale_lines(own_folder, 0)]
+    for line in [*summary(logs, reading, tally, not given["prefix"]), *rows, *lacking]:
         say(line, err=output is None)

@@ -16,28 +16,31 @@ from hsp.base.bounds import whole
 from hsp.base.files import Outputs, create, locked, refuse_clashes, replace_all, together
 from hsp.base.grammar import GREATEST_CAPACITY, LOG_HEAD
 from hsp.base.numbers import listed, some
-from hsp.base.options import ANY_FILE, PathName, apart, idle
+from hsp.base.options import ANY_FILE, PERCENTILE, PathName, apart, idle
 from hsp.base.options import given as words_given
 from hsp.base.paths import path_in, shell_word
 from hsp.base.programs import Programs
 from hsp.base.text import give, is_utf8, say, show_progress
 from hsp.base.unfit import Unfit
 from hsp.intake import skeleton
+from hsp.intake.changing import Changed, limit, moved_lines, planned, remove, update
 from hsp.intake.busiest import busiest_hour, refuse_pipes
 from hsp.intake.forms import NAMES as FORMS
 from hsp.intake.forms import Form, within
 from hsp.intake.hour_folders import folders_of, in_folders, tables_in, write_hours
 from hsp.intake.hour_tally import HourTally
-from hsp.intake.hours import CYCLES, Chosen, Cycle, chosen
+from hsp.intake.hours import CYCLES, Chosen, Cycle, asked_by_hour, chosen_of
 from hsp.intake.joining import block, capacity_rows, joined, lines_of, read_back
+from hsp.intake.lasting import clock_lines, lasting, twice_lines
 from hsp.intake.progress import Gauge, Progress
 from hsp.intake.queries import Judge, Reading
 from hsp.intake.regions import is_table, regions_in
 from hsp.intake.side_by_side import MOST_JOBS, parts_of
 from hsp.intake.sitefiles import Files, Found
 from hsp.intake.tally import Demand, Tally
-from hsp.intake.times import FIRST, LAST, Span, iso_seconds
-from hsp.plans.titles import TITLES, uncounted
+from hsp.intake.usual import usual_of
+from hsp.intake.times import FIRST, HOUR, LAST, Span, iso_seconds
+from hsp.plans.titles import SECONDS, TITLES, noted_time, seconds_of, uncounted
 from hsp.plans.service import NAMES, VALUES
 
 FOLDER = PathName(exists=True, file_okay=False)
@@ -93,22 +96,65 @@ def gathered(paths: tuple[str, ...], names: tuple[str, ...], files: Files) -> li
     return named
 
 
+def change_sites(paths: tuple[str, ...], into: str, given: dict[str, Any]) -> None:
+    """Changes and removes sites, and gives machines limits. What that does is said before it is written."""
+    programs = Programs()
+    files = Files(programs)
+    found = gathered(paths, given["names"], files)
+    with locked([into]):
+        changed = Changed(into, programs, given["capacity"])
+        update(changed, found)
+        remove(changed, given["remove"])
+        limit(changed, given["host"])
+        notes = files.taken + [f"left out: {left}" for left in files.left]
+        costs = f"plan  {planned(changed, False)} before, {planned(changed, True)} after"
+        for line in [*changed.lines, *moved_lines(changed), costs, *notes]:
+            say(line)
+        if given["no_save"]:
+            say("nothing is written")
+            return
+        replace_all(changed.texts)
+    say(f"{listed(sorted(changed.texts))} {'is' if len(changed.texts) == 1 else 'are'} written")
+
+
 @click.command()
-@click.argument("paths", metavar="FILE..", nargs=-1, required=True, type=ANY_FILE, callback=once)
+@click.argument("paths", metavar="[FILE]..", nargs=-1, type=ANY_FILE, callback=once)
 @click.option("--into", metavar="DIR", type=FOLDER, help="the folder that they are added to")
 @click.option("--name", "names", metavar="NAME", multiple=True, help="of the first site, the second, and so on")
 @click.option(
     "--capacity", default=0, show_default=True, type=click.IntRange(0, GREATEST_CAPACITY), help="of each server"
 )
-def sites(paths: tuple[str, ...], into: str | None, names: tuple[str, ...], capacity: int) -> None:
+@click.option("--update", "is_update", is_flag=True, help="give sites that are there the records of the files")
+@click.option("--remove", metavar="SITE", multiple=True, help="take a site away")
+@click.option("--host", metavar="ADDRESS=N", multiple=True, help="what the servers at an address take together")
+@click.option("--no-save", is_flag=True, help="only say what a change does")
+def sites(paths: tuple[str, ...], into: str | None, is_update: bool, **given: Any) -> None:
     """Turns site information into the settings of a service.
 
     A FILE is a handle proxy's answer in JSON, a server's siteinfo.json or siteinfo.bin, a record in hexadecimal
     digits or base64, or a value list; - is standard input. Without --into the blocks are printed, and no file is
-    written.
+    written. With --update, --remove or --host it is said first which share of the handles gets another server, and
+    what the plan costs before and after.
     """
+    is_change = is_update or given["remove"] or given["host"]
+    if is_change and not into or given["no_save"] and not is_change:
+        raise click.UsageError(
+            "--update, --remove, --host and --no-save are of changes in a folder: give --into DIR too"
+        )
+    if not paths and (is_update or not is_change):
+        raise click.UsageError("Missing argument '[FILE]..'")
+    if paths and is_change and not is_update:
+        raise click.UsageError("files with --remove or --host need --update")
     if into:
         refuse_clashes(paths, [path_in(into, NAMES[role]) for role in ("settings", "capacity")])
+    if is_change and into:
+        change_sites(paths, into, given)
+    else:
+        add_sites(paths, into, given["names"], given["capacity"])
+
+
+def add_sites(paths: tuple[str, ...], into: str | None, names: tuple[str, ...], capacity: int) -> None:
+    """Adds sites to a folder, or prints their blocks."""
     programs = Programs()
     files = Files(programs)
     found = gathered(paths, names, files)
@@ -191,15 +237,6 @@ def span_of(given: dict[str, Any]) -> Span:
     return span
 
 
-def skipped_lines(reading: Reading) -> list[str]:
-    """How many lines were passed over, why, and where the first one of each reason stands."""
-    if not reading.skipped.counts:
-        return []
-    counts = sorted(reading.skipped.counts.items(), key=lambda pair: (-pair[1], pair[0]))
-    lines = [f"  {count:,}  {reason}; first {reading.skipped.first[reason]}" for reason, count in counts]
-    return [f"skipped {some(reading.skipped.sum, 'line')}", *lines]
-
-
 def without_costs(tally: Tally, into: str | None) -> list[str]:
     """Says which regions have no cost yet in the folder's table of costs, where it has one."""
     costs = path_in(into, NAMES["costs"]) if into else ""
@@ -208,16 +245,8 @@ def without_costs(tally: Tally, into: str | None) -> list[str]:
 
 
 def say_twice(paths: Sequence[str]) -> None:
-    """Names the files that are given twice, by one path or by two."""
-    seen: dict[tuple[int, int], str] = {}
-    for path in paths:
-        if not os.path.isfile(path):
-            continue
-        found = os.stat(path)
-        first = seen.setdefault((found.st_dev, found.st_ino), path)
-        if first is not path:
-            what = f"{path} is given twice" if first == path else f"{first} and {path} are one file"
-            say(f"hsp: {what}: its queries count twice", err=True)
+    for line in twice_lines(paths):
+        say(f"hsp: {line}", err=True)
 
 
 def counted(logs: tuple[str, ...], reading: Reading, tally: Tally, into: Any) -> None:
@@ -234,26 +263,31 @@ def counted(logs: tuple[str, ...], reading: Reading, tally: Tally, into: Any) ->
     some_in(logs, reading, tally.asked > 0)
 
 
-def by_time(logs: tuple[str, ...], reading: Reading, given: dict[str, Any]) -> list[str]:
-    """Has only the lines of the wanted time counted. Returns which hour that is, where it was found here."""
-    span, lines = span_of(given), []
+def by_time(logs: tuple[str, ...], reading: Reading, given: dict[str, Any]) -> tuple[list[str], int]:
+    """Has only the lines of the wanted time counted. Returns which hour that is, and how many seconds of it the logs
+    have, where it was found here."""
+    span, lines, seconds = span_of(given), list[str](), 0
     if given["busiest_hour"]:
         refuse_pipes(logs, "--busiest-hour")
-        span, first, line = busiest_hour(logs, reading, span)
-        some_in(logs, first, bool(line))
+        found, first = busiest_hour(logs, reading, span)
+        some_in(logs, first, found is not None)
+        assert found
         reading.lines, reading.octets = first.lines, first.octets
-        lines.append(line)
+        span, lines, seconds = found
     reading.tag = None if span.is_all else within(span)
-    return lines
+    return lines, seconds
 
 
 def by_hours(logs: tuple[str, ...], reading: Reading, given: dict[str, Any], cycle: Cycle) -> Chosen:
-    """Has each hour of a cycle counted on the day with most queries in it, and returns which hours these are."""
+    """Has each hour of a cycle counted on the day with most queries in it, or on all of them where a part or the mean
+    of these is wanted. Returns which hours these are."""
     span = span_of(given)
     refuse_pipes(logs, f"--by {cycle.word}")
-    found, first = chosen(logs, reading, span, cycle)
-    some_in(logs, first, found is not None)
-    assert found
+    asked, zones, zone, first = asked_by_hour(logs, reading, span)
+    some_in(logs, first, bool(asked))
+    found = chosen_of(cycle, asked, zones, zone)
+    if given["percentile"] or given["mean"]:
+        found = usual_of(found, asked, given["percentile"])
     reading.lines, reading.octets, reading.tag = first.lines, first.octets, found.tag(span)
     return found
 
@@ -262,7 +296,7 @@ def some_in(logs: tuple[str, ...], reading: Reading, is_some: bool) -> None:
     """Refuses logs that have no query."""
     if not is_some:
         none = "it has no line" if len(logs) == 1 else "they have no line"
-        first = (skipped_lines(reading) + ["", none])[1].strip()
+        first = (reading.skipped.lines() + ["", none])[1].strip()
         raise Unfit(f"no query is in {listed(logs)}: {first}")
 
 
@@ -273,7 +307,7 @@ def summary(logs: tuple[str, ...], reading: Reading, tally: Tally, of_any_prefix
     asked = some(tally.asked, "query", "queries")
     lines = some(tally.asked + reading.skipped.sum, "line")
     first = f"{some(len(logs), 'log')}, {lines}: {asked} of {regions}{handles}"
-    return [first, *skipped_lines(reading), *(tally.prefixes.lines() if of_any_prefix else [])]
+    return [first, *reading.skipped.lines(), *(tally.prefixes.lines() if of_any_prefix else [])]
 
 
 def rows_lines(output: str | None, own: Demand) -> list[str]:
@@ -290,10 +324,24 @@ def hours_lines(found: Chosen, folders: list[str], output: str | None, own: Dema
     return [first, f"{output} has the rows of {found.cycle.names[found.busiest]} that aren't 0", *lines]
 
 
-def of_folder(folder: str | None, output: str | None) -> dict[str, bytes]:
-    """The folder's hsp.toml without a table of the demand before it, where its own demand is written."""
-    own = path_in(folder, NAMES["demand"]) if folder else ""
-    return uncounted(folder) if folder and output and os.path.realpath(own) == os.path.realpath(output) else {}
+def folder_of(into: str | None, output: str | None) -> str | None:
+    """The folder whose own demand is written."""
+    is_own = into and output and os.path.realpath(path_in(into, NAMES["demand"])) == os.path.realpath(output)
+    return into if is_own else None
+
+
+def of_folder(folder: str | None) -> dict[str, bytes]:
+    """The hsp.toml of a folder without a table of the demand before it."""
+    return uncounted(folder) if folder else {}
+
+
+def stale_lines(folder: str | None, seconds: int) -> list[str]:
+    """Names a length of time that hsp.toml has of another demand, where that of this one isn't known."""
+    noted = seconds_of(folder) if folder and not seconds else None
+    if not folder or noted is None:
+        return []
+    remedy = "write how long the time of this one is"
+    return [f"{path_in(folder, TITLES)} has {SECONDS} = {noted} of another demand: {remedy}"]
 
 
 def give_demand(own: Demand) -> None:
@@ -302,12 +350,16 @@ def give_demand(own: Demand) -> None:
         give(piece)
 
 
-def write_demand(own: Demand, output: str, into: str | None, files: Outputs) -> None:
-    """Writes a demand, and the folder's hsp.toml where that tells of another one."""
+def write_demand(own: Demand, output: str, folder: str | None, files: Outputs, seconds: int = 0) -> None:
+    """Writes a demand, and the hsp.toml of the folder whose own it is: without what that says of another one, and with
+    how long this one counts."""
     file = files.open(output)
     for piece in own.pieces():
         file.write(piece)
-    for path, octets in of_folder(into, output).items():
+    texts = of_folder(folder)
+    if folder and seconds:
+        texts |= noted_time(folder, seconds, texts)
+    for path, octets in texts.items():
         files.open(path).write(octets)
 
 
@@ -362,6 +414,8 @@ FORM_OPTIONS = [
     click.option("--prefix", metavar="PREFIX", multiple=True, help="count only handles of this prefix"),
     click.option("--elsewhere", metavar="REGION", help="of clients that have no region"),
 ]
+
+
 def with_forms(command: Command, by: Callable[[Any], Any] = OF_DATABASE) -> Command:
     """Adds the options that say how logs are read."""
     command = apart("--handle", "--path", "a line has either a handle or a path")(command)
@@ -408,6 +462,14 @@ def reading_of(logs: tuple[str, ...], regions: str, given: dict[str, Any], progr
     return reading
 
 
+def refuse_cycle(cycle: Cycle | None, kept: str | None, given: dict[str, Any]) -> None:
+    """Refuses what is only of one demand beside one of each hour, and what is only of these without them."""
+    if not cycle and (given["percentile"] or given["mean"]):
+        raise click.UsageError("--percentile and --mean are of hours that come again: give --by hour or weekday-hour")
+    if cycle and (kept or given["busiest_hour"]):
+        raise click.UsageError(f"--log and --busiest-hour are of one demand, and --by {cycle.word} makes many")
+
+
 @click.command()
 @click.argument(
     "logs",
@@ -424,7 +486,12 @@ def reading_of(logs: tuple[str, ...], regions: str, given: dict[str, Any], progr
 @click.option("-o", "--output", metavar="FILE", type=ANY_FILE, help="the demand, in place of DIR/demand.csv")
 @click.option("--log", "kept", metavar="FILE", type=ANY_FILE, help="also the queries, as a log for hsplan dispatch")
 @click.option("--jobs", type=click.IntRange(1, MOST_JOBS), metavar="N", help=JOBS)
+@click.option(
+    "--percentile", metavar="P", type=PERCENTILE, help="of --by: what so many % of the days or weeks stay below"
+)
+@click.option("--mean", is_flag=True, help="of --by: the mean of the days or weeks")
 @with_hours
+@apart("--percentile", "--mean", "an hour has one demand")
 def demand(logs: tuple[str, ...], regions: str, into: str | None, kept: str | None, **given: Any) -> None:
     """Counts the queries of access logs by region and handle.
 
@@ -432,32 +499,37 @@ def demand(logs: tuple[str, ...], regions: str, into: str | None, kept: str | No
     HTTP proxy (proxy), JSON lines (json) or a table (csv). Without --into and -o the demand is printed.
 
     With --by hour or --by weekday-hour each hour has a demand, as DIR/h09/demand.csv or DIR/mon-h09/demand.csv. It has
-    the counts of the day with most queries in this hour. All have the same rows, with 0 where nothing came. Hours are
-    those of one clock: that of the first time in the logs. DIR/demand.csv has the busiest hour.
+    the counts of the day with most queries in this hour. With --percentile P each region asks for what P % of its days,
+    or weeks, stay below, and with --mean for their mean; its rows share that as they did. All have the same rows, with 0
+    where nothing came. Hours are those of one clock: that of the first time in the logs. DIR/demand.csv has the
+    busiest hour.
     """
     programs, by = Programs(), given["by"]
-    if by.cycle and (kept or given["busiest_hour"]):
-        raise click.UsageError(f"--log and --busiest-hour are of one demand, and --by {by.cycle.word} makes many")
+    refuse_cycle(by.cycle, kept, given)
     output, folders = output_of(given, into), folders_of(into, by.cycle)
+    own_folder = folder_of(into, output)
     refuse_own(logs, regions, into, [own for own in (output, kept, *tables_in(folders)) if own])
     refuse_clashes([path_in(into, NAMES["demand"])] if into else [], [kept] if kept else [])
     reading = reading_of(logs, regions, given, programs)
-    of_folder(into, output)  # what can't be written is refused before logs are read, which takes long
+    of_folder(own_folder)  # what can't be written is refused before logs are read, which takes long
     say_twice(logs)
     found = by_hours(logs, reading, given, by.cycle) if by.cycle else None
-    lines = found.lines() if found else by_time(logs, reading, given)
+    lines, seconds = (found.lines(), HOUR) if found else by_time(logs, reading, given)
     tally = HourTally(programs, found) if found else Tally(programs)
     with in_folders(folders), together() as files:
         counted(logs, reading, tally, files.open(kept) if kept else None)
         own, lacking = tally.demand(), without_costs(tally, into)
+        if not seconds and (lasts := lasting(reading.times, span_of(given))):
+            lines, seconds = [lasts.line()], lasts.seconds
         if isinstance(tally, HourTally):
             write_hours(tally, folders, files)
         if output:
-            write_demand(own, output, into, files)
+            write_demand(own, output, own_folder, files, seconds)
         else:
             give_demand(own)
-    lines += summary(logs, reading, tally, not given["prefix"])
+    lines += [*clock_lines(reading.times), *summary(logs, reading, tally, not given["prefix"])]
     lines += hours_lines(found, folders, output, own) if found else rows_lines(output, own)
+    lines += stale_lines(own_folder, seconds)
     for line in [*lines, *lacking]:
         say(line, err=output is None)
 

@@ -30,6 +30,7 @@ class HourTally(Tally):
         self._files: list[str | None] = [None] * hours
         self._entries = 0
         self.busiest = chosen.busiest
+        self._scaled = chosen.scaled
         # The octets of the demand of an hour, in pieces of whole rows, as soon as there is a demand.
         self.table: Callable[[int], Iterator[bytes]] = lambda hour: iter(())
 
@@ -76,12 +77,14 @@ class HourTally(Tally):
         order = [pair for pair, _ in most_first(self._counts)]
         tables = [HEADER + b"".join(rows_of((pair, of.get(pair, 0)) for pair in order)) for of in self._hours]
         self._accepted(tables[self.busiest])
-        self.table = lambda hour: iter([tables[hour]])
+        self.table = lambda hour: iter(self._scaled(hour, [tables[hour]]))
         return Demand(len(order), lambda: iter(()))
 
     def _log(self, why: str) -> Demand:
         own = super()._log(why)
-        self.table = lambda hour: _with_zeros(self._spilled or "", _rows_in(self._files[hour]))
+        self.table = lambda hour: iter(
+            self._scaled(hour, _with_zeros(self._spilled or "", _rows_in(self._files[hour])))
+        )
         return own
 
 

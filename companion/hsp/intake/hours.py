@@ -7,15 +7,18 @@ from __future__ import annotations
 
 import datetime
 from collections import Counter
-from collections.abc import Sequence
+from collections.abc import Iterable, Sequence
 from dataclasses import dataclass
 
 from hsp.base.numbers import listed, some
-from hsp.intake.busiest import busiest_line, counted_by
+from hsp.intake.busiest import busiest_line, counted_by, zone_of
 from hsp.intake.forms import OTHER_TIME, Tag
-from hsp.intake.queries import Reading, first_time
+from hsp.intake.queries import Reading
+from hsp.intake.regions import tag_of
 from hsp.intake.times import HOUR, Span, Time, shown_zone
 
+# An hour by its number since 1970, and a region.
+Asked = tuple[int, bytes]
 OTHER_DAY = "a day with fewer queries in this hour"
 DAYS = ("mon", "tue", "wed", "thu", "fri", "sat", "sun")
 OF_DAY = 24
@@ -72,6 +75,10 @@ class Chosen:
 
         return place_of
 
+    def scaled(self, place: int, pieces: Iterable[bytes]) -> Iterable[bytes]:
+        """The rows that were counted for an hour, as its demand has them."""
+        return pieces
+
     @property
     def busiest(self) -> int:
         """The place of the hour with most queries; of hours with the same number the first one's."""
@@ -107,25 +114,34 @@ def _date(day: int) -> str:
     return f"{datetime.date(1970, 1, 1) + datetime.timedelta(days=day)}"
 
 
-def chosen(logs: Sequence[str], reading: Reading, span: Span, cycle: Cycle) -> tuple[Chosen | None, Reading]:
-    """For each hour of a cycle the one with most queries within a span, and what was passed over.
-
-    Of hours with the same number it is the first. None where there is no query.
-    """
-    zone = next(filter(None, (first_time(path, reading) for path in logs)), Time(0)).offset
+def asked_by_hour(
+    logs: Sequence[str], reading: Reading, span: Span
+) -> tuple[Counter[Asked], Counter[int], int, Reading]:
+    """How many queries each hour has of each region, and how many have each zone, by the clock of the zone of the
+    first time; and what was passed over."""
+    zone = zone_of(logs, reading)
 
     def hour_of(time: Time) -> bytes | str:
         return b"%d:%d" % ((time.seconds + zone) // HOUR, time.offset) if span.has(time.seconds) else OTHER_TIME
 
-    tags, first = counted_by(logs, reading, hour_of)
-    queries: Counter[int] = Counter()
+    tags, first = counted_by(logs, reading, hour_of, True)
+    asked: Counter[Asked] = Counter()
     zones: Counter[int] = Counter()
-    for tag, count in tags.items():
+    for tagged, count in tags.items():
+        tag, region = tag_of(tagged)
         number, _, offset = tag.partition(b":")
-        queries[int(number)] += count
+        asked[int(number), region] += count
         zones[int(offset)] += count
+    return asked, zones, zone, first
+
+
+def chosen_of(cycle: Cycle, asked: Counter[Asked], zones: Counter[int], zone: int) -> Chosen:
+    """For each hour of a cycle the one with most queries, by what each hour is asked; of several the first."""
+    queries: Counter[int] = Counter()
+    for (hour, _), count in asked.items():
+        queries[hour] += count
     hours: dict[int, int] = {}
     for hour in sorted(queries, key=lambda own: (queries[own], -own)):
         hours[cycle.place(hour)] = hour
     days = sorted({hour // OF_DAY for hour in queries})
-    return (Chosen(cycle, zone, days, hours, queries, zones) if queries else None), first
+    return Chosen(cycle, zone, days, hours, queries, zones)

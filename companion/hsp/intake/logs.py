@@ -14,6 +14,7 @@ import zlib
 from collections.abc import Callable, Iterable, Iterator
 from typing import IO, Any, NamedTuple, cast
 
+from hsp.base.numbers import some
 from hsp.base.programs import Missing
 from hsp.base.unfit import Unfit, shown
 
@@ -57,6 +58,12 @@ class Skipped:
     @property
     def sum(self) -> int:
         return sum(self.counts.values())
+
+    def lines(self) -> list[str]:
+        """How many lines were passed over, why, and where the first one of each reason stands."""
+        counts = sorted(self.counts.items(), key=lambda pair: (-pair[1], pair[0]))
+        lines = [f"  {count:,}  {reason}; first {self.first[reason]}" for reason, count in counts]
+        return [f"skipped {some(self.sum, 'line')}", *lines] if lines else []
 
 
 class _Streams(io.RawIOBase):

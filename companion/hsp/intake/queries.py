@@ -102,8 +102,12 @@ class Reading:
     tag: Tag | None = None
     # Whether only tags are counted, in place of regions and handles.
     are_tags: bool = False
+    # Whether a region stands behind these tags.
+    with_regions: bool = False
     lines: int = 0
     octets: int = 0
+    # Times of lines of each log, among them those of its first and its last one.
+    times: dict[str, list[Time]] = field(default_factory=dict)
     # So many processes read side by side.
     jobs: int = 1
     # What was found for octets before, in any log.

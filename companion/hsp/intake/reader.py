@@ -6,6 +6,7 @@ once.
 
 from __future__ import annotations
 
+import contextlib
 import io
 import itertools
 import os
@@ -19,6 +20,7 @@ from hsp.base.bounds import MOST_AT_ONCE, Query, weight
 from hsp.intake.columns import ALONE, USUAL, Columns
 from hsp.intake.forms import NO_TIME, ODD, Clock, Form, Odd, Remembered, Take
 from hsp.intake.logs import PIECE, Lines, Piece, Skipped, lines_of, nonempty, numbered
+from hsp.intake.times import Time
 from hsp.intake.queries import SEEN_FIRST, Handles, Reading, clock_of, field_of, form_of, take_of
 
 # So many octets of lines wait until hsplan judges their handles, which is then asked once.
@@ -55,6 +57,8 @@ class Part:
     numbers: int = 0
     octets: int = 0
     is_last: bool = False
+    # The times of its first and its last line, where they have one.
+    times: list[Time] = field(default_factory=list)
 
     def skip(self, reason: str, number: int, line: bytes) -> None:
         own = self.passed.get(reason)
@@ -185,7 +189,8 @@ class Reader:
         if found is None:
             found = region
             if isinstance(tag, bytes) and isinstance(region, bytes) and tag:
-                found = tag if self._reading.are_tags else b"%b %b" % (tag, region)
+                is_bare = self._reading.are_tags and not self._reading.with_regions
+                found = tag if is_bare else b"%b %b" % (tag, region)
             self._tagged[tag, region] = found
         return found
 
@@ -199,6 +204,9 @@ class _Counting:
         # The lines that wait to be judged, and their octets; then those of the part, and what its rows take.
         self._waiting: list[Looked] = []
         self._octets = self._read = self._weight = 0
+        # The first and the last block of the part, and how a time is read of a line, where it has one.
+        self._ends: list[bytes] = []
+        self._clock: Clock | None = None
         # The file, its size, and what was read of it when the last part was passed on.
         self._file: io.BufferedReader | None = None
         self._size, self._at = 0, piece.begin
@@ -232,11 +240,14 @@ class _Counting:
         form = form_of(path, self._reading.form, first)
         take = take_of(path, form, number, line)
         clock = clock_of(path, form, line) if self._reading.tag else None
+        with contextlib.suppress(Odd):
+            self._clock = form.clock(line)
         return Reader(self._reading, form, take, clock), form.name == "csv" and not form.pattern
 
     def _look(self, reader: Reader, lines: Lines) -> None:
         self._part.numbers = lines.number + lines.total - 1
         if lines.text:
+            self._ends = [*self._ends[:1], lines.text]
             self._waiting.append(reader.look(lines))
             self._octets += len(lines.text)
         if not reader.handles.fresh or self._octets >= BATCH_OCTETS:
@@ -285,6 +296,18 @@ class _Counting:
         is_large = len(self._part.counts) > MOST_AT_ONCE or self._weight > OCTETS_OF_PART
         return is_large or self._read >= PIECE
 
+    def _times(self) -> Iterator[Time]:
+        """The times of the first and the last line of the part that have one, among the lines of their blocks."""
+        for block, step in zip((self._ends[:1] + self._ends[-1:]), (1, -1)):
+            lines = block.split(b"\n")[::step][:SEEN_FIRST]
+            yield from itertools.islice(filter(None, map(self._time, filter(None, lines))), 1)
+
+    def _time(self, line: bytes) -> Time | None:
+        try:
+            return self._clock(line) if self._clock else None
+        except Odd:
+            return None
+
     def _here(self) -> int:
         """How many octets of the file were read. It isn't known of a pipe."""
         if not self._file or self._file.closed or not self._file.seekable():
@@ -294,6 +317,8 @@ class _Counting:
     def _passed_on(self) -> Part:
         part, here = self._part, self._here()
         part.octets, self._at = max(0, here - self._at), here
+        part.times = list(self._times())
+        self._ends = []
         self._part, self._read, self._weight = Part(numbers=part.numbers), 0, 0
         return part
 

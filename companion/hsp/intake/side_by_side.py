@@ -230,6 +230,7 @@ def parts_of(logs: Sequence[str], reading: Reading, keeps: bool = False) -> Gene
                 reading.skipped.add(reason, piece.path, before + own.number, own.line, own.count)
             reading.lines += part.lines
             reading.octets += part.octets
+            reading.times.setdefault(piece.path, []).extend(part.times)
             reading.progress(piece.path, reading.lines, reading.octets)
             yield part
             before += part.numbers if part.is_last else 0

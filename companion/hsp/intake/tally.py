@@ -10,7 +10,7 @@ from collections.abc import Callable, Iterable, Iterator, Mapping
 from dataclasses import dataclass
 
 from hsp.base.bounds import MOST_HELD, Query, pieces, weight
-from hsp.base.grammar import GREATEST_COUNT, HEADERS, MOST_DEMAND_ROWS, MOST_REGIONS, NAME_RULE
+from hsp.base.grammar import GREATEST_COUNT, HEADERS, MOST_DEMAND_ROWS, MOST_LOG_REGIONS, MOST_REGIONS, NAME_RULE
 from hsp.base.programs import Programs, Refused
 from hsp.base.unfit import Unfit
 from hsp.intake.prefixes import Prefixes
@@ -20,13 +20,14 @@ from hsp.plans.service import table
 HEADER = f"{HEADERS['demand']}\n".encode()
 REMEDIES = {
     "BadName": NAME_RULE,
-    "TooManyRegions": f"join networks to at most {MOST_REGIONS} regions",
+    "TooManyRegions": f"join networks to at most {MOST_LOG_REGIONS:,} regions",
 }
 # So many pairs are counted in memory, before they are put into a file.
 MOST_PAIRS = 1 << 20
 # So many octets of a log are written at once.
 BLOCK = 1 << 20
 MANY_ROWS = f"it has more than {MOST_DEMAND_ROWS:,} rows"
+MANY_REGIONS = f"it has more than {MOST_REGIONS} regions"
 LARGE_ROW = f"a row has more than {GREATEST_COUNT:,} queries"
 
 
@@ -114,6 +115,8 @@ class Tally:
         self.handles = None if self._spilled else len({handle for _, handle in self._counts})
         if self._spilled or len(self._counts) > MOST_DEMAND_ROWS:
             return self._log(MANY_ROWS)
+        if len(self.regions) > MOST_REGIONS:
+            return self._log(MANY_REGIONS)
         if self._most_of_a_row() > GREATEST_COUNT:
             return self._log(LARGE_ROW)
         self.prefixes.add(self._counts)

@@ -100,10 +100,12 @@ class Service:
     reserve: Fraction = Fraction(0)
     given: Inputs | None = None
     given_capacities: dict[tuple[str, int], int] = field(default_factory=dict)
+    # No site is used that costs a region more; of any cost where it is none. Then `given` has all costs.
+    within: int | None = None
 
     @property
     def own_inputs(self) -> Inputs:
-        """The inputs as they were given, without a part that is kept back."""
+        """The inputs as they were given, with what is kept back and with costs that are too high."""
         return self.given or self.inputs
 
     @property
@@ -112,6 +114,13 @@ class Service:
         is_small = Fraction(1, 10_000) <= self.reserve < Fraction(1, 100)  # 0.15 is seldom meant as 0.15%
         beside = f" (not {percent_exactly(100 * self.reserve)})" if is_small else ""
         return f"{percent_exactly(self.reserve)}{beside} of each capacity kept back" if self.reserve else ""
+
+    @property
+    def limits(self) -> list[str]:
+        """What is kept back, and what a query may cost, in words."""
+        unit = f" {self.titles.cost}" if self.titles.cost else ""
+        within = [] if self.within is None else [f"no query costs more than {self.within:,}{unit}"]
+        return [*([self.kept_back] if self.reserve else []), *within]
 
     @property
     def rows_are(self) -> str:

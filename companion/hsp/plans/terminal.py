@@ -21,7 +21,7 @@ def head(service: Service) -> str:
         some(len(service.regions), "region"),
         service.rows_words,
         queries_of(service.asked),
-    ] + ([service.kept_back] if service.reserve else [])
+    ] + service.limits
     time = f" in {service.titles.time}" if service.titles.time else ""
     return bold(service.titles.title) + dim(f"  {', '.join(sizes)}{time}")
 
@@ -119,8 +119,14 @@ def shortage_lines(
     if short.stranded:
         verb = "has" if len(short.stranded) == 1 else "have"
         why = f"{listed(short.stranded)} {verb} no cost for any site, so no site may serve them"
-        yield f"why   {why}: give costs, or mend the name"
+        if service.within is None:
+            yield f"why   {why}: give costs, or mend the name"
+        else:
+            yield f"why   {listed(short.stranded)} {verb} no site within {service.within:,}{_unit(service)}"
     yield f"who   {_who(service, short)}"
+    if service.within is not None and not service.log:
+        most = sorted(short.regions.items(), key=lambda pair: -pair[1])
+        yield f"from  {listed(f'{region} ({count:,})' for region, count in most)}"
     if len(short.servers) == len(service.servers):
         yield f"where all {len(service.servers)} servers together lack room"
     elif short.servers:

@@ -19,7 +19,7 @@ import click
 from hsp.base.ends import ended
 from hsp.base.files import refuse_clashes, refuse_no_file, replace_all
 from hsp.base.numbers import queries_of, some
-from hsp.base.options import ANY_FILE, PathName, Run, idle
+from hsp.base.options import ANY_FILE, PathName, Run, idle, is_word
 from hsp.base.paths import path_in, shell_word
 from hsp.base.programs import Missing, Programs, Refused
 from hsp.base.text import give, say
@@ -29,6 +29,7 @@ from hsp.plans.service import NAMES, Service, read_service
 from hsp.proxy.config import CONFIG, COSTS, PLAN, PRICES, SITES, socket_in
 from hsp.proxy.proxies import Proxies, Unwritten
 from hsp.proxy.standing import STATE, line_of, metrics_text, state_in, table_lines
+from hsp.plans.titles import seconds_of
 from hsp.proxy.steering import FAULTS, Steering
 from hsp.proxy.watched import Watched
 from hsp.scenarios.reserve import RESERVE, forgotten, reserved
@@ -280,7 +281,7 @@ def beside_status(run: Run) -> Run:
     show_default=True,
     type=Seconds(1, MOST_PERIOD),
     callback=_number,
-    help="seconds in which the demand comes, and for which capacities are; or 90m, 1h, 1d",
+    help="seconds in which the demand comes, and for which capacities are; or 90m, 1h, 1d; those of hsp.toml first",
 )
 @click.option("--metrics", metavar="FILE", type=ANY_FILE, help="figures for Prometheus' textfile collector")
 @click.option("--once", is_flag=True, help="one plan, and the end")
@@ -307,6 +308,7 @@ def steer(folder: str, folders: tuple[str, ...], every: float, period: float, **
         service = _with_sites(reserved(sound(folder, programs, given), reserve, programs))
         if line := forgotten(service, programs):
             say(f"hsp: {line}", err=True)
+        period = period if is_word(click.get_current_context(), "period") else seconds_of(folder) or period
         steering = Steering(folders, service, period, 0.0 if is_once else every)
         loop = _Loop(steering, folder, given, every, metrics, watched, reserve)
         if is_once:

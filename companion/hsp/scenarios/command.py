@@ -40,7 +40,7 @@ MANY = 200
 PLANS_EACH = 3
 
 
-def _asking(folder: str, programs: Judged, given: dict[str, str | None], unit: str | None) -> Service:
+def asking(folder: str, programs: Judged, given: dict[str, str | None], unit: str | None) -> Service:
     """A service with sites, to which somebody asks something."""
     service = sound(folder, programs, given, cost=unit)
     if not service.sites:
@@ -85,7 +85,7 @@ def grow(folder: str, percents: tuple[int, ...], unit: str | None, as_json: bool
     counts. From the second on the named rows ask for more than their servers take. Between them rounding decides.
     """
     programs, begun = Judged(), time.monotonic()
-    service = _asking(folder, programs, given, unit)
+    service = asking(folder, programs, given, unit)
     regions = len(service.regions)
     _beforehand(service, programs, time.monotonic() - begun, regions, len(set(percents)))
     done = Progress(1 + regions + len(percents))
@@ -165,7 +165,7 @@ def survive(folder: str, **given: Any) -> None:
     programs = Judged()
     if own["buy"]:
         solver()
-    service = reserved(_asking(folder, programs, given, own["unit"]), own["reserve"], programs)
+    service = reserved(asking(folder, programs, given, own["unit"]), own["reserve"], programs)
     if not service.certificate.is_plan:
         programs.insist_held()
         _short(service)

@@ -8,13 +8,10 @@ from collections.abc import Collection
 
 from hsp.base import files
 from hsp.base.paths import path_in
-from hsp.plans.answering import LESS_CAPACITY, LESS_SETTINGS
+from hsp.plans.answering import KEPT as INPUTS
 from hsp.plans.service import OF_DAY, OF_WEEK
 from hsp.scenarios.in_force import PLAN
 from hsp.scenarios.near_plan import FOLDER, KEPT
-
-# Inputs less a reserve, which plans of hours have together with the folder's own.
-INPUTS = (LESS_CAPACITY, LESS_SETTINGS)
 
 
 def _plans_of_hours(folder: str) -> list[str]:
@@ -32,9 +29,9 @@ def _near(folder: str) -> list[str]:
 
 
 def _inputs(folder: str, others: Collection[str]) -> list[str]:
-    """The inputs less a reserve that are there, but for others. A link is not followed."""
+    """The inputs less a reserve or within a bound that are there, but for others. A link is not followed."""
     real = {os.path.realpath(path) for path in others}
-    paths = (path_in(folder, name) for name in INPUTS)
+    paths = (path_in(folder, name) for name in INPUTS.values())
     there = (path for path in paths if os.path.isfile(path) and not os.path.islink(path))
     return [path for path in there if os.path.realpath(path) not in real]
 

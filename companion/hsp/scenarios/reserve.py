@@ -3,13 +3,12 @@
 from __future__ import annotations
 
 import os
-import re
 from dataclasses import replace
 from fractions import Fraction
-from typing import Any
 
 import click
 
+from hsp.base.options import Percent
 from hsp.base.paths import path_in
 from hsp.base.programs import Programs
 from hsp.base.settings import hosts_text, settings_text
@@ -18,26 +17,9 @@ from hsp.plans.plans import capacity_file
 from hsp.plans.service import Service
 from hsp.scenarios.in_force import PLAN
 
-
-NUMBER = re.compile(r"[0-9]{1,3}(\.[0-9]{1,9})?")
-
-
-class Percent(click.ParamType):
-    """A part in percent, as an exact number: at least 0, and less than 100."""
-
-    name = "percent"
-
-    def convert(self, value: Any, param: click.Parameter | None, context: click.Context | None) -> Fraction:
-        if isinstance(value, Fraction):
-            return value
-        part = Fraction(value) / 100 if NUMBER.fullmatch(str(value)) else Fraction(1)
-        if part >= 1:
-            self.fail(f"'{value}' is no part from 0 to less than 100, such as 5 or 2.5", param, context)
-        return part
-
-
+PART = Percent(lambda part: part < 1, "from 0 to less than 100, such as 5 or 2.5")
 RESERVE = click.option(
-    "--reserve", metavar="P", type=Percent(), default="0", help="keep P % of each capacity and limit back"
+    "--reserve", metavar="P", type=PART, default="0", help="keep P % of each capacity and limit back"
 )
 
 
@@ -54,7 +36,7 @@ def reserved(service: Service, part: Fraction, programs: Programs) -> Service:
     certificate, path = programs.plan(inputs)
     return replace(
         service,
-        given=service.inputs,
+        given=service.own_inputs,
         given_capacities=service.capacities,
         inputs=inputs,
         settings=settings,
@@ -73,7 +55,9 @@ def forgotten(service: Service, programs: Programs) -> str:
     less = less_reserve(path, service.inputs)
     if not less or programs.verdict(less, path) != "yes" or programs.verdict(service.inputs, path) == "yes":
         return ""
+    if less.costs != service.inputs.costs:
+        return f"{path} uses no site above a cost, and this plan does: hsp plan --within made it"
     return f"{path} keeps a part of each capacity back, and this plan doesn't: give --reserve, as hsp plan had it"
 
 
-__all__ = ["RESERVE", "Percent", "forgotten", "reserved"]
+__all__ = ["RESERVE", "forgotten", "reserved"]

@@ -2,7 +2,7 @@
 
 use hsp_instance::{Instance, build};
 use hsp_tables::{
-    Capacities, Costs, Demand, read_capacity, read_costs, read_demand, read_settings,
+    Capacities, Costs, Demand, Limits, read_capacity, read_costs, read_demand, read_settings,
 };
 use std::alloc::Global;
 
@@ -16,7 +16,7 @@ struct Rows {
 
 fn rows_of(alloc: Global, demand: &[u8], costs: &[u8], capacity: &[u8]) -> Option<Rows> {
     let demand = read_demand(alloc, demand).ok()?;
-    let costs = read_costs(alloc, costs).ok()?;
+    let costs = read_costs(alloc, costs, Limits::Tables).ok()?;
     let capacity = read_capacity(alloc, capacity).ok()?;
     Some(Rows {
         demand,

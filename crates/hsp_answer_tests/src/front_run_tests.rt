@@ -1,9 +1,9 @@
-use crate::fakes::{ALL, FakeReader, FakeWriter, Lines, ONE_BY_ONE, Rows};
+use crate::fakes::{ALL, Lines, ONE_BY_ONE, Rows};
 use crate::log_cases::*;
-use crate::same::is_same;
-use crate::worked::{best_fronts, held_fronts, held_instance, instance};
+use crate::worked::{best_fronts, instance};
 use hsp_dispatch::*;
 use hsp_instance::Instance;
+use hsp_log::LogFault;
 use std::alloc::Global;
 use std::process::Abort;
 
@@ -51,11 +51,6 @@ fn plain(
     }
 }
 
-// A log of which nothing is answered before the fault.
-fn refused(log: &'static [u8], fault: LogFault) -> Case {
-    plain(log, Err(fault), b"", SHARES)
-}
-
 #[test]
 fn the_worked_log_is_answered_by_fronts(rt: HostRuntime) {
     let cases = [
@@ -79,72 +74,6 @@ fn the_worked_log_is_answered_by_fronts(rt: HostRuntime) {
     all_come(&rt, rt.alloc(), &cases);
 }
 
-// A log whose one event names a front that is not there.
-fn no_front(log: &'static [u8]) -> Case {
-    let one = FrontSums {
-        no_front: 1,
-        ..NONE
-    };
-    plain(log, Ok(one), b"nofront\n", SHARES)
-}
-
-#[test]
-fn a_front_that_is_not_there_answers_nofront(rt: HostRuntime) {
-    let cases = [
-        no_front(b"front,region,handle\n2,r1,10/1\n"),
-        no_front(b"front,region,handle\n4294967295,r1,10/1\n"),
-        no_front(b"front,region,handle\n2,r9,10/9\n"),
-    ];
-    all_come(&rt, rt.alloc(), &cases);
-}
-
-#[test]
-fn another_header_answers_no_event(rt: HostRuntime) {
-    let cases = [
-        refused(b"", LogFault::Header),
-        refused(b"region,handle\nr1,10/1\n", LogFault::Header),
-        refused(b"region,body\n", LogFault::Header),
-        refused(b"front,region,body\n", LogFault::Header),
-        refused(b"front,region,handle,count\n", LogFault::Header),
-    ];
-    all_come(&rt, rt.alloc(), &cases);
-}
-
-// A log whose first event names no front.
-fn bad_front(log: &'static [u8]) -> Case {
-    refused(log, LogFault::BadFront { row: 0 })
-}
-
-#[test]
-fn a_faulty_event_is_refused(rt: HostRuntime) {
-    let cases = [
-        bad_front(b"front,region,handle\n-1,r1,10/1\n"),
-        bad_front(b"front,region,handle\n4294967296,r1,10/1\n"),
-        bad_front(b"front,region,handle\n01,r1,10/1\n"),
-        bad_front(b"front,region,handle\n,r1,10\n"),
-        refused(b"front,region,handle\nx,r1\n", LogFault::Fields { row: 0 }),
-        refused(
-            b"front,region,handle\nx,r1,10/1,5\n",
-            LogFault::Fields { row: 0 },
-        ),
-        refused(
-            b"front,region,handle\n0,r1,10\n",
-            LogFault::BadHandle { row: 0 },
-        ),
-        refused(
-            b"front,region,handle\n2,r1,10\n",
-            LogFault::BadHandle { row: 0 },
-        ),
-        plain(
-            b"front,region,handle\n0,r1,10/1\n2,r9,10/9\n1,r2,10/3\nx,r1,10/1\n",
-            Err(LogFault::BadFront { row: 3 }),
-            b"assigned E 1 3\nnofront\nassigned W 0 1\n",
-            [2, 2, 1, 0],
-        ),
-    ];
-    all_come(&rt, rt.alloc(), &cases);
-}
-
 #[test]
 fn failing_reads_and_writes_are_reported_at_fronts(rt: HostRuntime) {
     let cuts = Cuts {
@@ -155,94 +84,6 @@ fn failing_reads_and_writes_are_reported_at_fronts(rt: HostRuntime) {
         at_first: SHARES,
     };
     all_fail(&rt, rt.alloc(), worked(), cuts);
-}
-
-// The lists of two fronts, merged in several ways: each is a log, and the lines of front 0 and of front 1 in it, one
-// after the other. Front 0 asks three times for the handle of row 0 and once for that of row 2, front 1 four times for
-// that of row 0.
-#[test]
-fn a_front_is_answered_alike_in_every_merge(rt: HostRuntime) {
-    let sums = Ok(FrontSums {
-        assigned: 6,
-        spent: 2,
-        ..NONE
-    });
-    let left = [0, 0, 1, 1];
-    let cases = [
-        plain(
-            b"front,region,handle\n0,r1,10/1\n0,r1,10/1\n0,r1,10/1\n0,r2,10/3\n1,r1,10/1\n1,r1,10/1\n1,r1,10/1\n\
-            1,r1,10/1\n",
-            sums,
-            b"assigned E 1 3\nassigned E 1 3\nassigned E 1 3\nassigned E 1 3\nassigned E 1 3\nassigned E 1 3\nspent\n\
-            spent\n",
-            left,
-        ),
-        plain(
-            b"front,region,handle\n1,r1,10/1\n1,r1,10/1\n1,r1,10/1\n1,r1,10/1\n0,r1,10/1\n0,r1,10/1\n0,r1,10/1\n\
-            0,r2,10/3\n",
-            sums,
-            b"assigned E 1 3\nassigned E 1 3\nspent\nspent\nassigned E 1 3\nassigned E 1 3\nassigned E 1 3\n\
-            assigned E 1 3\n",
-            left,
-        ),
-        plain(
-            b"front,region,handle\n1,r1,10/1\n0,r1,10/1\n1,r1,10/1\n0,r1,10/1\n1,r1,10/1\n0,r1,10/1\n1,r1,10/1\n\
-            0,r2,10/3\n",
-            sums,
-            b"assigned E 1 3\nassigned E 1 3\nassigned E 1 3\nassigned E 1 3\nspent\nassigned E 1 3\nspent\n\
-            assigned E 1 3\n",
-            left,
-        ),
-    ];
-    all_come(&rt, rt.alloc(), &cases);
-}
-
-const EACH_ONCE: &[u8] =
-    b"front,region,handle\n0,r1,10/1\n4,r1,10/1\n5,r1,10/1\n63,r1,10/1\n64,r1,10/1\n4,r1,10/1\n";
-
-// What some of 64 fronts have at first for row 0 at E.
-fn have_one_each(rt: &impl Abort, fronts: &Fronts<'_>) {
-    for (front, share) in [(0, 1), (4, 1), (5, 0), (63, 0), (64, 0)] {
-        is_same(rt, fronts.left(front, 0, 0), share);
-    }
-}
-
-// Runs a log of events of row 0 over 64 fronts.
-fn run_each(
-    rt: &impl Abort,
-    alloc: Global,
-    fronts: &mut Fronts<'_>,
-) -> Result<FrontSums, LogFault> {
-    let mut writer = FakeWriter::whole(rt, alloc);
-    let ends = run_fronts(alloc, FakeReader::whole(EACH_ONCE), &mut writer, fronts);
-    if ends.is_ok() {
-        let lines = b"assigned E 1 3\nassigned E 1 3\nspent\nspent\nnofront\nspent\n";
-        is_same(rt, writer.taken.as_slice(), lines.as_slice());
-    }
-    ends
-}
-
-// The same by the worked plan.
-fn run_all(rt: &impl Abort, alloc: Global, instance: &Instance) -> Result<FrontSums, LogFault> {
-    let mut fronts = held_fronts(rt, alloc, instance, 64);
-    have_one_each(rt, &fronts);
-    run_each(rt, alloc, &mut fronts)
-}
-
-#[test]
-fn five_queries_go_to_the_first_five_of_64_fronts(rt: HostRuntime) {
-    let instance = held_instance(&rt, rt.alloc());
-    let ends = match run_all(&rt, rt.alloc(), &instance) {
-        Err(LogFault::OutOfMemory) => run_all(&rt, rt.alloc(), &instance),
-        ends => ends,
-    };
-    let sums = FrontSums {
-        assigned: 2,
-        spent: 3,
-        unknown: 0,
-        no_front: 1,
-    };
-    is_same(&rt, ends, Ok(sums));
 }
 
 // Runs the log of one row more than there may be. None where a growth is refused before its first row.

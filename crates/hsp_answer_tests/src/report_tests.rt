@@ -10,22 +10,10 @@ use hsp_cert::{Certificate, UseLine};
 use hsp_check::{Verdict, check};
 use hsp_instance::Instance;
 use hsp_report::*;
-use hsp_test_support::service::{BASE, HOST, ONE_SERVER, Texts};
+use hsp_test_support::service::{BASE, ONE_SERVER, Texts};
 use hsp_text::push_whole;
 use std::alloc::{AllocError, Global};
 use std::process::Abort;
-
-// The base without demand.
-const IDLE: Texts<'static> = Texts {
-    demand: b"region,handle,count\n",
-    ..BASE
-};
-
-// The base with a host that the servers of E stand on.
-const HOSTED: Texts<'static> = Texts {
-    hosts: HOST,
-    ..BASE
-};
 
 // The base with a third row that asks for more than it can reach.
 const SHORT: Texts<'static> = Texts {
@@ -43,18 +31,6 @@ const WIDE: Texts<'static> = Texts {
     r1,10/16,1000000\nr1,10/17,1000000\nr1,10/18,1000000\nr1,10/19,1000000\n",
     costs: b"region,site,cost\nr1,X,1000000\n",
     capacity: b"site,server_id,capacity\nX,7,20000000\n",
-};
-
-// A site and a region of the longest names.
-const LONG: Texts<'static> = Texts {
-    sites: b"[[site]]\nname = \"S23456789012345678901234567890123456789012345678901234567890123s\"\n\
-    record = \"000102000001000100000000000000000000000100000007000000000000000000000000000000010000000000000000\"\n",
-    hosts: b"",
-    demand: b"region,handle,count\nR23456789012345678901234567890123456789012345678901234567890123r,10/1,2\n",
-    costs: b"region,site,cost\n\
-    R23456789012345678901234567890123456789012345678901234567890123r,S234567890123456789012345678901234567890123456789\
-    01234567890123s,3\n",
-    capacity: b"site,server_id,capacity\nS23456789012345678901234567890123456789012345678901234567890123s,7,5\n",
 };
 
 // The instance of the texts, and None where memory ran out or the texts are bad.
@@ -88,33 +64,6 @@ const BEST: Numbers = Numbers {
     uses: &[(0, 0, 5), (1, 0, 4), (2, 0, 1), (2, 1, 2)],
     rows: &[2, 1, 3],
     servers: &[0, 1, 0, 0, 0],
-    hosts: &[],
-};
-
-// The plan of the base without demand.
-const EMPTY: Numbers = Numbers {
-    cost: 0,
-    uses: &[],
-    rows: &[],
-    servers: &[0, 0, 0, 0, 0],
-    hosts: &[],
-};
-
-// A best plan of the base with a host.
-const BEST_HOSTED: Numbers = Numbers {
-    cost: 23,
-    uses: &[(0, 0, 5), (1, 0, 2), (1, 1, 2), (2, 0, 1), (2, 1, 2)],
-    rows: &[4, 4, 5],
-    servers: &[0, 0, 2, 0, 0],
-    hosts: &[3],
-};
-
-// The plan of one row at one server.
-const LONG_PLAN: Numbers = Numbers {
-    cost: 6,
-    uses: &[(0, 0, 2)],
-    rows: &[3],
-    servers: &[0],
     hosts: &[],
 };
 
@@ -442,41 +391,6 @@ fn a_shortage_is_reported(rt: HostRuntime) {
 }
 
 #[test]
-fn nothing_is_reported_of_no_demand(rt: HostRuntime) {
-    let certificate = plan_of(&rt, rt.alloc(), EMPTY);
-    let instance = held_instance(&rt, rt.alloc(), IDLE);
-    let held = both(&instance, &certificate);
-    report_is(
-        &rt,
-        rt.alloc(),
-        Report::Loads,
-        held,
-        b"place     server       load   capacity         price site\n    \
-        0          7          0         10             0 E\n    \
-        1          3          0          6             0 E\n    \
-        0          1          0          2             0 W\n    \
-        1          2          0         10             0 W\n    2          9          0         10             0 W\n\
-        bound 0 - 0 = 0\n",
-    );
-    report_is(
-        &rt,
-        rt.alloc(),
-        Report::Regions,
-        held,
-        b"    demand             cost region\ntotal 0 0\n",
-    );
-}
-
-#[test]
-fn a_host_counts_in_the_bound(rt: HostRuntime) {
-    let certificate = plan_of(&rt, rt.alloc(), BEST_HOSTED);
-    let instance = held_instance(&rt, rt.alloc(), HOSTED);
-    let held = both(&instance, &certificate);
-    let text = report_of(&rt, rt.alloc(), Report::Loads, held);
-    assert!(rt; text.ends_with(b"\nbound 51 - 28 = 23\n"), "{text:?}");
-}
-
-#[test]
 fn sums_may_be_wider_than_64_bits(rt: HostRuntime) {
     let certificate = alike_plan(&rt, rt.alloc(), WIDE_PLAN);
     let instance = held_instance(&rt, rt.alloc(), WIDE);
@@ -496,30 +410,6 @@ fn sums_may_be_wider_than_64_bits(rt: HostRuntime) {
         Report::Regions,
         held,
         b"    demand             cost region\n  20000000   20000000000000 r1\ntotal 20000000 20000000000000\n",
-    );
-}
-
-#[test]
-fn names_stand_whole(rt: HostRuntime) {
-    let certificate = plan_of(&rt, rt.alloc(), LONG_PLAN);
-    let instance = held_instance(&rt, rt.alloc(), LONG);
-    let held = both(&instance, &certificate);
-    report_is(
-        &rt,
-        rt.alloc(),
-        Report::Loads,
-        held,
-        b"place     server       load   capacity         price site\n    \
-        0          7          2          5             0 S234567890123456789012345678901234567890123456789012345678901\
-        23s\nbound 6 - 0 = 6\n",
-    );
-    report_is(
-        &rt,
-        rt.alloc(),
-        Report::Regions,
-        held,
-        b"    demand             cost region\n         \
-        2                6 R23456789012345678901234567890123456789012345678901234567890123r\ntotal 2 6\n",
     );
 }
 

@@ -3,6 +3,7 @@ use crate::log_cases::*;
 use crate::worked::{best_dispatcher, instance};
 use hsp_dispatch::*;
 use hsp_instance::Instance;
+use hsp_log::LogFault;
 use std::alloc::Global;
 use std::process::Abort;
 
@@ -57,11 +58,6 @@ fn answered(log: &'static [u8]) -> Case {
     plain(log, sums(1, 0, 0), b"assigned E 1 3\n", [0, 2, 5, 4])
 }
 
-// A log of which nothing is answered before the fault.
-fn refused(log: &'static [u8], fault: LogFault) -> Case {
-    plain(log, Err(fault), b"", WHOLE_PLAN)
-}
-
 #[test]
 fn the_worked_log_is_answered(rt: HostRuntime) {
     let cases = [
@@ -84,64 +80,6 @@ fn the_worked_log_is_answered(rt: HostRuntime) {
             sums(2, 0, 0),
             b"assigned E 1 3\nassigned E 0 7\n",
             [1, 2, 4, 3],
-        ),
-    ];
-    all_come(&rt, rt.alloc(), &cases);
-}
-
-// A log whose first row has no body.
-fn no_body(log: &'static [u8]) -> Case {
-    refused(log, LogFault::BadBody { row: 0 })
-}
-
-#[test]
-fn bodies_are_answered(rt: HostRuntime) {
-    let cases = [
-        answered(b"region,body\nr2,0000000431302f330000000000000000\n"),
-        answered(b"region,body\nr2,0000000431302F330000000000000000\n"),
-        no_body(b"region,body\nr2,0000000431302f330000000100000001000000010000000755524c\n"),
-        answered(b"region,body\nr2,0000000431302f330000000100000001000000010000000355524c\n"),
-        refused(
-            b"region,body\nr2,0000000231300000000000000000\n",
-            LogFault::BadHandle { row: 0 },
-        ),
-        no_body(b"region,body\nr2,00000004\n"),
-        no_body(b"region,body\nr2,0\n"),
-        no_body(b"region,body\nr2,\n"),
-        no_body(b"region,body\nr2,0000000431302f33000000000000000000\n"),
-        no_body(b"region,body\nr2,0000000431302f33FFFFFFFF\n"),
-        no_body(b"region,body\nr2,0000000431302f33000000000000000g\n"),
-    ];
-    all_come(&rt, rt.alloc(), &cases);
-}
-
-#[test]
-fn another_header_answers_nothing(rt: HostRuntime) {
-    let cases = [
-        refused(b"", LogFault::Header),
-        refused(b"region,handles\nr1,10/1\n", LogFault::Header),
-        refused(b"region,handle,count\n", LogFault::Header),
-        refused(b"front,region,handle\n", LogFault::Header),
-    ];
-    all_come(&rt, rt.alloc(), &cases);
-}
-
-#[test]
-fn a_faulty_row_ends_the_run_after_the_others(rt: HostRuntime) {
-    let cases = [
-        refused(b"region,handle\nr1\n", LogFault::Fields { row: 0 }),
-        refused(b"region,handle\nr1,10/1,5\n", LogFault::Fields { row: 0 }),
-        plain(
-            b"region,handle\nr1,10/1\nr1,10\n",
-            Err(LogFault::BadHandle { row: 1 }),
-            b"assigned E 1 3\n",
-            [1, 2, 4, 4],
-        ),
-        plain(
-            b"region,handle\nr9,10/1\nr2,10/3\nr9\n",
-            Err(LogFault::Fields { row: 2 }),
-            b"unknown\nassigned E 1 3\n",
-            [0, 2, 5, 4],
         ),
     ];
     all_come(&rt, rt.alloc(), &cases);

@@ -46,8 +46,8 @@ fn certificate_of(alloc: Global, cost: u64, counts: [u64; 4]) -> Option<Certific
     Certificate::best(cost, uses, rows, servers)
 }
 
-/// A dispatcher by the certificate, which is valid.
-pub(crate) fn dispatcher<'a>(
+// A dispatcher by the certificate, which is valid.
+fn dispatcher<'a>(
     alloc: Global,
     instance: &'a Instance,
     certificate: &Certificate,
@@ -65,8 +65,8 @@ pub(crate) fn best_dispatcher(alloc: Global, instance: &Instance) -> Option<Disp
     dispatcher(alloc, instance, &certificate)
 }
 
-/// So many fronts by the certificate, where it is valid and there may be as many.
-pub(crate) fn fronts<'a>(
+// So many fronts by the certificate, where it is valid and there may be as many.
+fn fronts<'a>(
     alloc: Global,
     instance: &'a Instance,
     certificate: &Certificate,
@@ -103,14 +103,6 @@ pub(crate) fn held_instance_of(
     match instance_of(alloc, demand, capacity) {
         Some(instance) => instance,
         None => instance_of(alloc, demand, capacity).expect(rt, "the instance is built"),
-    }
-}
-
-/// Its best plan.
-pub(crate) fn held_certificate(rt: &impl Abort, alloc: Global) -> Certificate {
-    match certificate(alloc) {
-        Some(certificate) => certificate,
-        None => certificate(alloc).expect(rt, "the plan is in order"),
     }
 }
 

@@ -53,8 +53,18 @@ fn read_lines(alloc: Global, text: &[u8]) -> Result<Certificate, CertFault>
 
 /// The certificate that the text spells, in room for what the certificate holds.
 ///
-/// A text that spells no certificate has one fault: the first line that can't stand in its place, an end before the
-/// line `END` and its LF, or something after them.
+/// ```
+/// let text = b"HSPLAN 1\nSHORTAGE\ndemand 9\ncapacity 8\nrow 2\nEND\n";
+/// let certificate = read_cert(alloc, text)?;
+/// assert!(rt; certificate.as_short().is_some_and(|set| set.demand() == 9 && set.capacity() == 8));
+/// assert!(rt; read_cert(alloc, b"HSPLAN 1\n").err() == Some(CertFault::Ended));
+/// ```
+///
+/// # Errors
+///
+/// A text that spells no certificate has one fault: `BadLine` at the first line that can't stand in its place, `Ended`
+/// where it ends before the line `END` and its LF, or `AfterEnd` where something follows them. `OutOfMemory` where
+/// memory runs out.
 pub fn read_cert(alloc: Global, text: &[u8]) -> Result<Certificate, CertFault>
     // What is returned is true of the text,
     ensures means { Means text.now result }

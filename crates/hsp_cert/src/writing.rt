@@ -143,6 +143,17 @@ fn room_of(shown: &Shown) -> usize {
 }
 
 /// The text of a certificate.
+///
+/// ```
+/// let rows = Vec::from_slice(alloc, &[2])?;
+/// let certificate = Certificate::short(rows, 9, 8).unwrap();
+/// let text = write_cert(alloc, &certificate)?;
+/// assert!(rt; text.as_slice() == b"HSPLAN 1\nSHORTAGE\ndemand 9\ncapacity 8\nrow 2\nEND\n".as_slice());
+/// ```
+///
+/// # Errors
+///
+/// An `AllocError` where memory runs out.
 pub fn write_cert(alloc: Global, certificate: &Certificate) -> Result<Vec<u8>, AllocError>
     ensures { IfOk result (λ text. text.items ≡ text_of certificate.now) }
 {

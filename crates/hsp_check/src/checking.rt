@@ -18,6 +18,18 @@ use std::alloc::{AllocError, Global};
 /// Judges whether the certificate is valid for the instance: Yes, or No with the first reason why it isn't.
 ///
 /// Yes to a plan means that it is best. Yes to a short set means that there is no feasible plan.
+///
+/// ```
+/// // The instance is that of the example of `hsp_instance::build`.
+/// let text = b"HSPLAN 1\nPLAN\ncost 17\nuse 0 0 5\nuse 1 0 4\nuse 2 0 1\nuse 2 1 2\nrow 0 2\nrow 1 1\nrow 2 3\n\
+///     server 0 0\nserver 1 1\nserver 2 0\nserver 3 0\nserver 4 0\nEND\n";
+/// let certificate = read_cert(alloc, text)?;
+/// assert!(rt; check(alloc, &instance, &certificate)? == Verdict::Yes);
+/// ```
+///
+/// # Errors
+///
+/// An `AllocError` where memory runs out.
 pub fn check(
     alloc: Global,
     instance: &Instance,

@@ -17,6 +17,10 @@ use std::alloc::{AllocError, Global};
 
 /// The arcs of an instance, row by row, each with what the plan gives it. The plan is one to which
 /// [`check`](crate::check) says Yes.
+///
+/// # Errors
+///
+/// An `AllocError` where memory runs out.
 pub fn planned_arcs(
     alloc: Global,
     instance: &Instance,

@@ -30,6 +30,10 @@ fn flagged(alloc: Global, flags: &[bool]) -> Result<Vec<u32>, AllocError>
 }
 
 /// The servers that the rows of a valid short set may use, each once, in ascending order.
+///
+/// # Errors
+///
+/// An `AllocError` where memory runs out.
 pub fn reached_servers(
     alloc: Global,
     instance: &Instance,

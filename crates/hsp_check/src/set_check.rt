@@ -30,6 +30,10 @@ fn flag_rows(flags: &mut [bool], rows: &[u32]) -> bool
 }
 
 /// A flag for each row below `count`, set for the listed rows, or None where a listed row isn't below `count`.
+///
+/// # Errors
+///
+/// An `AllocError` where memory runs out.
 pub fn flags_of(alloc: Global, rows: &[u32], count: usize) -> Result<Option<Vec<bool>>, AllocError>
     ensures there { IfOk result (λ flags. IfSome flags (λ _. All (λ r. r < count) rows.now)) }
     ensures lost { IfOk result (λ flags. IfNone flags (All (λ r. r < count) rows.now → ⊥)) }

@@ -102,6 +102,10 @@ fn add_each_host(sums: &mut [u128], server_hosts: &[Option<u32>], numbers: &[u12
 }
 
 /// Numbers of servers, added up for each host below `count`.
+///
+/// # Errors
+///
+/// An `AllocError` where memory runs out.
 pub fn add_hosts(
     alloc: Global,
     server_hosts: &[Option<u32>],

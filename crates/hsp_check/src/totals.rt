@@ -49,6 +49,10 @@ fn sums_of(alloc: Global, lists: FlowLists<'_>, plan: &BestRef<'_>) -> Result<Pl
 }
 
 /// The sums of a plan to which [`check`](crate::check) says Yes. None of the sums wraps.
+///
+/// # Errors
+///
+/// An `AllocError` where memory runs out.
 pub fn plan_sums(
     alloc: Global,
     instance: &Instance,

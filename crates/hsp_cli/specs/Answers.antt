@@ -5,10 +5,10 @@ use Rattle.hsp_check.specs.declared.verdict.Verdict.{Verdict}
 use Rattle.hsp_check.specs.declared.verdict.Verdict.TheVariants.{Yes}
 use Rattle.hsp_runs.specs.Check.{IsChecked, ShowsOf}
 use Rattle.hsp_runs.specs.Plan.{IsPlanned, Printed}
-use Rattle.hsp_runs.specs.declared.inputs.Inputs.{Inputs}
+use Rattle.hsp_inputs.specs.declared.inputs.Inputs.{Inputs}
 use Rattle.hsp_runs.specs.VerdictText.{verdict_status, verdict_text}
-use Rattle.hsp_runs.specs.declared.fault.Fault.{Fault}
-use Rattle.hsp_runs.specs.declared.fault.Fault.TheVariants.{OutOfMemory}
+use Rattle.hsp_inputs.specs.declared.fault.Fault.{Fault}
+use Rattle.hsp_inputs.specs.declared.fault.Fault.TheVariants.{OutOfMemory}
 use Rattle.hsp_cli.specs.declared.answer.Answer.{Answer}
 use Rattle.hsp_cli.specs.declared.failure.Failure.{Failure}
 use Rattle.hsp_cli.specs.declared.failure.Failure.TheVariants.{Memory, Refused}

@@ -12,7 +12,7 @@ use Rattle.hsp_cli_orders.specs.declared.order.Order.TheVariants as order
 use Rattle.hsp_runs.specs.Locate.{AreLocated, placed}
 use Rattle.hsp_runs.specs.SiteText.{IsSiteRun}
 use Rattle.hsp_runs.specs.Report.{IsReported}
-use Rattle.hsp_runs.specs.declared.inputs.Inputs.{Inputs}
+use Rattle.hsp_inputs.specs.declared.inputs.Inputs.{Inputs}
 use Rattle.hsp_cli.specs.Answers.{Answered, IsAnswered, IsShownPlan, IsShownVerdict, fields_reply, plan_reply}
 use Rattle.hsp_cli.specs.Answers.{text_reply, verdict_reply}
 use Rattle.hsp_cli.specs.Dispatching.{Dispatches, Opened}
@@ -35,7 +35,7 @@ FailsNamed disk (Some path) = disk.fails path
 pub record AreHeld (disk : Disk) (files : InputFiles) (inputs : Inputs) : Type 0 where
   pub settings : disk.holds files.settings inputs.settings.items
   pub values : HoldsNamed disk files.values (option_map (λ v. v.items) inputs.values)
-  pub demand : disk.holds files.demand inputs.demand.items
+  pub demand : HoldsNamed disk (Some files.demand) (option_map (λ d. d.items) inputs.demand)
   pub costs : disk.holds files.costs inputs.costs.items
   pub capacity : disk.holds files.capacity inputs.capacity.items
 

@@ -3,11 +3,11 @@ use Rattle.std.specs.Prelude.{◌≡◌, ◌⊎◌, ⊤, ℕ, List, Option, Some
 use Rattle.std.specs.Io.KnownBytes.{Keeps}
 use Rattle.hsp_dispatch.specs.declared.answer.FrontSums.{FrontSums}
 use Rattle.hsp_dispatch.specs.declared.answer.LogSums.{LogSums}
-use Rattle.hsp_dispatch.specs.declared.fault.LogFault.TheVariants.{WriteFailed}
+use Rattle.hsp_log.specs.declared.fault.LogFault.TheVariants.{WriteFailed}
 use Rattle.hsp_runs.specs.Dispatch.{IsBeforeLog, IsDispatched, IsDispatchedAt, over}
-use Rattle.hsp_runs.specs.declared.fault.Fault.{Fault}
-use Rattle.hsp_runs.specs.declared.fault.Fault.TheVariants.{Log, OutOfMemory}
-use Rattle.hsp_runs.specs.declared.inputs.Inputs.{Inputs}
+use Rattle.hsp_inputs.specs.declared.fault.Fault.{Fault}
+use Rattle.hsp_inputs.specs.declared.fault.Fault.TheVariants.{Log, OutOfMemory}
+use Rattle.hsp_inputs.specs.declared.inputs.Inputs.{Inputs}
 use Rattle.hsp_cli.specs.declared.failure.Failure.TheVariants.{Refused}
 use Rattle.hsp_cli.specs.Printing.{Ended, IsFailedWrite}
 

@@ -3,9 +3,9 @@ use Rattle.std.specs.Prelude.{◌≡◌, ◌⊎◌, ⊤, ℕ, List, Option, None
 use Rattle.std.specs.Io.KnownBytes.{Appends}
 use Rattle.hsp_talk.specs.Writing.{IsBegun}
 use Rattle.hsp_dispatch.specs.declared.answer.LogSums.{LogSums}
-use Rattle.hsp_dispatch.specs.declared.fault.LogFault.TheVariants as log_fault
-use Rattle.hsp_runs.specs.declared.fault.Fault.{Fault}
-use Rattle.hsp_runs.specs.declared.fault.Fault.TheVariants.{Log}
+use Rattle.hsp_log.specs.declared.fault.LogFault.TheVariants as log_fault
+use Rattle.hsp_inputs.specs.declared.fault.Fault.{Fault}
+use Rattle.hsp_inputs.specs.declared.fault.Fault.TheVariants.{Log}
 use Rattle.hsp_cli.specs.Answers.{Answered}
 use Rattle.hsp_cli.specs.declared.answer.Answer.{Answer}
 use Rattle.hsp_cli.specs.declared.answer.Completed.{Completed}

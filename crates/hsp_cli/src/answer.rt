@@ -11,10 +11,10 @@ ghost use Rattle.hsp_cli.specs.Printing.{IsHandedOn, Prints};
 use crate::failure::Failure;
 use crate::output::Output;
 use hsp_dispatch::LogSums;
+use hsp_inputs::{Fault, Inputs};
 use hsp_report::ReportKind;
 use hsp_runs::{
-    Fault, Inputs, Locate, check_run, locate_run, plan_run, report_run, site_run, verdict_line,
-    verdict_status,
+    Locate, check_run, locate_run, plan_run, report_run, site_run, verdict_line, verdict_status,
 };
 use std::alloc::Global;
 

@@ -16,8 +16,9 @@ use crate::files::{FileSource, read_whole};
 use crate::inputs::{read_inputs, read_named};
 use crate::output::Output;
 use hsp_cli_orders::{InputFiles, Order, Word, read_command};
+use hsp_inputs::Fault;
 use hsp_report::ReportKind;
-use hsp_runs::{Fault, Locate};
+use hsp_runs::Locate;
 use std::alloc::Global;
 
 // Carries out `locate` by a hash option and a number of servers.

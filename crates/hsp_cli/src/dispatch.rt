@@ -14,8 +14,10 @@ use crate::files::{FileSource, OpenFile, read_whole};
 use crate::inputs::read_inputs;
 use crate::output::Output;
 use hsp_cli_orders::{InputFiles, Word};
-use hsp_dispatch::{LogFault, LogSums};
-use hsp_runs::{Fault, Inputs, dispatch_run, fronts_run};
+use hsp_dispatch::LogSums;
+use hsp_inputs::{Fault, Inputs};
+use hsp_log::LogFault;
+use hsp_runs::{dispatch_run, fronts_run};
 use std::alloc::Global;
 
 // What a log is answered by, and the log, of which nothing was read yet.

@@ -6,7 +6,7 @@ ghost use Rattle.hsp_cli.specs.declared.failure.Unread.TheVariants as unread;
 ghost use Rattle.hsp_cli.specs.Failing.{failure_of, failure_to_read};
 
 use hsp_cli_orders::CommandFault;
-use hsp_runs::Fault;
+use hsp_inputs::Fault;
 use std::alloc::AllocError;
 
 /// Why a file wasn't read.

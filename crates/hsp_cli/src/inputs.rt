@@ -7,7 +7,7 @@ ghost use Rattle.hsp_cli.specs.Failing.{IsUnread};
 use crate::failure::Unread;
 use crate::files::{FileSource, read_whole};
 use hsp_cli_orders::{InputFiles, Word};
-use hsp_runs::Inputs;
+use hsp_inputs::Inputs;
 use std::alloc::Global;
 
 /// Every octet of a file that may be named.
@@ -38,7 +38,7 @@ pub(crate) fn read_inputs<S: FileSource>(
     Ok(Inputs {
         settings: read_whole(alloc, files, &named.settings)?,
         values: read_named(alloc, files, &named.values)?,
-        demand: read_whole(alloc, files, &named.demand)?,
+        demand: Some(read_whole(alloc, files, &named.demand)?),
         costs: read_whole(alloc, files, &named.costs)?,
         capacity: read_whole(alloc, files, &named.capacity)?,
     })

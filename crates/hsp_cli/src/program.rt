@@ -2,12 +2,13 @@
 
 ghost use Rattle.std.specs.Prelude.{◌≡◌, ℕ, List, IfOk, codes};
 ghost use Rattle.hsp_cli.specs.Ending.{own_text};
-ghost use Rattle.hsp_runs.specs.FaultText as fault_texts;
+ghost use Rattle.hsp_inputs.specs.FaultText as fault_texts;
 ghost use Rattle.hsp_runs.specs.SumsText as sums_texts;
 
 use crate::failure::Failure;
 use hsp_dispatch::LogSums;
-use hsp_runs::{Fault, fault_line, status_of, sums_line};
+use hsp_inputs::{Fault, fault_line, status_of};
+use hsp_runs::sums_line;
 use std::alloc::{AllocError, Global};
 
 /// A program, by what it prints where it ends, and by its statuses.

@@ -75,7 +75,11 @@ fn with_subcommands<'a>(
     Ok(command)
 }
 
-/// All commands of `hsplan`, for words that don't begin with its name. An error means that memory ran out.
+/// All commands of `hsplan`, for words that don't begin with its name.
+///
+/// # Errors
+///
+/// An `AllocError` where memory runs out.
 pub fn hsplan_command<'a>(alloc: Global) -> Result<Command<'a>, AllocError>
     ensures { IfOk result (λ c. app_of c ≡ hsplan_app) }
 {
@@ -83,7 +87,11 @@ pub fn hsplan_command<'a>(alloc: Global) -> Result<Command<'a>, AllocError>
     with_subcommands(alloc, command, &COMMANDS)
 }
 
-/// All commands of `hsplan-stream`, for words that don't begin with its name. An error means that memory ran out.
+/// All commands of `hsplan-stream`, for words that don't begin with its name.
+///
+/// # Errors
+///
+/// An `AllocError` where memory runs out.
 pub fn stream_command<'a>(alloc: Global) -> Result<Command<'a>, AllocError>
     ensures { IfOk result (λ c. app_of c ≡ stream_app) }
 {

@@ -254,8 +254,16 @@ pub(crate) fn command_fault(error: &Error) -> CommandFault
 
 /// The order that the words give. The first word is the command.
 ///
-/// The fault is `Usage` for what clap's parser refuses, for a request for help, for a mixture or a part of the two
-/// forms of `locate`, and for an unknown kind of report.
+/// ```
+/// let words = split_words(alloc, b"locate --settings s 10/3")?.unwrap();
+/// let order = read_command(alloc, &words)?;
+/// assert!(rt; matches!(&order, Order::LocateSites { settings, .. } if settings.as_str() == "s"));
+/// ```
+///
+/// # Errors
+///
+/// `Usage` for what clap's parser refuses, for a request for help, for a mixture or a part of the two forms of
+/// `locate`, and for an unknown kind of report. `OutOfMemory` where memory runs out.
 pub fn read_command<'a>(alloc: Global, words: &'a [String]) -> Result<Order<'a>, CommandFault>
     ensures order { IfOk result
         (λ order. IsOrderOf order (subcommand_of hsplan_app (map string_bytes words.now))) }

@@ -277,9 +277,12 @@ fn command_order<'a>(alloc: Global, words: &'a [String]) -> Result<StreamOrder<'
 
 /// The order that the words give to `hsplan-stream`. The first word is the command.
 ///
-/// `--help` and `--version` are orders where they stand by themselves, and `--help` also behind one word. The fault is
+/// `--help` and `--version` are orders where they stand by themselves, and `--help` also behind one word.
+///
+/// # Errors
+///
 /// `Usage` for whatever else clap's parser refuses, for only one of `--fronts` and `--front`, and for an unknown kind
-/// of report.
+/// of report. `OutOfMemory` where memory runs out.
 pub fn read_stream_command<'a>(
     alloc: Global,
     words: &'a [String],

@@ -7,6 +7,10 @@ use std::alloc::{AllocError, Global};
 use std::str;
 
 /// The words between single spaces, without empty ones, or None where the octets are not UTF-8.
+///
+/// # Errors
+///
+/// An `AllocError` where memory runs out.
 pub fn split_words(alloc: Global, line: &[u8]) -> Result<Option<Vec<String>>, AllocError>
     ensures words { IfOk result
         (λ found. IfSome found (λ words. map string_bytes words.items ≡ words_of line.now)) }

@@ -38,6 +38,10 @@ pub fn is_header(record: &ByteRecord, header: &[&[u8]]) -> bool
 
 /// Takes the first record of a text into `record`, and returns whether it is the header with these names. A text
 /// without a record has no header.
+///
+/// # Errors
+///
+/// `ReadFailed` where a read fails, `OutOfMemory` where memory runs out. Then the reader has stopped.
 pub fn take_header<R: Read>(
     reader: &mut Reader<R>,
     record: &mut ByteRecord,

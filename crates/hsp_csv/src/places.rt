@@ -104,6 +104,10 @@ pub struct PlacedReader<R: Read + Drop> {
 /// A reader that stands before the first record of a text, behind a byte order mark.
 ///
 /// Where the octets of the text are known, the records that it has left are those of the text.
+///
+/// # Errors
+///
+/// `ReadFailed` where a read fails, `OutOfMemory` where memory runs out.
 pub fn read_placed<R: Read + Drop>(alloc: Global, text: R) -> Result<PlacedReader<R>, RecordsFault>
     ensures { IfOk result (λ reader. IfSome (R.remaining text) (λ octets.
         placed_left R.remaining reader ≡ Some (placed_of octets))) }
@@ -124,6 +128,10 @@ pub fn read_placed<R: Read + Drop>(alloc: Global, text: R) -> Result<PlacedReade
 }
 
 /// Takes the next record of a text into `placed`, and returns whether there was one.
+///
+/// # Errors
+///
+/// `ReadFailed` where a read fails, or a record has 2^64 - 1 octets or more; `OutOfMemory` where memory runs out.
 pub fn take_placed<R: Read + Drop>(
     reader: &mut PlacedReader<R>,
     placed: &mut PlacedRecord,

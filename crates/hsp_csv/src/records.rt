@@ -29,7 +29,10 @@ pub fn read_records<R: Read>(alloc: Global, text: R) -> Reader<R>
 
 /// Takes the next record of a text into `record`, and returns whether there was one.
 ///
-/// After a fault the reader has stopped: each later call returns that there is no further record.
+/// # Errors
+///
+/// `ReadFailed` where a read fails, `OutOfMemory` where memory runs out. Then the reader has stopped: each later call
+/// returns that there is no further record.
 #[tactic(auto, using(crate::proofs::Reading::takes_record, crate::proofs::Reading::still_reading))]
 pub fn take_record<R: Read>(
     reader: &mut Reader<R>,

@@ -49,7 +49,9 @@ impl RowReader {
     /// They are those of the records that the `csv` crate reads of the line with its defaults, and no octets at the
     /// line's start are passed over. A line feed or a carriage return ends a record, except between quotes.
     ///
-    /// A line without quotes is not copied, and needs no memory.
+    /// # Errors
+    ///
+    /// An `AllocError` where memory runs out. A line without quotes is not copied, and needs none.
     pub fn read<'a>(
         &'a mut self,
         alloc: Global,

@@ -45,6 +45,10 @@ fn needs_any(field: &[u8]) -> bool
 }
 
 /// Appends a field as the `csv` crate writes it, in quotes where it needs them.
+///
+/// # Errors
+///
+/// An `AllocError` where memory runs out. Nothing is said of `out` then.
 pub fn push_field(out: &mut Vec<u8>, field: &[u8]) -> Result<(), AllocError>
     ensures { OnOk result
         (out.new.items ≡ out.old.items ++ field_text default_writer field.now) }

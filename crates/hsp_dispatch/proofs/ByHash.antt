@@ -24,8 +24,9 @@ use Rattle.hsp_instance.proofs.BuiltParts.{built_has_its_parts}
 use Rattle.hsp_instance.proofs.Lists.{all_at, there}
 use Rattle.hsp_check.specs.Instance.{network_of}
 use Rattle.hsp_check.specs.Network.{is_allowed}
-use Rattle.hsp_dispatch.specs.Dispatch.{Entry, answer_at, answer_in, arc_to, assigned_to, count_for, end_of, row_of}
-use Rattle.hsp_dispatch.specs.Dispatch.{server_to, spread}
+use Rattle.hsp_log.specs.Entries.{Entry}
+use Rattle.hsp_dispatch.specs.Dispatch.{answer_at, answer_in, arc_to, assigned_to, count_for, end_of, row_of, server_to}
+use Rattle.hsp_dispatch.specs.Dispatch.{spread}
 use Rattle.hsp_dispatch.specs.Laws.{GoesByHash, IsByHash}
 use Rattle.hsp_dispatch.proofs.SharedOut.{found_so, has_arc}
 use Rattle.hsp_dispatch.proofs.Spreads.{is_sent}

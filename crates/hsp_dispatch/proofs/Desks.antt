@@ -2,20 +2,20 @@
 use Rattle.std.proofs.Common.{◌≡◌, ◌≢◌, ◌++◌, ◌∙◌, ℕ, List, [], ◌∷◌, length, Option, Some, None, option_map, Result, Ok}
 use Rattle.std.proofs.Common.{Err, IfOk, arith, refl, sym, ap}
 use Rattle.std.specs.List.{slice_get}
-use Rattle.std.proofs.lemmas.List.{append-nil, append_assoc, map_push}
+use Rattle.std.proofs.lemmas.List.{map_push}
 use Rattle.std.proofs.lemmas.Option.{slice_get-map}
 use Rattle.hsp_text.proofs.Lists.{zip_push}
 use Rattle.hsp_csv.specs.Records.{Fields}
 use Rattle.hsp_instance.specs.Instance.{Instance, Server}
 use Rattle.hsp_check.specs.Plan.{Plan}
 use Rattle.hsp_dispatch.specs.Desks.{AnswersEntries, AnswersEvents, answers_by}
-use Rattle.hsp_dispatch.specs.Dispatch.{Entry, IsSame, all_of, answer_to, answers, answers_after, rest, sums_of}
-use Rattle.hsp_dispatch.specs.Fronts.{Event, Tables, event_answer, event_answers_after, front_sums_of, fronts_of}
+use Rattle.hsp_log.specs.Entries.{Entry, Event}
+use Rattle.hsp_dispatch.specs.Dispatch.{IsSame, all_of, answer_to, answers, answers_after, rest, sums_of}
+use Rattle.hsp_dispatch.specs.Fronts.{Tables, event_answer, event_answers_after, front_sums_of, fronts_of}
 use Rattle.hsp_dispatch.specs.Fronts.{left_at_front}
-use Rattle.hsp_dispatch.specs.Lines.{IsAmong, answer_of, counted, front_line, line_by, line_of, lines_of, or_none}
-use Rattle.hsp_dispatch.specs.Lines.{server_line, served_by}
-use Rattle.hsp_dispatch.specs.Log.{AreEntries, AreEvents, Gives, IsEntryIn, IsEventIn, IsFront}
-use Rattle.hsp_names.specs.Handle.{handle_in}
+use Rattle.hsp_dispatch.specs.Lines.{IsAmong, answer_of, counted, front_line, line_by, line_of, served_by}
+use Rattle.hsp_log.specs.Lines.{lines_of, or_none, server_line}
+use Rattle.hsp_log.specs.Log.{IsEntryIn, IsEventIn}
 use Rattle.hsp_dispatch.specs.Shares.{Held, left_of}
 use Rattle.hsp_dispatch.specs.Steps.{BeginsWithNone, GoesOn, Takes, TakesAt}
 use Rattle.hsp_dispatch.specs.declared.answer.Answer.{Answer}
@@ -24,9 +24,9 @@ use Rattle.hsp_dispatch.specs.declared.answer.FrontAnswer.TheVariants.{Answered}
 use Rattle.hsp_dispatch.specs.declared.answer.FrontSums.{FrontSums}
 use Rattle.hsp_dispatch.specs.declared.answer.Given.{Given}
 use Rattle.hsp_dispatch.specs.declared.answer.Given.TheVariants as given
-use Rattle.hsp_dispatch.specs.declared.form.Form.{Form}
+use Rattle.hsp_log.specs.declared.form.Form.{Form}
 use Rattle.hsp_dispatch.proofs.Counting.{counted_answer, counted_more}
-use Rattle.hsp_dispatch.proofs.Each.{each_parts}
+use Rattle.hsp_log.proofs.Each.{each_parts}
 use Rattle.hsp_dispatch.proofs.Lists.{none_from}
 use Rattle.hsp_dispatch.proofs.FrontLaws.{answered_by, left_on}
 use Rattle.hsp_dispatch.proofs.Resting.{answer_after, answers_more, rest_more, rest_none}
@@ -56,12 +56,6 @@ line_is it given.NoFront among = refl
 pub no_entries : (it : Instance) (x : Plan) → BeginsWithNone (AnswersEntries it x x)
 unfolding answers_after
 no_entries it x form = ([], tt, refl, refl, rest_none it x)
-
--- a row of region and handle is the entry that it spells
-pub spells : (form : Form) (row : Fields) (region field : List ℕ) (entry : Entry) → row ≡ region ∷ field ∷ []
-    → entry.region ≡ region → Gives form field entry.handle
-    → handle_in entry.handle ≡ Ok entry.handle → IsEntryIn form row entry
-spells form row region field entry is same gives handle = rw is (same, gives, handle)
 
 -- an entry more, where the earlier ones were answered by the plan `x`, of which `middle` was left
 entry_on : (it : Instance) (x middle left : Plan) (form : Form) (rows : List Fields) (lines : List (List ℕ))
@@ -113,12 +107,6 @@ no_events tables form = (
     each = λ front inside. rest_none tables.instance (left_at_front tables front);
   },
 )
-
--- a row of front, region and handle is the event that it spells
-pub spells_event : (row : Fields) (front region handle : List ℕ) (event : Event) → row ≡ front ∷ region ∷ handle ∷ []
-    → IsFront front event.front
-    → event.entry.region ≡ region → event.entry.handle ≡ handle → handle_in handle ≡ Ok handle → IsEventIn row event
-spells_event row front region handle event is number same own good = rw is (number, same, own, good)
 
 -- one event more has one answer more
 answers_on : (it : Instance) (fronts : ℕ) (tables : ℕ → Plan) (before events : List Event) (event : Event)

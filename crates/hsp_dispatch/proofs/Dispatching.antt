@@ -6,12 +6,13 @@ use Rattle.std.proofs.lemmas.List.{append-nil, append_assoc, take_all}
 use Rattle.std.proofs.lemmas.List.Sums.{sum_by-take-le}
 use Rattle.hsp_instance.specs.Instance.{Instance, Server}
 use Rattle.hsp_check.specs.Plan.{Plan}
-use Rattle.hsp_dispatch.specs.Dispatch.{Entry, answer_at, answer_in, answer_to, answers, answers_after, assigned_in}
+use Rattle.hsp_log.specs.Entries.{Entry}
+use Rattle.hsp_dispatch.specs.Dispatch.{answer_at, answer_in, answer_to, answers, answers_after, assigned_in}
 use Rattle.hsp_dispatch.specs.Dispatch.{assigned_to, count_for, rest, server_to, spread}
 use Rattle.hsp_dispatch.specs.Laws.{GoesOnWithTheRest, IsSpentAfterAll, NeverExceeds}
 use Rattle.hsp_dispatch.specs.declared.answer.Answer.{Answer}
 use Rattle.hsp_dispatch.specs.declared.answer.Answer.TheVariants.{Spent}
-use Rattle.hsp_dispatch.proofs.Each.{each_goes_on}
+use Rattle.hsp_log.proofs.Each.{each_goes_on}
 use Rattle.hsp_dispatch.proofs.Lists.{none_from}
 use Rattle.hsp_dispatch.proofs.Resting.{answer_parts, assigned_is}
 use Rattle.hsp_dispatch.proofs.Spreads.{is_site, times, times_in, times_within}

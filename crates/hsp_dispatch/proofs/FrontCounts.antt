@@ -1,44 +1,24 @@
 -- The entries at a front, and what fronts assign, counted in the answers to all events.
-use Rattle.std.proofs.Common.{◌≡◌, ◌≢◌, ◌<◌, ◌≤◌, ◌+◌, ◌-◌, ◌∙◌, ◌++◌, ◌==◌, ℕ, List, [], ◌∷◌, map, if◌then◌else◌}
-use Rattle.std.proofs.Common.{arith, refl, sym, ap, eq-eqb}
-use Rattle.std.proofs.Common.{inl, inr}
+use Rattle.std.proofs.Common.{◌≡◌, ◌<◌, ◌≤◌, ◌+◌, ◌-◌, ◌∙◌, ◌++◌, ◌==◌, ℕ, List, [], ◌∷◌, map, if◌then◌else◌, arith}
+use Rattle.std.proofs.Common.{refl, sym, ap, eq-eqb, inl, inr}
 use Rattle.std.specs.Prelude.{nat_lt}
 use Rattle.std.proofs.lemmas.Bool.{cases_lt, le-ltb, lt-ltb, ne_eqb}
-use Rattle.std.proofs.lemmas.List.{append-nil}
 use Rattle.hsp_instance.specs.Instance.{Instance}
 use Rattle.hsp_check.specs.Plan.{Plan}
 use Rattle.hsp_transport.specs.Sums.{sum_below}
 use Rattle.hsp_transport.proofs.Summing.{sum_below_add, sum_below_one, sum_below_same, sum_below_zero}
-use Rattle.hsp_dispatch.specs.Dispatch.{Entry, IsSame, answer_to, answers, answers_after, assigned_in, count_in}
-use Rattle.hsp_dispatch.specs.Dispatch.{each_after, is_in, rest}
+use Rattle.hsp_log.specs.Entries.{Entry, each_after, Event, entries_at}
+use Rattle.hsp_dispatch.specs.Dispatch.{IsSame, answer_to, answers, answers_after, assigned_in, count_in, is_in, rest}
 use Rattle.hsp_dispatch.specs.FrontLaws.{AnswersAsDispatchers}
-use Rattle.hsp_dispatch.specs.Fronts.{Event, answers_at, assigned_at, assigned_by_all, count_in_fronts, entries_at}
-use Rattle.hsp_dispatch.specs.Fronts.{entries_of, event_answer, event_answers_after, is_in_fronts, rest_at, share_of}
-use Rattle.hsp_dispatch.specs.Fronts.{shares_of}
+use Rattle.hsp_dispatch.specs.Fronts.{answers_at, assigned_at, assigned_by_all, count_in_fronts, entries_of}
+use Rattle.hsp_dispatch.specs.Fronts.{event_answer, event_answers_after, is_in_fronts, rest_at, share_of, shares_of}
 use Rattle.hsp_dispatch.specs.declared.answer.Answer.{Answer}
 use Rattle.hsp_dispatch.specs.declared.answer.FrontAnswer.{FrontAnswer}
 use Rattle.hsp_dispatch.specs.declared.answer.FrontAnswer.TheVariants.{Answered, NoFront}
-use Rattle.hsp_dispatch.proofs.Each.{each_map}
+use Rattle.hsp_log.proofs.Each.{each_map}
+use Rattle.hsp_log.proofs.Entries.{more_here, more_elsewhere}
 
 -- ---- the entries at a front
-
--- the entries at a front in two lists of events stand one after the other
-pub entries_append : (front : ℕ) (a b : List Event)
-    → entries_at front (a ++ b) ≡ entries_at front a ++ entries_at front b
-entries_append front [] b = refl
-entries_append front (event ∷ a) b = grind (arith, entries_append front a b)
-
--- an event of the front adds its entry
-pub more_here : (front : ℕ) (events : List Event) (event : Event) → event.front ≡ front
-    → entries_at front (events ++ event ∷ []) ≡ entries_at front events ++ event.entry ∷ []
-more_here front events event here = entries_append front events (event ∷ []) ∙ rw (eq-eqb event.front front here) refl
-
--- an event of another front adds nothing
-pub more_elsewhere : (front : ℕ) (events : List Event) (event : Event) → event.front ≢ front
-    → entries_at front (events ++ event ∷ []) ≡ entries_at front events
-more_elsewhere front events event other =
-    entries_append front events (event ∷ [])
-    ∙ rw (ne_eqb event.front front other) (append-nil (entries_at front events))
 
 -- ---- the answers at a front
 

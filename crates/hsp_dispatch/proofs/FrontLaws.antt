@@ -1,27 +1,28 @@
 -- What holds of fronts.
-use Rattle.std.proofs.Common.{◌≡◌, ◌<◌, ◌≤◌, ◌+◌, ◌-◌, ◌∙◌, ◌++◌, ℕ, List, [], ◌∷◌, length, take, drop, if◌then◌else◌}
-use Rattle.std.proofs.Common.{arith, refl, sym, ap, ap₂, eq-eqb, subst}
-use Rattle.std.proofs.Common.{inl, inr}
+use Rattle.std.proofs.Common.{◌≡◌, ◌<◌, ◌≤◌, ◌-◌, ◌∙◌, ◌++◌, ℕ, List, [], ◌∷◌, length, take, drop, if◌then◌else◌, arith}
+use Rattle.std.proofs.Common.{refl, sym, ap, ap₂, eq-eqb, subst, inl, inr}
 use Rattle.std.specs.Prelude.{nat_lt}
 use Rattle.std.proofs.lemmas.Bool.{cases_eq, cases_lt, le-ltb, lt-ltb, ne_eqb}
 use Rattle.hsp_instance.specs.Instance.{Instance}
 use Rattle.hsp_check.specs.Plan.{Plan}
 use Rattle.hsp_transport.specs.Sums.{sum_below}
 use Rattle.hsp_transport.proofs.Summing.{sum_below_le, sum_below_same}
-use Rattle.hsp_dispatch.specs.Dispatch.{Entry, IsSame, answer_to, assigned_in, each_after, rest}
+use Rattle.hsp_log.specs.Entries.{Entry, each_after, Event, entries_at}
+use Rattle.hsp_dispatch.specs.Dispatch.{IsSame, answer_to, assigned_in, rest}
 use Rattle.hsp_dispatch.specs.FrontLaws.{AnswersByShares, AreFrontsAfter, BeginsWithShares, EndsInTheSame}
 use Rattle.hsp_dispatch.specs.FrontLaws.{GoesByItsEntries, IsSpentTogether, NeverExceedsTogether, WasSpentAt}
-use Rattle.hsp_dispatch.specs.Fronts.{Event, IsTakenAt, Tables, answer_among, answers_at, assigned_at, count_in_fronts}
-use Rattle.hsp_dispatch.specs.Fronts.{entries_at, event_answer, event_answers_after, front_answers, fronts_of}
-use Rattle.hsp_dispatch.specs.Fronts.{left_at_front, share, share_of, shares_of}
+use Rattle.hsp_dispatch.specs.Fronts.{IsTakenAt, Tables, answer_among, answers_at, assigned_at, count_in_fronts}
+use Rattle.hsp_dispatch.specs.Fronts.{event_answer, event_answers_after, front_answers, fronts_of, left_at_front}
+use Rattle.hsp_dispatch.specs.Fronts.{share_of, shares_of}
+use Rattle.hsp_log.specs.FrontShares.{share}
 use Rattle.hsp_dispatch.specs.declared.answer.Answer.{Answer}
 use Rattle.hsp_dispatch.specs.declared.answer.Answer.TheVariants.{Spent}
 use Rattle.hsp_dispatch.specs.declared.answer.FrontAnswer.{FrontAnswer}
 use Rattle.hsp_dispatch.specs.declared.answer.FrontAnswer.TheVariants.{Answered, NoFront}
 use Rattle.hsp_dispatch.proofs.Dispatching.{is_spent_after_all, never_exceeds}
-use Rattle.hsp_dispatch.proofs.FrontCounts.{assigned_at_is, assigned_together, at_front, entries_append, more_elsewhere}
-use Rattle.hsp_dispatch.proofs.FrontCounts.{more_here, own_answer, rest_at_is}
-use Rattle.hsp_dispatch.proofs.FrontShares.{shares_add_up}
+use Rattle.hsp_dispatch.proofs.FrontCounts.{assigned_at_is, assigned_together, at_front, own_answer, rest_at_is}
+use Rattle.hsp_log.proofs.Entries.{entries_append, more_elsewhere, more_here}
+use Rattle.hsp_log.proofs.FrontShares.{shares_add_up}
 use Rattle.hsp_dispatch.proofs.Resting.{answer_after, assigned_is, rest_more, rest_none, times_parts}
 use Rattle.hsp_dispatch.proofs.Spreads.{times, times_append}
 

@@ -13,18 +13,20 @@ use Rattle.hsp_text.specs.declared.limits.TheConstants.{MOST_SITES}
 use Rattle.hsp_names.specs.Handle.{handle_in}
 use Rattle.hsp_instance.specs.Instance.{Instance}
 use Rattle.hsp_check.specs.Plan.{Plan}
-use Rattle.hsp_dispatch.specs.Dispatch.{Entry, IsSame, row_of}
+use Rattle.hsp_log.specs.Entries.{Entry}
+use Rattle.hsp_dispatch.specs.Dispatch.{IsSame, row_of}
 use Rattle.hsp_dispatch.specs.Lines.{answer_of, given_of}
 use Rattle.hsp_dispatch.specs.Shares.{AreCellsOf, IsCellOf, IsHeld, cells_at, first_answer, first_of, holding, left_at}
 use Rattle.hsp_dispatch.specs.Shares.{left_of, taken_answer, without_first}
 use Rattle.hsp_dispatch.specs.Fronts.{AreFrontsOf, AreHeld, IsTakenAt, IsTakenOf, Tables, answer_among, held_at}
-use Rattle.hsp_dispatch.specs.Fronts.{left_at_front, share}
+use Rattle.hsp_dispatch.specs.Fronts.{left_at_front}
+use Rattle.hsp_log.specs.FrontShares.{share}
 use Rattle.hsp_dispatch.specs.Standings.{all_sums, left_among, lefts_from, lefts_of, place_of, shares_in}
 use Rattle.hsp_dispatch.specs.Steps.{TakesAt}
 use Rattle.hsp_dispatch.specs.declared.answer.FrontAnswer.TheVariants.{Answered}
 use Rattle.hsp_dispatch.specs.declared.answer.Given.{Given}
 use Rattle.hsp_dispatch.specs.declared.share.Cell.{Cell}
-use Rattle.hsp_dispatch.proofs.FrontShares.{share_none}
+use Rattle.hsp_log.proofs.FrontShares.{share_none}
 use Rattle.hsp_dispatch.proofs.Parts.{part_left, parts_of_row}
 use Rattle.hsp_dispatch.proofs.Resting.{rest_unknown}
 use Rattle.hsp_dispatch.proofs.Shares.{sites_within}

@@ -7,8 +7,8 @@ use Rattle.csv.specs.declared.reader.Reader.{Reader}
 use Rattle.hsp_csv.specs.Records.{Fields, IsKnown, TakesRecord, records_from_state, records_left, records_of}
 use Rattle.hsp_dispatch.specs.Runs.{Begins, IsUnheaded}
 use Rattle.hsp_dispatch.specs.Steps.{FailsHeader, IsRead, TakesHeader, log_left, records_in}
-use Rattle.hsp_dispatch.specs.declared.fault.LogFault.TheVariants as fault
-use Rattle.hsp_dispatch.specs.declared.form.Form.{Form}
+use Rattle.hsp_log.specs.declared.fault.LogFault.TheVariants as fault
+use Rattle.hsp_log.specs.declared.form.Form.{Form}
 
 -- ---- the header
 

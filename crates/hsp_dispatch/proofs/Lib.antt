@@ -1,7 +1,4 @@
-mod RowFields
 pub mod Lists
-pub mod Each
-pub mod Bodies
 mod InTurn
 mod Running
 mod Counting
@@ -13,7 +10,6 @@ pub mod SharedOut
 pub mod Taking
 pub mod Dispatching
 pub mod ByHash
-pub mod FrontShares
 pub mod Parts
 pub mod Standings
 pub mod FrontsHeld

@@ -1,21 +1,21 @@
 -- Answers over several calls are those to one list of all that was asked.
-use Rattle.std.proofs.Common.{◌≡◌, ◌<◌, ◌∙◌, ◌++◌, ℕ, List, [], ◌∷◌, refl, sym, ap, ap₂}
-use Rattle.std.proofs.Common.{inl, inr}
+use Rattle.std.proofs.Common.{◌≡◌, ◌<◌, ◌∙◌, ◌++◌, ℕ, List, [], ◌∷◌, refl, sym, ap, ap₂, inl, inr}
 use Rattle.std.proofs.lemmas.Bool.{cases_lt, le-ltb, lt-ltb}
 use Rattle.std.proofs.lemmas.List.{append-nil, append_assoc}
 use Rattle.hsp_instance.specs.Instance.{Instance}
 use Rattle.hsp_check.specs.Plan.{Plan}
 use Rattle.hsp_dispatch.specs.Desks.{answers_by}
-use Rattle.hsp_dispatch.specs.Dispatch.{Entry, IsSame, answer_to, answers, answers_after, rest}
+use Rattle.hsp_log.specs.Entries.{Entry, Event, entries_at}
+use Rattle.hsp_dispatch.specs.Dispatch.{IsSame, answer_to, answers, answers_after, rest}
 use Rattle.hsp_dispatch.specs.FrontLaws.{FrontsGoOn}
-use Rattle.hsp_dispatch.specs.Fronts.{Event, entries_at, event_answer, event_answers, event_answers_after}
-use Rattle.hsp_dispatch.specs.Fronts.{front_answers, fronts_of, left_at_front, share_of, shares_of}
+use Rattle.hsp_dispatch.specs.Fronts.{event_answer, event_answers, event_answers_after, front_answers, fronts_of}
+use Rattle.hsp_dispatch.specs.Fronts.{left_at_front, share_of, shares_of}
 use Rattle.hsp_dispatch.specs.Laws.{DispatcherGoesOn}
 use Rattle.hsp_dispatch.specs.declared.answer.Answer.{Answer}
 use Rattle.hsp_dispatch.specs.declared.answer.FrontAnswer.{FrontAnswer}
 use Rattle.hsp_dispatch.specs.declared.answer.FrontAnswer.TheVariants.{Answered}
-use Rattle.hsp_dispatch.proofs.Each.{each_goes_on, each_same}
-use Rattle.hsp_dispatch.proofs.FrontCounts.{entries_append}
+use Rattle.hsp_log.proofs.Each.{each_goes_on, each_same}
+use Rattle.hsp_log.proofs.Entries.{entries_append}
 use Rattle.hsp_dispatch.proofs.FrontLaws.{are_after, hold_rests}
 use Rattle.hsp_dispatch.proofs.Resting.{answer_parts, answer_same, rest_parts, rest_same}
 

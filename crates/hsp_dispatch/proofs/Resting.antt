@@ -10,10 +10,11 @@ use Rattle.std.proofs.Math.Nat.{suc-add}
 use Rattle.std.specs.List.{slice_get}
 use Rattle.hsp_instance.specs.Instance.{Instance, Server}
 use Rattle.hsp_check.specs.Plan.{Plan}
-use Rattle.hsp_dispatch.specs.Dispatch.{Entry, IsSame, answer_at, answer_in, answer_to, answers_after, assigned_in}
+use Rattle.hsp_log.specs.Entries.{Entry}
+use Rattle.hsp_dispatch.specs.Dispatch.{IsSame, answer_at, answer_in, answer_to, answers_after, assigned_in}
 use Rattle.hsp_dispatch.specs.Dispatch.{assigned_to, count_for, count_in, is_at, is_for, is_in, rest, row_of, server_to}
 use Rattle.hsp_dispatch.specs.Dispatch.{spread}
-use Rattle.hsp_dispatch.proofs.Each.{each_parts}
+use Rattle.hsp_log.proofs.Each.{each_parts}
 use Rattle.hsp_dispatch.proofs.Lists.{none_from}
 use Rattle.hsp_dispatch.proofs.Spreads.{same_spread, spread_left, times, times_append}
 

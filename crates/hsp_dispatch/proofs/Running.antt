@@ -12,17 +12,17 @@ use Rattle.hsp_csv.specs.declared.fault.RecordsFault.{RecordsFault}
 use Rattle.hsp_csv.specs.declared.fault.RecordsFault.TheVariants as records_fault
 use Rattle.hsp_instance.specs.Instance.{Instance}
 use Rattle.hsp_dispatch.specs.Lines.{count_all, counted, text_of}
-use Rattle.hsp_dispatch.specs.Log.{fault_of}
+use Rattle.hsp_log.specs.Log.{fault_of}
 use Rattle.hsp_dispatch.specs.Runs.{Answered, AreWithinLimit, Begins, Desk, EndsWhole, Stops, StopsAtRow}
 use Rattle.hsp_dispatch.specs.Runs.{StopsSomewhere, Streams, desk_of}
 use Rattle.hsp_dispatch.specs.Steps.{FailsHeader, GoesOn, IsRead, IsRefused, RowAnswers, log_left, none_counted}
 use Rattle.hsp_dispatch.specs.declared.answer.FrontSums.{FrontSums}
 use Rattle.hsp_dispatch.specs.declared.answer.Given.{Given}
 use Rattle.hsp_dispatch.specs.declared.answer.Given.TheVariants as given
-use Rattle.hsp_dispatch.specs.declared.fault.LogFault.{LogFault}
-use Rattle.hsp_dispatch.specs.declared.fault.LogFault.TheVariants as fault
-use Rattle.hsp_dispatch.specs.declared.form.Form.{Form}
-use Rattle.hsp_dispatch.specs.declared.form.Form.TheVariants.{Handles}
+use Rattle.hsp_log.specs.declared.fault.LogFault.{LogFault}
+use Rattle.hsp_log.specs.declared.fault.LogFault.TheVariants as fault
+use Rattle.hsp_log.specs.declared.form.Form.{Form}
+use Rattle.hsp_log.specs.declared.form.Form.TheVariants.{Handles}
 use Rattle.hsp_dispatch.proofs.InTurn.{begins, begins_before, unheaded}
 
 -- ---- what was answered so far

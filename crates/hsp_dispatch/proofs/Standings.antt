@@ -1,20 +1,19 @@
 -- Where fronts stand among the cells of a row, and what they take of them.
 use Rattle.std.proofs.Common.{◌≡◌, ◌≢◌, ◌<◌, ◌≤◌, ◌+◌, ◌-◌, ◌*◌, ◌∙◌, ℕ, zero, suc, List, [], ◌∷◌, drop, length}
-use Rattle.std.proofs.Common.{slice_index, Some, option_map, arith, refl, sym, ap}
-use Rattle.std.proofs.Common.{inl, inr}
+use Rattle.std.proofs.Common.{slice_index, Some, option_map, arith, refl, sym, ap, inl, inr}
 use Rattle.std.specs.List.{slice_get}
 use Rattle.std.proofs.lemmas.Bool.{cases_eq, cases_lt, le-ltb, lt-ltb, ne_eqb}
 use Rattle.std.proofs.lemmas.List.{get_or-append-add, get_or_append_left, get_or_push, length-append}
 use Rattle.std.proofs.Math.Nat.{mul-le-mul_right, suc-mul}
 use Rattle.hsp_text.specs.declared.limits.TheConstants.{MOST_SITES}
 use Rattle.hsp_instance.proofs.Lists.{drop_at}
-use Rattle.hsp_dispatch.specs.Fronts.{share}
+use Rattle.hsp_log.specs.FrontShares.{share}
 use Rattle.hsp_dispatch.specs.Shares.{AreCells, cells_at, first_of, without_first}
 use Rattle.hsp_dispatch.specs.Standings.{AreBounded, IsSole, all_sums, cells_left, left_among, left_from, place_of}
 use Rattle.hsp_dispatch.specs.Standings.{shares_in, shares_sum, sums_of}
 use Rattle.hsp_dispatch.specs.declared.front_share.Standing.{Standing}
 use Rattle.hsp_dispatch.specs.declared.share.Cell.{Cell}
-use Rattle.hsp_dispatch.proofs.FrontShares.{share_le}
+use Rattle.hsp_log.proofs.FrontShares.{share_le}
 use Rattle.hsp_dispatch.proofs.Shares.{Within, within_behind}
 
 -- ---- how many cells there are

@@ -1,20 +1,19 @@
 -- The two desks: a dispatcher, which answers logs of entries, and fronts, which answer logs of events.
-use Rattle.std.specs.Prelude.{◌≡◌, ◌≢◌, ◌<◌, ℕ, List, map, length}
+use Rattle.std.specs.Prelude.{◌≡◌, ◌<◌, ℕ, List, map}
 use Rattle.hsp_csv.specs.Records.{Fields}
 use Rattle.hsp_instance.specs.Instance.{Instance}
 use Rattle.hsp_check.specs.Plan.{Plan}
-use Rattle.hsp_dispatch.specs.Dispatch.{Entry, IsSame, all_of, answers, rest, sums_of}
-use Rattle.hsp_dispatch.specs.Fronts.{Event, Tables, entries_at, event_answers, front_sums_of, fronts_of, left_at_front}
+use Rattle.hsp_log.specs.Entries.{Entry, Event, entries_at}
+use Rattle.hsp_dispatch.specs.Dispatch.{IsSame, all_of, answers, rest, sums_of}
+use Rattle.hsp_dispatch.specs.Fronts.{Tables, event_answers, front_sums_of, fronts_of, left_at_front}
 use Rattle.hsp_dispatch.specs.Lines.{front_line, line_of}
-use Rattle.hsp_dispatch.specs.Log.{AreEntries, AreEvents, IsBadBody, IsBadEvent, IsBadFront, IsBadHandle, front_header}
-use Rattle.hsp_dispatch.specs.Log.{header_of}
+use Rattle.hsp_log.specs.Log.{AreEntries, AreEvents, front_header, header_of}
 use Rattle.hsp_dispatch.specs.Runs.{Desk}
 use Rattle.hsp_dispatch.specs.Shares.{Held, left_of}
 use Rattle.hsp_dispatch.specs.declared.answer.FrontAnswer.{FrontAnswer}
 use Rattle.hsp_dispatch.specs.declared.answer.FrontSums.{FrontSums}
-use Rattle.hsp_dispatch.specs.declared.fault.LogFault.{LogFault}
-use Rattle.hsp_dispatch.specs.declared.fault.LogFault.TheVariants as fault
-use Rattle.hsp_dispatch.specs.declared.form.Form.{Form}
+use Rattle.hsp_log.specs.declared.form.Form.{Form}
+use Rattle.hsp_log.specs.RowChecks.{RefusesEntry, RefusesEvent}
 
 -- ---- a dispatcher
 
@@ -23,13 +22,6 @@ abbrev pub AnswersEntries : Instance → Plan → Plan → Form → List Fields 
 AnswersEntries it x left form rows lines sums =
     (entries : List Entry) × AreEntries form rows entries × (lines ≡ map (line_of it) (answers it x entries))
     × (sums ≡ all_of (sums_of (answers it x entries))) × IsSame left (rest it x entries)
-
--- a row of two fields that spells no entry, or a row of another number of fields
-abbrev pub RefusesEntry : Form → Fields → LogFault → Type 0
-RefusesEntry form bad (fault.Fields row) = length bad ≢ 2
-RefusesEntry form bad (fault.BadBody row) = IsBadBody form bad
-RefusesEntry form bad (fault.BadHandle row) = IsBadHandle form bad
-RefusesEntry form bad other = ⊥
 
 abbrev pub by_plan : Instance → Plan → Plan → Desk
 by_plan it x left = record { header = header_of; Answers = AnswersEntries it x left; Refuses = RefusesEntry }
@@ -59,13 +51,6 @@ abbrev pub AnswersEvents : Tables → Tables → Form → List Fields → List (
 AnswersEvents old new form rows lines sums =
     (events : List Event) × AreEvents rows events × (lines ≡ map (front_line old.instance) (answers_by old events))
     × (sums ≡ front_sums_of (answers_by old events)) × IsLeftBy old events new
-
--- a row of three fields that spells no event, or a row of another number of fields
-abbrev pub RefusesEvent : Form → Fields → LogFault → Type 0
-RefusesEvent form bad (fault.Fields row) = length bad ≢ 3
-RefusesEvent form bad (fault.BadFront row) = IsBadFront bad
-RefusesEvent form bad (fault.BadHandle row) = IsBadEvent bad
-RefusesEvent form bad other = ⊥
 
 abbrev pub by_fronts : Tables → Tables → Desk
 by_fronts old new = record { header = λ form. front_header; Answers = AnswersEvents old new; Refuses = RefusesEvent }

@@ -10,11 +10,7 @@ use Rattle.hsp_dispatch.specs.declared.answer.Answer.{Answer}
 use Rattle.hsp_dispatch.specs.declared.answer.Answer.TheVariants.{Assigned, Spent, Unknown}
 use Rattle.hsp_dispatch.specs.declared.answer.FrontSums.{FrontSums}
 use Rattle.hsp_dispatch.specs.declared.answer.LogSums.{LogSums}
-
--- an entry of a log: a query for a handle, from a region
-pub record Entry : Type 0 where
-  pub region : List ℕ
-  pub handle : List ℕ
+use Rattle.hsp_log.specs.Entries.{Entry, each_after}
 
 -- ---- spreads
 
@@ -75,11 +71,6 @@ answer_in it x earlier (Some row) = answer_at it row (slice_get (spread it x row
 
 abbrev pub answer_to : Instance → Plan → List Entry → Entry → Answer
 answer_to it x earlier entry = answer_in it x earlier (row_of it entry)
-
--- the answers to questions, each after all those before it
-abbrev pub each_after : {A B : Type 0} → (List A → A → B) → List A → List A → List B
-each_after answer earlier [] = []
-each_after answer earlier (one ∷ more) = answer earlier one ∷ each_after answer (earlier ++ one ∷ []) more
 
 -- the answers to entries, after earlier ones
 unfoldable pub answers_after : Instance → Plan → List Entry → List Entry → List Answer

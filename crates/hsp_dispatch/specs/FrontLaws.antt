@@ -7,9 +7,10 @@ use Rattle.hsp_check.specs.Plan.{Feasible, Plan}
 use Rattle.hsp_transport.specs.Sums.{sum_below}
 use Rattle.hsp_dispatch.specs.Desks.{IsLeftBy, answers_by}
 use Rattle.hsp_dispatch.specs.Dispatch.{IsSame, answers, row_of}
-use Rattle.hsp_dispatch.specs.Fronts.{AreFrontsOf, Event, IsTakenAt, Tables, answer_among, answers_at, assigned_by_all}
-use Rattle.hsp_dispatch.specs.Fronts.{entries_at, front_answer, front_answers, fronts_of, left_at_front, rest_at}
-use Rattle.hsp_dispatch.specs.Fronts.{share_of, shares_of}
+use Rattle.hsp_dispatch.specs.Fronts.{AreFrontsOf, IsTakenAt, Tables, answer_among, answers_at, assigned_by_all}
+use Rattle.hsp_dispatch.specs.Fronts.{front_answer, front_answers, fronts_of, left_at_front, rest_at, share_of}
+use Rattle.hsp_dispatch.specs.Fronts.{shares_of}
+use Rattle.hsp_log.specs.Entries.{Event, entries_at}
 use Rattle.hsp_dispatch.specs.declared.answer.Answer.TheVariants.{Spent}
 use Rattle.hsp_dispatch.specs.declared.answer.FrontAnswer.TheVariants.{Answered}
 

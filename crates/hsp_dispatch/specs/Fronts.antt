@@ -1,39 +1,25 @@
 -- Fronts: dispatchers that share one plan, each with a fixed share of it.
-use Rattle.std.specs.Prelude.{◌≡◌, ◌≢◌, ◌<◌, ◌+◌, ◌-◌, ◌/◌, ◌%◌, ◌==◌, nat_lt, Bool, true, false, ℕ, List, [], ◌∷◌}
-use Rattle.std.specs.Prelude.{◌++◌, count_by, map, slice_index_or, Some, if◌then◌else◌}
+use Rattle.std.specs.Prelude.{◌≡◌, ◌≢◌, ◌<◌, ◌+◌, ◌-◌, ◌==◌, nat_lt, Bool, true, false, ℕ, List, [], ◌∷◌, count_by, map}
+use Rattle.std.specs.Prelude.{slice_index_or, Some, if◌then◌else◌}
 use Rattle.hsp_instance.specs.Instance.{Instance, IsInstance}
 use Rattle.hsp_check.specs.Plan.{Plan}
-use Rattle.hsp_dispatch.specs.Dispatch.{Entry, IsSame, answer_to, each_after, is_assigned, is_in, is_spent, is_unknown}
-use Rattle.hsp_dispatch.specs.Dispatch.{rest, row_of}
+use Rattle.hsp_log.specs.Entries.{Entry, each_after, Event, entries_at}
+use Rattle.hsp_dispatch.specs.Dispatch.{IsSame, answer_to, is_assigned, is_in, is_spent, is_unknown, rest, row_of}
 use Rattle.hsp_dispatch.specs.Shares.{Held, IsHeld, left_of}
 use Rattle.hsp_dispatch.specs.declared.answer.Answer.{Answer}
 use Rattle.hsp_dispatch.specs.declared.answer.FrontAnswer.{FrontAnswer}
 use Rattle.hsp_dispatch.specs.declared.answer.FrontAnswer.TheVariants.{Answered, NoFront}
 use Rattle.hsp_dispatch.specs.declared.answer.FrontSums.{FrontSums}
 use Rattle.hsp_dispatch.specs.declared.share.Cell.{Cell}
-
--- an entry at a front
-pub record Event : Type 0 where
-  pub front : ℕ
-  pub entry : Entry
+use Rattle.hsp_log.specs.FrontShares.{share}
 
 -- ---- shares
-
--- the share of a front in a number: all fronts have the quotient, and the first ones have one of the remainder each
-abbrev pub share : ℕ → ℕ → ℕ → ℕ
-share fronts front number = number / fronts + (if nat_lt front (number % fronts) then 1 else 0)
 
 -- the table of a front's shares
 abbrev pub share_of : ℕ → ℕ → Plan → Plan
 share_of fronts front x row site = share fronts front (x row site)
 
 -- ---- answers
-
--- the entries at a front
-abbrev pub entries_at : ℕ → List Event → List Entry
-entries_at front [] = []
-entries_at front (event ∷ events) =
-    if event.front == front then event.entry ∷ entries_at front events else entries_at front events
 
 -- An event is answered by the table of its front and the earlier entries there.
 abbrev pub event_answer : Instance → ℕ → (ℕ → Plan) → List Event → Event → FrontAnswer

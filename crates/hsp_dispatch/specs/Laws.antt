@@ -8,7 +8,8 @@ use Rattle.hsp_check.specs.Instance.{network_of}
 use Rattle.hsp_check.specs.Network.{is_allowed}
 use Rattle.hsp_check.specs.Plan.{Feasible, Plan}
 use Rattle.hsp_transport.specs.Sums.{sum_below}
-use Rattle.hsp_dispatch.specs.Dispatch.{Entry, IsSame, answer_to, answers, assigned_in, rest, row_of}
+use Rattle.hsp_log.specs.Entries.{Entry}
+use Rattle.hsp_dispatch.specs.Dispatch.{IsSame, answer_to, answers, assigned_in, rest, row_of}
 use Rattle.hsp_dispatch.specs.declared.answer.Answer.{Answer}
 use Rattle.hsp_dispatch.specs.declared.answer.Answer.TheVariants.{Assigned, Spent, Unknown}
 

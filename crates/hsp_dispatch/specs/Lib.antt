@@ -1,7 +1,6 @@
 pub mod Dispatch
 pub mod Shares
 pub mod Lines
-pub mod Log
 pub mod Runs
 pub mod Desks
 pub mod Steps
@@ -9,4 +8,3 @@ pub mod Laws
 pub mod Fronts
 pub mod Standings
 pub mod FrontLaws
-pub mod RowChecks

@@ -1,8 +1,7 @@
 -- The lines of answers.
-use Rattle.std.specs.Prelude.{◌≡◌, ⊤, ℕ, ◌+◌, ◌<◌, List, [], ◌∷◌, ◌++◌, codes, map, Option, None, Some, option_map}
+use Rattle.std.specs.Prelude.{⊤, ℕ, ◌+◌, ◌<◌, List, [], ◌∷◌, ◌++◌, codes, Option, None, Some}
 use Rattle.std.specs.List.{slice_get}
-use Rattle.hsp_text.specs.Writing.{numbered}
-use Rattle.hsp_instance.specs.Instance.{Instance, Server, Site}
+use Rattle.hsp_instance.specs.Instance.{Instance, Server}
 use Rattle.hsp_dispatch.specs.declared.answer.Answer.{Answer}
 use Rattle.hsp_dispatch.specs.declared.answer.Answer.TheVariants.{Assigned, Spent, Unknown}
 use Rattle.hsp_dispatch.specs.declared.answer.FrontAnswer.{FrontAnswer}
@@ -11,18 +10,7 @@ use Rattle.hsp_dispatch.specs.declared.answer.FrontSums.{FrontSums}
 use Rattle.hsp_dispatch.specs.declared.answer.Given.{Given}
 use Rattle.hsp_dispatch.specs.declared.answer.Given.TheVariants.{NoFront as IsNoFront, Server as ByServer}
 use Rattle.hsp_dispatch.specs.declared.answer.Given.TheVariants.{Spent as IsSpent, Unknown as IsUnknown}
-
-abbrev pub name_in : Option Site → List ℕ
-name_in None = []
-name_in (Some site) = site.name
-
--- the name of a site
-abbrev pub name_at : Instance → ℕ → List ℕ
-name_at it site = name_in (slice_get it.sites site)
-
--- `assigned` with the site's name, the place and the identifier, each after a space
-abbrev pub assigned_line : List ℕ → ℕ → ℕ → List ℕ
-assigned_line name place id = codes "assigned " ++ numbered name (place ∷ id ∷ [])
+use Rattle.hsp_log.specs.Lines.{name_at, assigned_line, or_none}
 
 -- the line of an answer
 abbrev pub line_of : Instance → Answer → List ℕ
@@ -39,18 +27,6 @@ front_line it NoFront = codes "nofront" ++ 10 ∷ []
 abbrev pub text_of : List (List ℕ) → List ℕ
 text_of [] = []
 text_of (line ∷ more) = line ++ text_of more
-
--- the line of a query that is assigned to a server
-abbrev pub server_line : Instance → Server → List ℕ
-server_line it server = assigned_line (name_at it server.site) server.place server.id
-
--- the line of the server of a number
-abbrev pub IsLineOf : Instance → ℕ → List ℕ → Type 0
-IsLineOf it number line = option_map (server_line it) (slice_get it.servers number) ≡ Some line
-
--- those of all servers
-abbrev pub lines_of : Instance → List (List ℕ)
-lines_of it = map (server_line it) it.servers
 
 -- how an entry is answered: by the server of a number, or without one
 abbrev pub served_by : Option Server → Answer
@@ -74,10 +50,6 @@ IsAmong servers (ByServer number) = number < servers
 IsAmong servers IsSpent = ⊤
 IsAmong servers IsUnknown = ⊤
 IsAmong servers IsNoFront = ⊤
-
-abbrev pub or_none : Option (List ℕ) → List ℕ
-or_none None = []
-or_none (Some line) = line
 
 -- the line of an answer, by those of the servers
 abbrev pub line_by : List (List ℕ) → Given → List ℕ

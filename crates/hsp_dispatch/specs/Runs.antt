@@ -5,9 +5,9 @@ use Rattle.hsp_text.specs.Writing.{IsCut}
 use Rattle.hsp_csv.specs.Records.{Fields}
 use Rattle.hsp_dispatch.specs.Lines.{text_of}
 use Rattle.hsp_dispatch.specs.declared.answer.FrontSums.{FrontSums}
-use Rattle.hsp_dispatch.specs.declared.fault.LogFault.{LogFault}
-use Rattle.hsp_dispatch.specs.declared.fault.LogFault.TheVariants as fault
-use Rattle.hsp_dispatch.specs.declared.form.Form.{Form}
+use Rattle.hsp_log.specs.declared.fault.LogFault.{LogFault}
+use Rattle.hsp_log.specs.declared.fault.LogFault.TheVariants as fault
+use Rattle.hsp_log.specs.declared.form.Form.{Form}
 use Rattle.hsp_text.specs.declared.limits.TheConstants.{MOST_LOG_ROWS}
 
 -- Who answers the rows of a log: the headers of the logs that it takes, how it answers rows, and why it refuses one.

@@ -13,9 +13,8 @@ use Rattle.hsp_check.specs.Valid.{IsValidPlan}
 use Rattle.hsp_cert.specs.Certificate.{Claim, ascends, is_before, is_use}
 use Rattle.hsp_cert.specs.Certificate.Claim.{best, short}
 use Rattle.hsp_cert.specs.declared.use_line.UseLine.{UseLine}
-use Rattle.hsp_names.specs.declared.handle.HandleRef.{HandleRef}
-use Rattle.hsp_names.specs.Lent.{octets_of}
-use Rattle.hsp_dispatch.specs.Dispatch.{Entry, IsSame, answer_at, answer_to, arc_to, rest, row_of, spread}
+use Rattle.hsp_log.specs.Entries.{Entry}
+use Rattle.hsp_dispatch.specs.Dispatch.{IsSame, answer_at, answer_to, arc_to, rest, row_of, spread}
 use Rattle.hsp_dispatch.specs.Lines.{served_by}
 use Rattle.hsp_dispatch.specs.declared.answer.Answer.{Answer}
 use Rattle.hsp_dispatch.specs.declared.answer.Answer.TheVariants.{Spent}
@@ -122,10 +121,6 @@ pub record AreUsesOf (it : Instance) (uses : List UseLine) : Type 0 where
 abbrev pub taken_answer : Instance → Option ℕ → Answer
 taken_answer it None = Spent
 taken_answer it (Some number) = served_by (slice_get it.servers number)
-
--- a query for a handle, from a region
-abbrev pub query : List ℕ → HandleRef → Entry
-query region handle = record { region = region; handle = octets_of handle }
 
 -- the answer to a query by what is left
 abbrev pub answer_by : Held → Entry → Answer

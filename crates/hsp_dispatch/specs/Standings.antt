@@ -3,7 +3,7 @@ use Rattle.std.specs.Prelude.{Option, Some, None, IfSome, ◌≡◌, ◌≤◌, 
 use Rattle.std.specs.Prelude.{suc, List, [], ◌∷◌, ◌++◌, drop, map, if◌then◌else◌}
 use Rattle.std.specs.List.{AllByRecursion, AllZip, flat_map, range_with_len}
 use Rattle.hsp_text.specs.declared.limits.TheConstants.{GREATEST_COUNT}
-use Rattle.hsp_dispatch.specs.Fronts.{share}
+use Rattle.hsp_log.specs.FrontShares.{share}
 use Rattle.hsp_dispatch.specs.declared.counts.Widths.{Widths}
 use Rattle.hsp_dispatch.specs.declared.counts.Widths.TheVariants.{One, Two, Four}
 use Rattle.hsp_dispatch.specs.declared.front_share.Standing.{Standing}

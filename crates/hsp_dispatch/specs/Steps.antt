@@ -6,7 +6,7 @@ use Rattle.csv.specs.declared.reader.Reader.{Reader}
 use Rattle.hsp_csv.specs.Records.{Fields, IsKnown, records_from_state, records_left}
 use Rattle.hsp_instance.specs.Instance.{Instance}
 use Rattle.hsp_names.specs.Handle.{handle_in}
-use Rattle.hsp_dispatch.specs.Dispatch.{Entry}
+use Rattle.hsp_log.specs.Entries.{Entry}
 use Rattle.hsp_dispatch.specs.Fronts.{IsTakenAt, Tables, answer_among}
 use Rattle.hsp_dispatch.specs.Lines.{answer_of, counted}
 use Rattle.hsp_dispatch.specs.Runs.{Begins, IsUnheaded}
@@ -14,9 +14,9 @@ use Rattle.hsp_dispatch.specs.Shares.{Held, IsLeftBy, answer_by}
 use Rattle.hsp_dispatch.specs.declared.answer.FrontAnswer.TheVariants.{Answered}
 use Rattle.hsp_dispatch.specs.declared.answer.FrontSums.{FrontSums}
 use Rattle.hsp_dispatch.specs.declared.answer.Given.{Given}
-use Rattle.hsp_dispatch.specs.declared.fault.LogFault.{LogFault}
-use Rattle.hsp_dispatch.specs.declared.fault.LogFault.TheVariants as fault
-use Rattle.hsp_dispatch.specs.declared.form.Form.{Form}
+use Rattle.hsp_log.specs.declared.fault.LogFault.{LogFault}
+use Rattle.hsp_log.specs.declared.fault.LogFault.TheVariants as fault
+use Rattle.hsp_log.specs.declared.form.Form.{Form}
 use Rattle.hsp_dispatch.specs.declared.answering.LentEntry.{LentEntry}
 
 -- ---- entries

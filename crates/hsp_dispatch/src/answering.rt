@@ -7,12 +7,11 @@ ghost use Rattle.hsp_dispatch.specs.Dispatch.{row_of};
 ghost use Rattle.hsp_dispatch.specs.Lines.{IsAmong, given_of, line_by};
 ghost use Rattle.hsp_dispatch.specs.Shares.{taken_answer};
 ghost use Rattle.hsp_dispatch.specs.Steps.{entry_of};
-ghost use Rattle.hsp_dispatch.specs.declared.fault.LogFault.TheVariants.{BadHandle};
+ghost use Rattle.hsp_log.specs.declared.fault.LogFault.TheVariants.{BadHandle};
 
 use crate::answer::{Answer, Given};
-use crate::fault::LogFault;
-use crate::lines::ServerLines;
 use hsp_instance::Instance;
+use hsp_log::{LogFault, ServerLines};
 use hsp_names::HandleRef;
 
 /// An entry whose parts are lent.

@@ -3,16 +3,16 @@
 ghost use Rattle.std.specs.Prelude.{◌≡◌, ◌≢◌, IfErr, IfNone, IfOk, IfSome, OnErr, ℕ, List, length};
 ghost use Rattle.csv.specs.Records.{fields_of};
 ghost use Rattle.hsp_instance.specs.Instance.{Instance};
-ghost use Rattle.hsp_dispatch.specs.Lines.{IsAmong, line_by, lines_of};
+ghost use Rattle.hsp_dispatch.specs.Lines.{IsAmong, line_by};
+ghost use Rattle.hsp_log.specs.Lines.{lines_of};
 ghost use Rattle.hsp_dispatch.specs.Steps.{BeginsWithNone, GoesOn, IsRefused, RowAnswers};
-ghost use Rattle.hsp_dispatch.specs.declared.fault.LogFault.{LogFault};
-ghost use Rattle.hsp_dispatch.specs.declared.form.Form.{Form};
+ghost use Rattle.hsp_log.specs.declared.fault.LogFault.{LogFault};
+ghost use Rattle.hsp_log.specs.declared.form.Form.{Form};
 
 use crate::answer::Given;
-use crate::fault::LogFault;
-use crate::form::Form;
 use csv::ByteRecord;
 use hsp_instance::Instance;
+use hsp_log::{Form, LogFault};
 use std::alloc::Global;
 
 /// The form of a log, and the number of one of its rows.

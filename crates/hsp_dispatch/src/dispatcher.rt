@@ -4,7 +4,8 @@ ghost use Rattle.std.specs.Prelude.{◌≡◌, ◌<◌, ◌≤◌, IfOk, IfSome,
 ghost use Rattle.hsp_instance.specs.Instance.{IsInstance};
 ghost use Rattle.hsp_dispatch.specs.Dispatch.{IsSame};
 ghost use Rattle.hsp_dispatch.specs.Shares.{IsLeftBy, IsPlanFor, IsRestOf, answer_by, first_answer, left_of, plan_of};
-ghost use Rattle.hsp_dispatch.specs.Shares.{query, taken_answer};
+ghost use Rattle.hsp_dispatch.specs.Shares.{taken_answer};
+ghost use Rattle.hsp_log.specs.Entries.{query};
 
 use crate::answer::Answer;
 use crate::answering::served;

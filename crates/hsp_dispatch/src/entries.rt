@@ -3,24 +3,23 @@
 ghost use Rattle.std.specs.Prelude.{◌≡◌, ◌≢◌, IfErr, IfNone, IfOk, IfSome, Ok, OnErr, length};
 ghost use Rattle.csv.specs.Records.{fields_of};
 ghost use Rattle.hsp_names.specs.Handle.{handle_in};
-ghost use Rattle.hsp_dispatch.specs.Desks.{AnswersEntries, RefusesEntry};
+ghost use Rattle.hsp_dispatch.specs.Desks.{AnswersEntries};
+ghost use Rattle.hsp_log.specs.RowChecks.{RefusesEntry};
 ghost use Rattle.hsp_dispatch.specs.Lines.{IsAmong};
-ghost use Rattle.hsp_dispatch.specs.Log.{header_of};
+ghost use Rattle.hsp_log.specs.Log.{header_of};
 ghost use Rattle.hsp_dispatch.specs.Shares.{left_of};
 ghost use Rattle.hsp_dispatch.specs.Steps.{Takes, entry_of};
-ghost use Rattle.hsp_dispatch.specs.declared.fault.LogFault.TheVariants.{BadHandle};
-ghost use Rattle.hsp_dispatch.specs.declared.form.Form.{Form};
+ghost use Rattle.hsp_log.specs.declared.fault.LogFault.TheVariants.{BadHandle};
+ghost use Rattle.hsp_log.specs.declared.form.Form.{Form};
 
 use crate::answer::Given;
 use crate::answering::{LentEntry, given_by, row_in};
-use crate::body::{octets_in, request_in};
 use crate::desk::{Desk, Place};
 use crate::dispatcher::Dispatcher;
-use crate::fault::LogFault;
-use crate::form::{Form, form_of};
 use csv::ByteRecord;
 use hsp_csv::two_fields;
 use hsp_instance::Instance;
+use hsp_log::{Form, LogFault, form_of, octets_in, request_in};
 use std::alloc::Global;
 
 // Answers the entry in the row with this number, and takes what it is answered by from the plan.
@@ -77,8 +76,12 @@ impl<'a> Desk for Dispatcher<'a> {
                 choose(self, LentEntry { region, handle }, place.row)
             }
             Form::Bodies => {
-                let octets = octets_in(alloc, field, place.row)?;
-                let request = request_in(&octets, place.row)?;
+                let Some(octets) = octets_in(alloc, field)? else {
+                    return Err(LogFault::BadBody { row: place.row });
+                };
+                let Some(request) = request_in(&octets) else {
+                    return Err(LogFault::BadBody { row: place.row });
+                };
                 let handle = request.handle();
                 choose(self, LentEntry { region, handle }, place.row)
             }

@@ -2,19 +2,19 @@
 
 ghost use Rattle.std.specs.Prelude.{◌≡◌, ◌≢◌, IfNone, IfSome};
 ghost use Rattle.csv.specs.Records.{fields_of};
-ghost use Rattle.hsp_dispatch.specs.Desks.{AnswersEvents, RefusesEvent};
-ghost use Rattle.hsp_dispatch.specs.Log.{front_header};
-ghost use Rattle.hsp_dispatch.specs.declared.form.Form.{Form};
+ghost use Rattle.hsp_dispatch.specs.Desks.{AnswersEvents};
+ghost use Rattle.hsp_log.specs.RowChecks.{RefusesEvent};
+ghost use Rattle.hsp_log.specs.Log.{front_header};
+ghost use Rattle.hsp_log.specs.declared.form.Form.{Form};
 
 use crate::answer::Given;
 use crate::answering::LentEntry;
 use crate::desk::{Desk, Place};
-use crate::fault::LogFault;
-use crate::form::{Form, event_form_of};
 use crate::fronts::Fronts;
 use csv::ByteRecord;
 use hsp_csv::three_fields;
 use hsp_instance::Instance;
+use hsp_log::{Form, LogFault, event_form_of};
 use hsp_text::read_whole;
 use std::alloc::Global;
 

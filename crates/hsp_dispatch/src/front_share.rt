@@ -2,20 +2,11 @@
 
 ghost use Rattle.std.specs.Prelude.{◌≡◌, ◌<◌, ◌≤◌, length};
 ghost use Rattle.hsp_text.specs.declared.limits.TheConstants.{MOST_SITES};
-ghost use Rattle.hsp_dispatch.specs.Fronts.{share};
 ghost use Rattle.hsp_dispatch.specs.Shares.{left_at};
 ghost use Rattle.hsp_dispatch.specs.Standings.{cells_left, left_among, shares_in, shares_sum};
 
 use crate::share::Cell;
-
-/// How many fronts there are, and the number of one of them.
-#[derive(Clone, Copy)]
-pub struct Front {
-    /// How many fronts there are.
-    pub fronts: u32,
-    /// The number of this one, from 0.
-    pub number: u32,
-}
+use hsp_log::{Front, share};
 
 /// The number of the cell of a row at which a front stands, and what the front has left there. If that is nothing, it
 /// has nothing left of the row.
@@ -23,19 +14,6 @@ pub struct Front {
 pub(crate) struct Standing {
     pub(crate) cell: u32,
     pub(crate) left: u32,
-}
-
-/// The share of a front in a number: all fronts have the quotient, and the first ones have one of the remainder each.
-pub fn share(number: u64, front: Front) -> u64
-    requires { 0 < front.fronts }
-    ensures { result ≡ share front.fronts front.number number }
-{
-    let fronts = u64::from(front.fronts);
-    if u64::from(front.number) < number % fronts {
-        number / fronts + 1
-    } else {
-        number / fronts
-    }
 }
 
 /// The shares of a front in cells together.

@@ -9,21 +9,21 @@ ghost use Rattle.hsp_dispatch.specs.Fronts.{AreFrontsOf, IsTakenAt, IsTakenOf, a
 ghost use Rattle.hsp_dispatch.specs.Fronts.{left_at_front};
 ghost use Rattle.hsp_dispatch.specs.Lines.{IsAmong};
 ghost use Rattle.hsp_dispatch.specs.Shares.{AreUsesOf, HoldsTable, IsHeld, IsPlanFor, first_answer, holding, plan_of};
-ghost use Rattle.hsp_dispatch.specs.Shares.{query, taken_answer};
+ghost use Rattle.hsp_dispatch.specs.Shares.{taken_answer};
+ghost use Rattle.hsp_log.specs.Entries.{query};
 ghost use Rattle.hsp_dispatch.specs.Standings.{all_sums, place_of, sums_of};
 ghost use Rattle.hsp_dispatch.specs.Steps.{TakesAt, entry_of};
-ghost use Rattle.hsp_dispatch.specs.declared.fault.LogFault.TheVariants.{BadHandle};
+ghost use Rattle.hsp_log.specs.declared.fault.LogFault.TheVariants.{BadHandle};
 
 use crate::answer::{Answer, FrontAnswer, Given};
 use crate::answering::{LentEntry, given_by, row_in, served};
 use crate::counts::Counts;
-use crate::fault::LogFault;
-use crate::front_share::Front;
 use crate::plan_cells::PlanCells;
 use crate::row_cells::RowCells;
 use crate::sharing::share_out;
 use hsp_cert::{Certificate, UseLine};
 use hsp_instance::Instance;
+use hsp_log::{Front, LogFault};
 use hsp_names::HandleRef;
 use std::alloc::{AllocError, Global};
 use std::marker::Model;

@@ -4,31 +4,22 @@
 
 mod answer;
 mod answering;
-mod body;
 mod counts;
 mod desk;
 mod dispatcher;
 mod entries;
 mod events;
-mod fault;
-mod form;
-pub mod front_share;
+mod front_share;
 mod fronts;
 pub mod laws;
-mod lines;
 mod plan_cells;
 mod reading;
 mod row_cells;
-mod row_check;
 mod run;
 mod share;
 mod sharing;
 
 pub use answer::{Answer, FrontAnswer, FrontSums, LogSums};
 pub use dispatcher::Dispatcher;
-pub use fault::LogFault;
-pub use form::Form;
 pub use fronts::Fronts;
-pub use lines::ServerLines;
-pub use row_check::{LogForm, check_row, field_at_fault, log_form_of};
 pub use run::{run_fronts, run_log};

@@ -5,8 +5,8 @@ ghost use Rattle.hsp_dispatch.specs.Shares.{cells_at, first_of, left_at};
 ghost use Rattle.hsp_dispatch.specs.Standings.{left_among, sole_in};
 ghost use Rattle.hsp_dispatch.specs.declared.share.Cell.{Cell};
 
-use crate::front_share::Front;
 use crate::row_cells::RowCells;
+use hsp_log::Front;
 use std::alloc::{AllocError, Global};
 use std::marker::Model;
 

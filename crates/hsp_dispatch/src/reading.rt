@@ -5,10 +5,9 @@ ghost use Rattle.hsp_csv.specs.Records.{IsReading};
 ghost use Rattle.hsp_dispatch.specs.Steps.{FailsHeader, TakesHeader};
 
 use crate::desk::Desk;
-use crate::fault::LogFault;
-use crate::form::Form;
 use csv::{ByteRecord, Reader};
 use hsp_csv::take_record;
+use hsp_log::{Form, LogFault};
 use std::io::Read;
 
 /// Takes the header, and returns the form of the log.

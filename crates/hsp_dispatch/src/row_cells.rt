@@ -6,8 +6,9 @@ ghost use Rattle.hsp_dispatch.specs.Shares.{first_of, left_at};
 ghost use Rattle.hsp_dispatch.specs.Standings.{AreBounded, IsSole, left_among, shares_sum, sole_in};
 ghost use Rattle.hsp_dispatch.specs.declared.share.Cell.{Cell};
 
-use crate::front_share::{Front, share_at, stand_with, sum_in};
+use crate::front_share::{share_at, stand_with, sum_in};
 use crate::share::Cell;
+use hsp_log::Front;
 use std::marker::Model;
 
 /// The cells that a plan gives a row.

@@ -1,4 +1,4 @@
--- Uses and flagged rows, put down one a turn.
+-- Uses, put down one a turn.
 use Rattle.std.proofs.Common.{◌≡◌, ◌≢◌, ℕ, zero, suc, ◌+◌, ◌<◌, ◌≤◌, ◌∙◌, Bool, true, false, List, [], ◌∷◌, ◌++◌}
 use Rattle.std.proofs.Common.{length, drop, slice_index, slice_index_or, map, if◌then◌else◌, refl, ap, sym, arith}
 use Rattle.std.proofs.Common.{ne_eqb, append_assoc, length-append}
@@ -9,7 +9,7 @@ use Rattle.hsp_cert.specs.declared.use_line.UseLine.{UseLine}
 use Rattle.hsp_instance.specs.declared.arc.Arc.{Arc}
 use Rattle.hsp_check.specs.declared.arc.NetworkArc.{NetworkArc}
 use Rattle.hsp_check.specs.Instance.{arc_of, arcs_from}
-use Rattle.hsp_flow.specs.Planning.{use_of, uses_of, flagged_from}
+use Rattle.hsp_flow.specs.Planning.{use_of, uses_of}
 
 abbrev pub no_own : Arc
 no_own = record { site = 0; server = 0; cost = 0 }
@@ -95,19 +95,3 @@ rows_done lists k past uses all flows so_far =
     let none : uses_of (arcs_from k (drop k lists)) flows ≡ [] =
     ap (λ (xs : List (List Arc)). uses_of (arcs_from k xs) flows) (drop_all k lists past) in
     sym (append-nil uses) ∙ ap (λ us. uses ++ us) (sym none) ∙ so_far
-
-module _ (flags : List Bool) (k : ℕ) (l : k < length flags) (rows all : List ℕ)
-    (so_far : rows ++ flagged_from k (drop k flags) ≡ all) where
-  -- one flagged row more is put down
-  flag_step : rows
-      ++ ((if slice_index_or flags k false then k ∷ [] else []) ++ flagged_from (k + 1) (drop (k + 1) flags)) ≡ all
-  flag_step = rw (drop_at flags k false l) at so_far
-
-  -- a flagged row
-  pub flag_more : slice_index_or flags k false ≡ true
-      → (rows ++ k ∷ []) ++ flagged_from (k + 1) (drop (k + 1) flags) ≡ all
-  flag_more set = append_assoc rows (k ∷ []) (flagged_from (k + 1) (drop (k + 1) flags)) ∙ rw set at flag_step
-
-  -- another row
-  pub flag_less : slice_index_or flags k false ≡ false → rows ++ flagged_from (k + 1) (drop (k + 1) flags) ≡ all
-  flag_less unset = rw unset at flag_step

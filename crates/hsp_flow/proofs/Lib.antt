@@ -9,7 +9,3 @@ pub mod Ranges
 pub mod ShortRows
 pub mod Showing
 pub mod Carrying
-pub mod GroupKinds
-pub mod Spreads
-pub mod GroupLists
-pub mod SpreadAnswers

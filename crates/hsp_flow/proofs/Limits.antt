@@ -22,7 +22,7 @@ use Rattle.hsp_transport.proofs.Summing.{sum_by_le_all, by_key}
 use Rattle.hsp_network.specs.Layout.{IsSmall}
 use Rattle.hsp_network.specs.Network.{IsNetwork, host_of, numbered}
 use Rattle.hsp_transport.specs.Cut.{demand_of}
-use Rattle.hsp_flow.specs.Nodes.{nodes_by}
+use Rattle.hsp_flow.specs.Nodes.{nodes_of}
 use Rattle.hsp_flow.specs.Planning.{transport_of, transport_over, row_of, server_of, cost_of}
 use Rattle.hsp_flow.proofs.Ordering.{no_arc, each_at, all_ordered, rows_between, rows_ordered, arcs_many}
 use Rattle.hsp_flow.proofs.Bridging.{arc}
@@ -243,10 +243,10 @@ module _ (it : Instance) (is : IsInstance it) where
       omega (arith, dear, keyed, low, rows_many, is.rows.few)
 
 -- how many nodes its network has
-pub few_nodes : (it : Instance) (sources : ℕ) (demands capacities limits : List ℕ) → length demands ≡ sources
+pub few_nodes : (it : Instance) (demands capacities limits : List ℕ) → length demands ≡ length it.rows
     → capacities ≡ map (λ s. s.capacity) it.servers → limits ≡ map (λ h. h.limit) it.hosts →
-    (n : ℕ) → n ≤ 1 + length limits + length capacities + length demands → n ≤ nodes_by it sources
-few_nodes it sources demands capacities limits many servers hosts n l =
+    (n : ℕ) → n ≤ 1 + length limits + length capacities + length demands → n ≤ nodes_of it
+few_nodes it demands capacities limits many servers hosts n l =
     let servers_many : length capacities ≡ length it.servers =
     ap (λ (xs : List ℕ). length xs) servers ∙ length-map it.servers (λ (s : Server). s.capacity) in
     let hosts_many : length limits ≡ length it.hosts =

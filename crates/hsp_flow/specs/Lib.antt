@@ -3,5 +3,3 @@ pub mod Ordered
 pub mod Columns
 pub mod Lists
 pub mod Nodes
-pub mod Grouped
-pub mod SpreadFlows

@@ -6,12 +6,9 @@
 mod amounts;
 mod arcs;
 mod certify;
-mod grouping;
-pub mod laws;
 mod planning;
 mod shortfall;
-mod spreading;
 
-pub use hsp_network::{Frontier, HeapFrontier, ScanFrontier, SearchEffort};
-pub use planning::{Effort, solve, solve_counted, solve_proposed, solve_with};
+pub use hsp_network::{Effort, Frontier, HeapFrontier, ScanFrontier, SearchEffort};
+pub use planning::{solve, solve_counted, solve_proposed, solve_with};
 pub use shortfall::flagged;

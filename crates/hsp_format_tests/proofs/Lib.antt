@@ -1,14 +1,1 @@
-mod Steps
-mod Abc
-mod Empty
-mod Letters
-mod LowerA
-mod Message
-mod One
-mod OneTwoThree
-mod Ten
-mod Three
-mod Two
-mod UpperA
-mod Zero
 mod Vectors

@@ -172,66 +172,6 @@ fn site_faults_are_reported(rt: HostRuntime) {
     is_cut(&rt, &17, site_fault(rt.alloc(), &octets[..17]), 16);
 }
 
-// Where the last of the fields begins that a text of `len` octets reaches.
-fn last_field(fields: &[usize], len: usize) -> usize {
-    let mut at = 0;
-    for field in fields {
-        if *field <= len {
-            at = *field;
-        }
-    }
-    at
-}
-
-#[test]
-fn every_cut_is_reported(rt: HostRuntime) {
-    let two_servers = [0, 2, 4, 6, 7, 8, 12, 16, 20, 24, 40, 44, 48, 52, 68, 72];
-    let full = [
-        0, 2, 4, 6, 7, 8, 12, 13, 17, 21, 22, 26, 28, 32, 36, 52, 56, 59, 63, 64, 65,
-    ];
-    let sites: [(&[u8], &[usize]); 2] = [(&TWO_SERVERS, &two_servers), (FULL_SITE, &full)];
-    for (octets, fields) in sites {
-        for n in 0..octets.len() {
-            let at = last_field(fields, n);
-            is_cut(&rt, &n, site_fault(rt.alloc(), &octets[..n]), at);
-        }
-    }
-}
-
-#[test]
-fn every_cut_of_a_list_is_reported(rt: HostRuntime) {
-    let fields = [0, 4, 8, 12, 19, 23, 24, 25, 29, 37, 41, 45, 49];
-    for n in 0..REFERRING.len() {
-        let at = last_field(&fields, n);
-        is_cut(&rt, &n, values_fault(rt.alloc(), &REFERRING[..n]), at);
-    }
-}
-
-#[test]
-fn every_cut_of_a_body_is_reported(rt: HostRuntime) {
-    let fields = [0, 4, 8, 12, 16, 20, 24];
-    for n in 0..BODY.len() {
-        let at = last_field(&fields, n);
-        is_cut(&rt, &n, decode_request(&BODY[..n]).err(), at);
-    }
-}
-
-#[test]
-fn forged_lengths_reach_past_the_end(rt: HostRuntime) {
-    for (place, at) in [(0, 53), (8, 12), (19, 23), (37, 53), (41, 45)] {
-        let mut octets = [0; 53];
-        octets.copy_from_slice(REFERRING);
-        octets[place..place + 4].copy_from_slice(&[255; 4]);
-        is_cut(&rt, &place, values_fault(rt.alloc(), &octets), at);
-    }
-    for (place, at) in [(0, 4), (8, 28), (16, 31), (20, 24)] {
-        let mut octets = [0; 31];
-        octets.copy_from_slice(BODY);
-        octets[place..place + 4].copy_from_slice(&[255; 4]);
-        is_cut(&rt, &place, decode_request(&octets).err(), at);
-    }
-}
-
 // The fault of a site that is decoded once.
 fn first_site_fault(alloc: Global, octets: &[u8]) -> Option<RecordFault> {
     decode_site(alloc, octets).err()
@@ -335,26 +275,6 @@ fn references_and_no_values_come_back(rt: HostRuntime) {
         is_same(&rt, list.is_empty(), len == 0);
         list_comes_back(&rt, rt.alloc(), &list, octets);
     }
-}
-
-#[test]
-fn value_faults_are_reported(rt: HostRuntime) {
-    let mut octets = [0; 38];
-    octets[3] = 2;
-    octets[7] = 1;
-    octets[37] = 1;
-    is_same(
-        &rt,
-        values_fault(rt.alloc(), &octets),
-        Some(RecordFault::IndexTwice { index: 1 }),
-    );
-    is_cut(&rt, &37, values_fault(rt.alloc(), &octets[..37]), 34);
-    octets[3] = 1;
-    is_same(
-        &rt,
-        values_fault(rt.alloc(), &octets),
-        Some(RecordFault::Trailing { at: 34 }),
-    );
 }
 
 // The body is a request for the handle, or has the fault.

@@ -20,8 +20,8 @@ fn demand_of(alloc: Global, text: &[u8]) -> Result<Demand, TableFault> {
 }
 
 fn costs_of(alloc: Global, text: &[u8]) -> Result<Costs, TableFault> {
-    match read_costs(alloc, text) {
-        Err(TableFault::OutOfMemory) => read_costs(alloc, text),
+    match read_costs(alloc, text, Limits::Tables) {
+        Err(TableFault::OutOfMemory) => read_costs(alloc, text, Limits::Tables),
         answer => answer,
     }
 }
@@ -177,44 +177,6 @@ fn faults_of_demand(rt: HostRuntime) {
 }
 
 #[test]
-fn faults_of_costs(rt: HostRuntime) {
-    const NUMBER: Option<TableFault> = Some(TableFault::BadNumber { row: 0 });
-    const CASES: [(&[u8], Option<TableFault>); 4] = [
-        (b"region,handle,count\n", Some(TableFault::Header)),
-        (
-            b"region,site,cost\nr1,E,1\nr2,E,1\nr1,E,1\n",
-            Some(TableFault::RowTwice { row: 2 }),
-        ),
-        (b"region,site,cost\nr1,E,1000001\n", NUMBER),
-        (
-            b"region,site,cost\nr1,,1\n",
-            Some(TableFault::BadName { row: 0 }),
-        ),
-    ];
-    for (text, wanted) in CASES {
-        is_fault(&rt, text, costs_of(rt.alloc(), text).err(), wanted);
-    }
-}
-
-#[test]
-fn faults_of_capacity(rt: HostRuntime) {
-    const TWICE: Option<TableFault> = Some(TableFault::RowTwice { row: 1 });
-    const NUMBER: Option<TableFault> = Some(TableFault::BadNumber { row: 0 });
-    const CASES: [(&[u8], Option<TableFault>); 4] = [
-        (
-            b"site,server_id,capacity\nE,4294967295,1000000000\nW,4294967295,0\n",
-            None,
-        ),
-        (b"site,server_id,capacity\nE,4294967296,1\n", NUMBER),
-        (b"site,server_id,capacity\nE,1,1000000001\n", NUMBER),
-        (b"site,server_id,capacity\nE,1,1\nE,1,2\n", TWICE),
-    ];
-    for (text, wanted) in CASES {
-        is_fault(&rt, text, capacity_of(rt.alloc(), text).err(), wanted);
-    }
-}
-
-#[test]
 fn faults_of_settings(rt: HostRuntime) {
     const BAD: Option<TableFault> = Some(TableFault::BadSite { site: 0 });
     const CASES: [(&[u8], Option<TableFault>); 22] = [
@@ -262,50 +224,6 @@ fn long_texts_that_are_no_toml(rt: HostRuntime) {
         [[site]]\nname = \"H\"\nindex = 4\n[[site\n";
     let answer = settings_of(rt.alloc(), text).err();
     is_fault(&rt, text, answer, Some(TableFault::NotToml));
-}
-
-#[test]
-fn faults_of_hosts(rt: HostRuntime) {
-    const BAD: Option<TableFault> = Some(TableFault::BadHost { host: 0 });
-    const TWICE: Option<TableFault> = Some(TableFault::HostTwice { host: 1 });
-    const CASES: [(&[u8], Option<TableFault>); 11] = [
-        (b"host = []", None),
-        (b"host = 1", BAD),
-        (b"host = [1]", BAD),
-        (
-            b"host = 1\nsite = 1\n",
-            Some(TableFault::BadSite { site: 0 }),
-        ),
-        (
-            b"[[host]]\naddress = \"aaaaaaaaaaaaaaaaaaaaaaaaaaaaaaaa\"\nlimit = 1\nname = 1\n",
-            Some(TableFault::UnknownKey),
-        ),
-        (
-            b"[[host]]\naddress = \"aaaaaaaaaaaaaaaaaaaaaaaaaaaaaaa\"\nlimit = 1\n",
-            BAD,
-        ),
-        (
-            b"[[host]]\naddress = \"aaaaaaaaaaaaaaaaaaaaaaaaaaaaaaaa\"\n",
-            BAD,
-        ),
-        (b"[[host]]\nlimit = 1\n", BAD),
-        (
-            b"[[host]]\naddress = \"aaaaaaaaaaaaaaaaaaaaaaaaaaaaaaaa\"\nlimit = -1\n",
-            BAD,
-        ),
-        (
-            b"[[host]]\naddress = \"aaaaaaaaaaaaaaaaaaaaaaaaaaaaaaaa\"\nlimit = 1000000000001\n",
-            BAD,
-        ),
-        (
-            b"[[host]]\naddress = \"aaaaaaaaaaaaaaaaaaaaaaaaaaaaaaaa\"\nlimit = 1\n[[host]]\n\
-            address = \"AAAAAAAAAAAAAAAAAAAAAAAAAAAAAAAA\"\nlimit = 1\n",
-            TWICE,
-        ),
-    ];
-    for (text, wanted) in CASES {
-        is_fault(&rt, text, settings_of(rt.alloc(), text).err(), wanted);
-    }
 }
 
 // A site's index that is written in base 16, and a host's limit whose digits stand in threes.

@@ -20,23 +20,6 @@ fn each_row_is_answered_before_the_next_read(rt: HostRuntime) {
 }
 
 #[test]
-fn rows_are_lines(rt: HostRuntime) {
-    const CASES: [(&[&[u8]], &[u8]); 5] = [
-        (&[b"a\nb"], b"<a\nb>1 a\n<>2 b\n.ended"),
-        (&[b"a", b"b"], b"<a<b<>1 ab\n.ended"),
-        (&[b"\n"], b"<\n<.ended"),
-        (
-            &[b"\n\na\n\n", b"b\n"],
-            b"<\n\na\n\n>1 a\n<b\n>2 b\n<.ended",
-        ),
-        (&[b"a\r\n"], b"<a\r\n>1 a\r\n<.ended"),
-    ];
-    for (pieces, wanted) in CASES {
-        goes(&rt, rt.alloc(), pieces, ALL, wanted);
-    }
-}
-
-#[test]
 fn a_refused_row_stops_the_talk(rt: HostRuntime) {
     const CASES: [(&[&[u8]], &[u8]); 4] = [
         (&[b"a\n!\nb\n"], b"<a\n!\nb\n>1 a\n.bad"),

@@ -6,23 +6,6 @@ use std::io::{ErrorKind, Write};
 use std::process::Abort;
 
 #[test]
-fn whole_numbers_are_read(rt: HostRuntime) {
-    const CASES: [(&[u8], Result<u64, WholeFault>); 8] = [
-        (b"0", Ok(0)),
-        (b"1000000", Ok(1_000_000)),
-        (b"", Err(WholeFault::NotWhole)),
-        (b"01", Err(WholeFault::NotWhole)),
-        (b"+1", Err(WholeFault::NotWhole)),
-        (b"1x", Err(WholeFault::NotWhole)),
-        (b"1000001", Err(WholeFault::TooLarge)),
-        (b"999999999999999999999999999999", Err(WholeFault::TooLarge)),
-    ];
-    for (text, wanted) in CASES {
-        is_same(&rt, read_whole(text, 1_000_000), wanted);
-    }
-}
-
-#[test]
 fn the_greatest_number_is_read(rt: HostRuntime) {
     let greatest = read_whole(b"18446744073709551615", u64::MAX);
     is_same(&rt, greatest, Ok(u64::MAX));

@@ -52,6 +52,11 @@ fn upper_digest(octets: &[u8]) -> [u8; 16]
 }
 
 /// The MD5 (RFC 1321) of the part of the handle that the option names, with its ASCII letters in upper case.
+///
+/// ```
+/// let digest = digest_of(HashOption::ByLocal, HandleRef::parse(b"10/1")?);
+/// assert!(rt; digest == 0xc4ca4238a0b923820dcc509a6f75849bu128.to_be_bytes());
+/// ```
 pub fn digest_of(option: HashOption, handle: HandleRef<'_>) -> [u8; 16]
     ensures { result ≡ digest option (octets_of handle.entry) }
 {

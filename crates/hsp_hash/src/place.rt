@@ -22,6 +22,12 @@ pub fn number_of_digest(digest: &[u8; 16], servers: u32) -> u32
 
 /// The place of the server that is responsible for the handle, counted from 0, among the server records of a site with
 /// this hash option (RFC 3652, section 3.1.3).
+///
+/// ```
+/// let handle = HandleRef::parse(b"10/a")?;
+/// assert!(rt; server_number(HashOption::ByLocal, handle, 3) == 2);
+/// assert!(rt; server_number(HashOption::ByLocal, handle, 7) == 1);
+/// ```
 pub fn server_number(option: HashOption, handle: HandleRef<'_>, servers: u32) -> u32
     requires { 0 < servers }
     ensures place { result ≡ server_place option (octets_of handle.entry) servers }

@@ -5,7 +5,6 @@ pub mod KnownRegions
 pub mod ServerLists
 pub mod Limits
 pub mod ArcsWithin
-pub mod FirstSeen
 pub mod SiteSums
 pub mod SiteNames
 pub mod SitesInTurn

@@ -2,5 +2,4 @@ pub mod Instance
 pub mod Building
 pub mod Parts
 pub mod RegionCosts
-pub mod Groups
 pub mod RowArcs

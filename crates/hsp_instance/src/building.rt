@@ -7,7 +7,7 @@ ghost use Rattle.hsp_text.specs.Answers.{GivesUnless, Stands};
 ghost use Rattle.hsp_instance.specs.Building.{IsBuilt, instance_with};
 
 use crate::arc_building::arcs_of;
-use crate::checks::{check_capacities, check_cost_rows};
+use crate::checks::{check_capacities, check_costs};
 use crate::fault::BuildFault;
 use crate::instance::Instance;
 use crate::server_building::{hosts_of, servers_of};
@@ -42,7 +42,7 @@ fn instance_with(
         }) sites) }
 {
     let list = sites.sites.as_slice();
-    check_cost_rows(list, tables.costs)?;
+    check_costs(list, tables.costs)?;
     check_capacities(list, tables.capacity)?;
     let hosts = hosts_of(alloc, settings)?;
     let servers = servers_of(alloc, list, tables.capacity, hosts.as_slice())?;
@@ -59,9 +59,21 @@ fn instance_with(
 
 /// The instance of settings, the value list that they may refer to, demand, costs and capacities.
 ///
-/// The first fault is returned, in this order: the faults of the sites, as [`build_sites`] has them; then, row by row,
-/// UnknownSite of the costs; then, row by row, UnknownSite and UnknownServer of the capacities; then, by site and
-/// place, NoCapacity.
+/// ```
+/// // The texts are those of a worked service, in `hsp_test_support::service`.
+/// let settings = read_settings(alloc, SETTINGS)?;
+/// let demand = read_demand(alloc, DEMAND)?;
+/// let costs = read_costs(alloc, COSTS, Limits::Tables)?;
+/// let capacity = read_capacity(alloc, CAPACITY)?;
+/// let instance = build(alloc, &settings, None, &demand, &costs, &capacity)?;
+/// assert!(rt; instance.rows() == 3 && instance.servers() == 5);
+/// ```
+///
+/// # Errors
+///
+/// The first in this order: the faults of the sites, as [`build_sites`] has them; then, row by row, `UnknownSite` of
+/// the costs; then, row by row, `UnknownSite` and `UnknownServer` of the capacities; then, by site and place,
+/// `NoCapacity`. `OutOfMemory` where memory runs out.
 pub fn build(
     alloc: Global,
     settings: &Settings,

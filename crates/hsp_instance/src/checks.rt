@@ -9,7 +9,7 @@ ghost use Rattle.hsp_instance.specs.Building.{capacity_fault, capacity_row_fault
 
 use crate::fault::{BuildFault, Table};
 use crate::site_reading::has_id;
-use crate::sites::{Site, Sites};
+use crate::sites::Site;
 use hsp_tables::{Capacities, Costs};
 
 // The site of a name.
@@ -26,7 +26,7 @@ fn site_named<'a>(sites: &'a [Site], name: &[u8]) -> Option<&'a Site>
 
 // Checks that the sites of all costs are there.
 #[tactic(auto, using(crate::proofs::Lists::drop_at))]
-pub(crate) fn check_cost_rows(sites: &[Site], costs: &Costs) -> Result<(), BuildFault>
+pub(crate) fn check_costs(sites: &[Site], costs: &Costs) -> Result<(), BuildFault>
     ensures fault { Gives (λ u. u) result (unless (cost_fault sites.now 0 costs.now)) }
     // The costs are within their limits.
     ensures within { AreCosts costs.now }
@@ -40,13 +40,6 @@ pub(crate) fn check_cost_rows(sites: &[Site], costs: &Costs) -> Result<(), Build
         };
     }
     Ok(())
-}
-
-/// Checks that the sites of all costs are there. The fault is UnknownSite of the first row whose site is not.
-pub fn check_costs(sites: &Sites, costs: &Costs) -> Result<(), BuildFault>
-    ensures { Gives (λ u. u) result (unless (cost_fault sites.now 0 costs.now)) }
-{
-    check_cost_rows(sites.sites.as_slice(), costs)
 }
 
 // Checks that the site of a row of the capacities is there, and has the row's server.

@@ -7,6 +7,10 @@ use crate::instance::Instance;
 use std::alloc::{AllocError, Global};
 
 /// The count of each row.
+///
+/// # Errors
+///
+/// An `AllocError` where memory runs out.
 pub fn counts_of(alloc: Global, instance: &Instance) -> Result<Vec<u64>, AllocError>
     ensures counts { IfOk result (λ counts. counts.items ≡ map (λ r. r.count) instance.now.rows) }
     ensures few { IfOk result (λ counts. length counts.items ≤ MOST_DEMAND_ROWS) }
@@ -20,6 +24,10 @@ pub fn counts_of(alloc: Global, instance: &Instance) -> Result<Vec<u64>, AllocEr
 }
 
 /// The capacity of each server.
+///
+/// # Errors
+///
+/// An `AllocError` where memory runs out.
 pub fn capacities_of(alloc: Global, instance: &Instance) -> Result<Vec<u64>, AllocError>
     ensures capacities { IfOk result
         (λ capacities. capacities.items ≡ map (λ s. s.capacity) instance.now.servers) }
@@ -34,6 +42,10 @@ pub fn capacities_of(alloc: Global, instance: &Instance) -> Result<Vec<u64>, All
 }
 
 /// The host of each server, or None where it stands on no listed host.
+///
+/// # Errors
+///
+/// An `AllocError` where memory runs out.
 pub fn server_hosts_of(alloc: Global, instance: &Instance) -> Result<Vec<Option<u32>>, AllocError>
     ensures hosts { IfOk result (λ hosts. hosts.items ≡ map (λ s. s.host) instance.now.servers) }
     ensures few { IfOk result (λ hosts. length hosts.items ≤ MOST_SERVERS) }
@@ -46,6 +58,10 @@ pub fn server_hosts_of(alloc: Global, instance: &Instance) -> Result<Vec<Option<
 }
 
 /// The limit of each host.
+///
+/// # Errors
+///
+/// An `AllocError` where memory runs out.
 pub fn limits_of(alloc: Global, instance: &Instance) -> Result<Vec<u64>, AllocError>
     ensures limits { IfOk result (λ limits. limits.items ≡ map (λ h. h.limit) instance.now.hosts) }
     ensures few { IfOk result (λ limits. length limits.items ≤ MOST_HOSTS) }

@@ -82,6 +82,11 @@ impl<'a> RowArcs<'a> {
     }
 
     /// Finds the arcs of a row of this region and handle, and returns the number of the region.
+    ///
+    /// # Errors
+    ///
+    /// An `AllocError` where memory runs out. The region may be one that a row had then, and nothing is said of the
+    /// arcs.
     pub fn find(
         &mut self,
         alloc: Global,

@@ -25,6 +25,10 @@ impl Model for Runs {
 
 impl Runs {
     /// No runs yet. The first one begins at 0.
+    ///
+    /// # Errors
+    ///
+    /// An `AllocError` where memory runs out.
     pub fn new(alloc: Global) -> Result<Runs, AllocError>
         ensures { IfOk result (λ runs. runs ≡ 0 ∷ []) }
     {
@@ -33,8 +37,11 @@ impl Runs {
         Ok(Runs { starts })
     }
 
-    /// Ends the run of the next group at this place, where the run of the group after it begins. A call that is refused
-    /// changes nothing.
+    /// Ends the run of the next group at this place, where the run of the group after it begins.
+    ///
+    /// # Errors
+    ///
+    /// An `AllocError` where memory runs out. Then nothing changes.
     pub fn end_at(&mut self, end: usize) -> Result<(), AllocError>
         ensures end { OnOk result (self.new ≡ self.old ++ end ∷ []) }
         ensures refused { OnErr result (self.new ≡ self.old) }

@@ -34,7 +34,9 @@ fn site_value<'a>(number: u32, value: Option<Value<'a>>) -> Result<&'a [u8], Bui
 
 /// The octets of the record of a site: those of its source, or the data of the value with the source's index.
 ///
-/// Faults in this order, each with the site's number: NoValue (also where no value list was given) and NotSiteValue.
+/// # Errors
+///
+/// In this order, each with the site's number: `NoValue` (also where no value list was given), `NotSiteValue`.
 pub fn site_octets<'a>(
     values: Option<&ValueList<'a>>,
     number: u32,
@@ -160,9 +162,11 @@ fn site_in(
 
 /// The sites of the settings, by their records.
 ///
-/// Each site in turn is tested for these faults in this order: NoValue (also where no value list was given),
-/// NotSiteValue, BadRecord, BadHashOption, NoServer, ServerIdTwice and TooManyServers (its servers and those of the
-/// sites before it are more than 1,024).
+/// # Errors
+///
+/// Site by site, the first in this order: `NoValue` (also where no value list was given), `NotSiteValue`, `BadRecord`,
+/// `BadHashOption`, `NoServer`, `ServerIdTwice`, `TooManyServers` (its servers and those of the sites before it are
+/// more than 1,024). `OutOfMemory` where memory runs out.
 pub fn build_sites(
     alloc: Global,
     settings: &Settings,

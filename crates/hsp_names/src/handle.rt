@@ -69,7 +69,19 @@ impl<'a> HandleRef<'a> {
     ghost use Rattle.hsp_text.specs.Answers.{Gives};
     ghost use Rattle.hsp_names.specs.Lent.{octets_of, segments_left};
 
-    /// The handle that the octets spell, or the first fault in the order of [`HandleFault`].
+    /// The handle that the octets spell.
+    ///
+    /// ```
+    /// let handle = HandleRef::parse(b"10.abc/a/b")?;
+    /// assert!(rt; handle.naming_authority() == b"10.abc".as_slice());
+    /// assert!(rt; handle.local_name() == b"a/b".as_slice());
+    /// assert!(rt; matches!(HandleRef::parse(b"10..5/x"), Err(HandleFault::EmptySegment)));
+    /// ```
+    ///
+    /// # Errors
+    ///
+    /// The first in this order: `TooLong` above 4,096 octets, `NotUtf8`, `NoSlash` where no `/` ends a naming
+    /// authority, `EmptySegment` where a segment of the naming authority is empty.
     pub fn parse(octets: &'a [u8]) -> Result<HandleRef<'a>, HandleFault>
         // What is read is a handle, and what is refused has the fault.
         ensures handle { IfOk result (λ handle.

@@ -127,6 +127,10 @@ fn is_met(alloc: Global, network: &Network<'_>, plan: &PricedFlow) -> Result<boo
 /// - Sources that demand more than the servers that they may use can take.
 ///
 /// The test takes time in proportion to the network's lists. It refuses prices or flows whose sums are above 64 bits.
+///
+/// # Errors
+///
+/// An `AllocError` where memory runs out.
 pub fn accepts(alloc: Global, network: &Network<'_>, outcome: &Outcome) -> Result<bool, AllocError>
     ensures right { IfOk result (λ yes. IsTrue yes → Answers (problem_of network.now) outcome.now) }
     // No short set is refused.

@@ -138,6 +138,10 @@ fn host_rooms(
 }
 
 /// What the servers that the set may use can take: `set` has a flag for each source.
+///
+/// # Errors
+///
+/// An `AllocError` where memory runs out.
 pub fn capacity_of_set(
     alloc: Global,
     network: &Network<'_>,

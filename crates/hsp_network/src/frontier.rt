@@ -24,12 +24,20 @@ pub trait Frontier: Sized + Drop {
     ghost may_have: { ℕ → Type 0 };
 
     /// An empty map for nodes below `nodes`.
+    ///
+    /// # Errors
+    ///
+    /// An `AllocError` where memory runs out.
     fn with_nodes(alloc: Global, nodes: u32) -> Result<Self, AllocError>
         requires { may_have nodes }
         ensures empty { IfOk result (λ made. HoldsNone (held made)) }
         ensures nodes { IfOk result (λ made. node_count made ≡ nodes) };
 
     /// Adds a node that is not held.
+    ///
+    /// # Errors
+    ///
+    /// An `AllocError` where memory runs out. Then nothing changes.
     fn put(&mut self, node: u32, key: u64) -> Result<(), AllocError>
         requires node { node < node_count self.old }
         requires free { held self.old node ≡ None }
@@ -40,6 +48,10 @@ pub trait Frontier: Sized + Drop {
         ensures sure { sure self.old ≤ sure self.new + 1 };
 
     /// Lowers the key of a node that is held.
+    ///
+    /// # Errors
+    ///
+    /// An `AllocError` where memory runs out. Then nothing changes.
     fn lower(&mut self, node: u32, key: u64) -> Result<(), AllocError>
         requires held { IsSomeAnd (held self.old node) (λ present. key ≤ present) }
         ensures lower { OnOk result (Changes (held self.old) (held self.new) node (Some key)) }

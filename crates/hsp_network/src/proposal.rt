@@ -11,13 +11,17 @@ use crate::tree::{SimplexEffort, Tree};
 use std::alloc::{AllocError, Global};
 
 /// An outcome that may be the network's, or `None` where the network is too large for the solver's numbers or the
-/// solver gave up after many pivots. An error means that memory ran out. The proposal is the same for the same network.
+/// solver gave up after many pivots. The proposal is the same for the same network.
 ///
 /// Too large is a network with a cost of 2^31 or more, demands of 2^60 or more together, 16 million servers or hosts,
 /// or a thousand million sources or arcs.
 ///
 /// No clause says more of it, since nothing rests on it. A proposal counts only where the test `crate::accepts`
 /// says so, and the test knows nothing of how it came about. A mistake here would cost only time.
+///
+/// # Errors
+///
+/// An `AllocError` where memory runs out.
 pub fn propose(alloc: Global, network: &Network<'_>) -> Result<Option<Outcome>, AllocError> {
     let mut effort = SimplexEffort {
         pivots: 0,
@@ -27,6 +31,10 @@ pub fn propose(alloc: Global, network: &Network<'_>) -> Result<Option<Outcome>, 
 }
 
 /// Does as `propose`, and adds the work that it took to `effort`.
+///
+/// # Errors
+///
+/// An `AllocError` where memory runs out.
 pub fn propose_counted(
     alloc: Global,
     network: &Network<'_>,

@@ -141,6 +141,10 @@ fn solve_arcs<F: Frontier>(
 /// A flow that meets every source at the least cost, with prices that show it, or a set of sources that demand more
 /// than the servers that they may use can take (Network Flows, section 9.7). The work that it took is added to
 /// `effort`.
+///
+/// # Errors
+///
+/// An `AllocError` where memory runs out.
 pub fn minimum_cost_flow<F: Frontier>(
     alloc: Global,
     network: &Network,

@@ -108,6 +108,10 @@ fn push_apart(
 
 impl PairMap {
     /// A map of no pairs. It is fast for a quarter as many pairs as it has buckets, of which there is at least one.
+    ///
+    /// # Errors
+    ///
+    /// An `AllocError` where memory runs out.
     pub fn new(alloc: Global, buckets: u32) -> Result<PairMap, AllocError>
         requires { 0 < buckets }
         ensures { IfOk result (λ map. map ≡ []) }

@@ -8,7 +8,7 @@ use Rattle.std.proofs.lemmas.List.{length-append}
 use Rattle.std.proofs.lemmas.List.Elements.{All-from_recursion, recursion_from_All}
 use Rattle.std.proofs.lemmas.List.Sums.{sum_by_push}
 use Rattle.hsp_text.proofs.Lists.{zip_push}
-use Rattle.hsp_text.specs.declared.limits.TheConstants.{MOST_REGIONS, MOST_SERVERS}
+use Rattle.hsp_text.specs.declared.limits.TheConstants.{MOST_LOG_REGIONS, MOST_SERVERS}
 use Rattle.hsp_tables.specs.Costs.{CostEntry}
 use Rattle.hsp_instance.specs.Building.{arcs_from}
 use Rattle.hsp_instance.specs.Instance.{Row, Site}
@@ -65,7 +65,7 @@ module _ (at : Service) (held : HeldRows) (has : HasRows at held) (region handle
   module _ (number : ℕ) (next : number ≤ length held.regions)
       (named : number < length held.regions → region_named held number ≡ region) where
     -- the row can be pushed
-    pub can_push : number < MOST_REGIONS → length arcs ≤ 2 → All (λ (arc : Arc). arc.server < MOST_SERVERS) arcs
+    pub can_push : number < MOST_LOG_REGIONS → length arcs ≤ 2 → All (λ (arc : Arc). arc.server < MOST_SERVERS) arcs
         → CanPush held number region arcs
     can_push low few servers = record {
       few = omega (arith, has.few);

@@ -1,7 +1,7 @@
 // Rows of a service that are held, each with the arcs that its region and handle have.
 
 ghost use Rattle.std.specs.Prelude.{◌≡◌, ◌≤◌, ◌<◌, ◌+◌, ◌==◌, All, IfOk, IsTrue, OnOk, length, if◌then◌else◌};
-ghost use Rattle.hsp_text.specs.declared.limits.TheConstants.{MOST_REGIONS, MOST_SERVERS};
+ghost use Rattle.hsp_text.specs.declared.limits.TheConstants.{MOST_LOG_REGIONS, MOST_SERVERS};
 ghost use Rattle.hsp_prices.specs.Rows.{Service};
 ghost use Rattle.hsp_price_check.specs.Classes.{service_of};
 ghost use Rattle.hsp_price_plan.specs.Held.{region_named};
@@ -14,7 +14,7 @@ use hsp_names::HandleRef;
 use hsp_price_check::{ServiceNumbers, numbers_of};
 use hsp_price_plan::KeptRows;
 use hsp_tables::Costs;
-use hsp_text::limits::{MOST_REGIONS, MOST_SERVERS};
+use hsp_text::limits::{MOST_LOG_REGIONS, MOST_SERVERS};
 use hsp_text::push_whole;
 use std::alloc::{AllocError, Global};
 use std::process::Abort;
@@ -66,12 +66,12 @@ fn are_servers(arcs: &[Arc]) -> bool
 // Whether a number is that of this region, or the next one.
 fn is_number(rows: &KeptRows, regions: usize, number: usize, name: &[u8]) -> bool
     requires { regions ≡ length rows.now.regions }
-    ensures low { IsTrue result → number < MOST_REGIONS }
+    ensures low { IsTrue result → number < MOST_LOG_REGIONS }
     ensures next { IsTrue result → number ≤ length rows.now.regions }
     ensures named { IsTrue result → number < length rows.now.regions
         → region_named rows.now number ≡ name.now }
 {
-    if number >= MOST_REGIONS {
+    if number >= MOST_LOG_REGIONS {
         return false;
     }
     if number < regions {
@@ -82,7 +82,7 @@ fn is_number(rows: &KeptRows, regions: usize, number: usize, name: &[u8]) -> boo
 
 // How many regions there are with that of a number.
 fn with_number(regions: usize, number: usize) -> usize
-    requires { number < MOST_REGIONS }
+    requires { number < MOST_LOG_REGIONS }
     ensures { result ≡ (if number == regions then regions + 1 else regions) }
 {
     if number == regions {

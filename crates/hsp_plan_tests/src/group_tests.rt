@@ -7,7 +7,7 @@ use crate::keeping::keep_least;
 use crate::same::is_same;
 use crate::service::{ROOMY, hold};
 use hsp_instance::Arc;
-use hsp_price_plan::{GroupTable, RowGroup, groups_of};
+use hsp_price_plan::{RowGroup, groups_of};
 use std::alloc::{AllocError, Global};
 use std::process::Abort;
 
@@ -47,16 +47,6 @@ fn four_rows(rt: &impl Abort, alloc: Global) -> Filled
     held_rows(rt, alloc, &held, &rows)
 }
 
-#[test]
-fn rows_that_keep_nothing_are_groups_by_region(rt: HostRuntime) {
-    let alloc = rt.alloc();
-    let rows = four_rows(&rt, alloc);
-    let groups = groups_in(&rt, alloc, &rows);
-    is_same(&rt, groups.len(), 2);
-    is_group(&rt, groups.get(0), b"r1", &[], 9);
-    is_group(&rt, groups.get(1), b"r3", &[], 5);
-}
-
 // At the price 9 of the server 0 a row of r1 keeps both its arcs: 10/1 and 10/3 to the servers 0 and 2, and 10/2 to 0
 // and 1.
 #[test]
@@ -69,29 +59,4 @@ fn rows_that_keep_arcs_to_the_same_servers_are_one_group(rt: HostRuntime) {
     is_group(&rt, groups.get(0), b"r1", &[arc(0, 0, 1), arc(1, 2, 10)], 7);
     is_group(&rt, groups.get(1), b"r1", &[arc(0, 0, 1), arc(1, 1, 10)], 2);
     is_group(&rt, groups.get(2), b"r3", &[arc(1, 2, 1)], 5);
-}
-
-// Rows of two regions with the same arcs, one more of the first, and one of it without an arc.
-fn table_once(alloc: Global) -> Result<Vec<RowGroup>, AllocError> {
-    let arcs = [arc(0, 0, 1), arc(1, 2, 10)];
-    let mut table = GroupTable::new(alloc, 7);
-    table.add(alloc, b"r1", &arcs, 3)?;
-    table.add(alloc, b"r2", &arcs, 5)?;
-    table.add(alloc, b"r1", &arcs, 4)?;
-    table.add(alloc, b"r1", &[], 1)?;
-    Ok(table.into_groups())
-}
-
-#[test]
-fn a_table_joins_rows_as_they_are_added(rt: HostRuntime) {
-    let alloc = rt.alloc();
-    let groups = match table_once(alloc) {
-        Ok(groups) => groups,
-        Err(AllocError) => table_once(alloc).expect(&rt, "there is memory"),
-    };
-    let arcs = [arc(0, 0, 1), arc(1, 2, 10)];
-    is_same(&rt, groups.len(), 3);
-    is_group(&rt, groups.get(0), b"r1", &arcs, 7);
-    is_group(&rt, groups.get(1), b"r2", &arcs, 5);
-    is_group(&rt, groups.get(2), b"r1", &[], 1);
 }

@@ -2,7 +2,7 @@
 // second one has arcs to the server 0 at 10 and to the server 1 at 1, and asks for 6. The server 0 takes 5, and the
 // servers 1 and 2 take 10 each.
 
-ghost use Rattle.std.specs.Prelude.{◌≡◌, ◌<◌, ◌^◌, All, IfOk, IfSome, IsTrue, length};
+ghost use Rattle.std.specs.Prelude.{◌<◌, ◌^◌, All, IfOk, IfSome, IsTrue, length};
 ghost use Rattle.std.specs.List.{AllByRecursion};
 ghost use Rattle.hsp_instance.specs.RowArcs.{IsWithin};
 ghost use Rattle.hsp_network.specs.Answer.{IsMet};
@@ -131,36 +131,6 @@ fn flow_once(alloc: Global, it: &Groups) -> Result<Option<PricedFlow>, AllocErro
     }
 }
 
-// The groups that are short, if some are.
-fn short_once(alloc: Global, it: &Groups) -> Result<Option<Vec<bool>>, AllocError>
-    requires arcs { AllByRecursion (HasArcsWithin (length it.now.numbers.server_hosts.items))
-        it.now.groups.items }
-    requires few { AllByRecursion HasFewArcs it.now.groups.items }
-    requires demand { demand_in it.now.groups.items < 2 ^ 63 }
-    ensures { IfOk result (λ found. IfSome found (λ set. length set.items ≡ length it.now.groups.items)) }
-{
-    match solve(alloc, &it.numbers, &it.groups)? {
-        Some(Outcome::Short(set)) => Ok(Some(set)),
-        Some(Outcome::Met(_)) => Ok(None),
-        None => Ok(None),
-    }
-}
-
-// Of 7 queries from r1 the server 0 takes 5, and 2 go to the server 2, which costs 9 more.
-#[test]
-fn groups_are_met_by_a_cheapest_flow(rt: HostRuntime) {
-    let alloc = rt.alloc();
-    let it = network(&rt, alloc, 7);
-    let found = match flow_once(alloc, &it) {
-        Ok(found) => found,
-        Err(AllocError) => flow_once(alloc, &it).expect(&rt, "there is memory"),
-    };
-    let flow = found.expect(&rt, "there is a flow");
-    is_same(&rt, flow.flows.as_slice(), &[5, 2, 0, 6]);
-    is_same(&rt, flow.server_prices.as_slice(), &[9, 0, 0]);
-    is_same(&rt, flow.host_prices.as_slice(), &[]);
-}
-
 // The plan of the flow.
 fn plan_once(alloc: Global, it: &Groups) -> Result<Option<PricedPlan>, AllocError>
     requires arcs { AllByRecursion (HasArcsWithin (length it.now.numbers.server_hosts.items))
@@ -188,19 +158,6 @@ fn a_flow_gives_a_plan(rt: HostRuntime) {
     let wanted =
         b"HSPLAN PRICES 1\nPLAN\ncost 31\nserver 0 9\nserver 1 0\nserver 2 0\nclass r1 0 5 2 2\nEND\n";
     says(&rt, alloc, &certificate, wanted);
-}
-
-// The servers 0 and 2 take 15 of 16 queries from r1. All three take 25 of 22.
-#[test]
-fn groups_that_ask_for_too_much_are_short(rt: HostRuntime) {
-    let alloc = rt.alloc();
-    let it = network(&rt, alloc, 16);
-    let found = match short_once(alloc, &it) {
-        Ok(found) => found,
-        Err(AllocError) => short_once(alloc, &it).expect(&rt, "there is memory"),
-    };
-    let set = found.expect(&rt, "the groups are short");
-    is_same(&rt, set.as_slice(), &[true, false]);
 }
 
 // The servers that a set of groups reaches.

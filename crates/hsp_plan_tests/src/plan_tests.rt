@@ -28,8 +28,8 @@ impl Progress for Added {
     }
 }
 
-/// The certificate of the rows, once more where memory ran out.
-pub(crate) fn planned(rt: &impl Abort, alloc: Global, filled: &mut Filled) -> PriceCertificate
+// The certificate of the rows, once more where memory ran out.
+fn planned(rt: &impl Abort, alloc: Global, filled: &mut Filled) -> PriceCertificate
     requires { AreOfSome filled.old.numbers filled.old.rows.rows }
 {
     match plan_rows(alloc, &filled.numbers, &mut filled.rows, &mut Silent) {
@@ -64,21 +64,6 @@ fn gets_by_cheapest(
     is_valid(rt, alloc, held, &certificate, rows);
 }
 
-// From r1 all 7 go to A at 1 each, and from r2 5 go to B at 1 each: 12. No server is full, so no price is above 0.
-#[test]
-fn all_rows_go_to_their_cheapest_server_where_there_is_room(rt: HostRuntime) {
-    let alloc = rt.alloc();
-    let held = hold(&rt, alloc, b"", ROOMY);
-    let rows = [
-        row_of(b"r1", b"10/1", 3),
-        row_of(b"r1", b"10/2", 4),
-        row_of(b"r2", b"10/1", 5),
-    ];
-    let wanted = b"HSPLAN PRICES 1\nPLAN\ncost 12\nserver 0 0\nserver 1 0\nserver 2 0\nEND\n";
-    gets(&rt, alloc, &held, &rows, wanted);
-    gets_by_cheapest(&rt, alloc, &held, &rows, wanted);
-}
-
 // From r1 both handles ask for 7 together and have the servers 0 and 2. The server 0 takes 5 of them at 1 each, and 2
 // go to the server 2 at 10 each. So a query pays 10 at both, and the server 0 has the price 9. From r2 6 go to the
 // server 1 at 1 each: 5 + 20 + 6 = 31.
@@ -88,16 +73,6 @@ fn tied() -> [Asked<'static>; 3] {
         row_of(b"r2", b"10/2", 6),
         row_of(b"r1", b"10/3", 4),
     ]
-}
-
-const TIED_PLAN: &[u8] =
-    b"HSPLAN PRICES 1\nPLAN\ncost 31\nserver 0 9\nserver 1 0\nserver 2 0\nclass r1 0 5 2 2\nEND\n";
-
-#[test]
-fn a_full_server_has_a_price(rt: HostRuntime) {
-    let alloc = rt.alloc();
-    let held = hold(&rt, alloc, b"", NARROW);
-    gets(&rt, alloc, &held, &tied(), TIED_PLAN);
 }
 
 // The first round adds both arcs of each row, as none is kept.
@@ -112,13 +87,6 @@ fn a_round_shows_how_many_arcs_it_adds(rt: HostRuntime) {
         is_same(&rt, again.is_ok(), true);
     }
     is_same(&rt, added.arcs, 6);
-}
-
-#[test]
-fn rows_that_keep_their_cheapest_arcs_have_the_same_plan(rt: HostRuntime) {
-    let alloc = rt.alloc();
-    let held = hold(&rt, alloc, b"", NARROW);
-    gets_by_cheapest(&rt, alloc, &held, &tied(), TIED_PLAN);
 }
 
 // The host of the servers 1 and 2 takes 5. From r3 one query can only go there, to the server 1. From r2 4 of 7 go to
@@ -148,24 +116,4 @@ fn rows_that_ask_for_too_much_have_a_short_set(rt: HostRuntime) {
     let wanted = b"HSPLAN PRICES 1\nSHORT\nserver 0\nserver 2\ndemand 16\ncapacity 15\nEND\n";
     gets(&rt, alloc, &held, &rows, wanted);
     gets_by_cheapest(&rt, alloc, &held, &rows, wanted);
-}
-
-// The host takes 5 of what the servers 1 and 2 could. From r3 6 queries can only go to the server 1.
-#[test]
-fn a_host_may_be_short(rt: HostRuntime) {
-    let alloc = rt.alloc();
-    let held = hold(&rt, alloc, HOST, ROOMY);
-    let rows = [row_of(b"r2", b"10/1", 2), row_of(b"r3", b"10/4", 6)];
-    let wanted = b"HSPLAN PRICES 1\nSHORT\nserver 1\ndemand 6\ncapacity 5\nEND\n";
-    gets(&rt, alloc, &held, &rows, wanted);
-    gets_by_cheapest(&rt, alloc, &held, &rows, wanted);
-}
-
-#[test]
-fn no_rows_cost_nothing(rt: HostRuntime) {
-    let alloc = rt.alloc();
-    let held = hold(&rt, alloc, b"", NARROW);
-    let wanted = b"HSPLAN PRICES 1\nPLAN\ncost 0\nserver 0 0\nserver 1 0\nserver 2 0\nEND\n";
-    gets(&rt, alloc, &held, &[], wanted);
-    gets_by_cheapest(&rt, alloc, &held, &[], wanted);
 }

@@ -154,16 +154,6 @@ fn least_arcs_are_kept_beside_those_that_were(rt: HostRuntime) {
     all_keep(&rt, alloc, &rows, BOTH);
 }
 
-// At the price 10 it pays 11 at A.
-#[test]
-fn a_price_may_make_the_far_site_the_least(rt: HostRuntime) {
-    const AWAY: [&[Arc]; 3] = [&[FIRST_AT_B], &[SECOND_AT_B], &[LAST_AT_B]];
-    let alloc = rt.alloc();
-    let mut rows = three_rows(&rt, alloc);
-    is_same(&rt, keep_least(&rt, &mut rows, &[10, 0, 0]), 3);
-    all_keep(&rt, alloc, &rows, AWAY);
-}
-
 // B costs 9 more. At the price 1 of the server 1 it costs 10 more there.
 #[test]
 fn arcs_within_a_window_are_kept(rt: HostRuntime) {

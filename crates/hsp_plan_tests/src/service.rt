@@ -5,7 +5,8 @@
 
 use hsp_instance::{Instance, build};
 use hsp_tables::{
-    Capacities, Costs, Demand, Settings, read_capacity, read_costs, read_demand, read_settings,
+    Capacities, Costs, Demand, Limits, Settings, read_capacity, read_costs, read_demand,
+    read_settings,
 };
 use std::alloc::{AllocError, Global};
 use std::process::Abort;
@@ -65,9 +66,9 @@ fn no_demand(rt: &impl Abort, alloc: Global) -> Demand {
 }
 
 fn costs_there(rt: &impl Abort, alloc: Global) -> Costs {
-    match read_costs(alloc, COSTS) {
+    match read_costs(alloc, COSTS, Limits::Logs) {
         Ok(costs) => costs,
-        Err(_) => read_costs(alloc, COSTS).expect(rt, "this is a table"),
+        Err(_) => read_costs(alloc, COSTS, Limits::Logs).expect(rt, "this is a table"),
     }
 }
 

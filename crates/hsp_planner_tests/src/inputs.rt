@@ -5,19 +5,12 @@ use hsp_cert::{Certificate, UseLine};
 use hsp_check::{Verdict, check};
 use hsp_instance::{BuildFault, Instance, build};
 use hsp_tables::{
-    Capacities, Costs, Demand, Settings, TableFault, read_capacity, read_costs, read_demand,
-    read_settings,
+    Capacities, Costs, Demand, Limits, Settings, TableFault, read_capacity, read_costs,
+    read_demand, read_settings,
 };
 use hsp_test_support::service::Texts;
 use std::alloc::{AllocError, Global};
 use std::process::Abort;
-
-/// The host of the servers of E, which takes 2.
-pub const TWO: &[u8] = b"[[host]]\naddress = \"00000000000000000000000000000001\"\nlimit = 2\n";
-
-/// The same host, which takes more than all servers.
-pub const MOST: &[u8] =
-    b"[[host]]\naddress = \"00000000000000000000000000000001\"\nlimit = 1000000000000\n";
 
 /// Two sites of one server each.
 pub const TWO_SITES_OF_ONE: &[u8] = b"[[site]]\nname = \"X\"\n\
@@ -42,8 +35,8 @@ fn demand_of(rt: &impl Abort, alloc: Global, text: &[u8]) -> Demand {
 }
 
 fn costs_of(rt: &impl Abort, alloc: Global, text: &[u8]) -> Costs {
-    let costs = match read_costs(alloc, text) {
-        Err(TableFault::OutOfMemory) => read_costs(alloc, text),
+    let costs = match read_costs(alloc, text, Limits::Tables) {
+        Err(TableFault::OutOfMemory) => read_costs(alloc, text, Limits::Tables),
         answer => answer,
     };
     costs.expect(rt, "the costs are read")

@@ -1,12 +1,10 @@
-ghost use Rattle.hsp_instance.specs.Groups.{AreGroups};
-
 use crate::same::{is_same, is_same_of};
 use hsp_hash::HashOption;
 use hsp_instance::*;
 use hsp_record::{RecordFault, ValueList, decode_values};
 use hsp_tables::{
-    Capacities, Costs, Demand, Settings, TableFault, read_capacity, read_costs, read_demand,
-    read_settings,
+    Capacities, Costs, Demand, Limits, Settings, TableFault, read_capacity, read_costs,
+    read_demand, read_settings,
 };
 use hsp_test_support::service::{CAPACITY, COSTS, DEMAND, HOST, SETTINGS};
 use hsp_text::push_whole;
@@ -32,11 +30,6 @@ const LONG_RECORD: &[u8] = b"[[site]]\nname = \"E\"\n\
 const EMPTY_RECORD: &[u8] = b"[[site]]\nname = \"E\"\nrecord = \"\"\n";
 
 const FIRST_VALUE: &[u8] = b"[[site]]\nname = \"E\"\nindex = 1\n";
-
-const SECOND_VALUE: &[u8] = b"[[site]]\nname = \"E\"\nindex = 2\n";
-
-const BOTH_VALUES: &[u8] =
-    b"[[site]]\nname = \"E\"\nindex = 1\n[[site]]\nname = \"W\"\nindex = 2\n";
 
 // What stands before the number of servers of a record.
 const HEAD: &[u8] = b"\0\x01\x02\0\0\x01\0\x01\0\0\0\0\0\0\0\0";
@@ -71,40 +64,6 @@ fn push_value(
     octets.extend_from_slice(&[0; 18])
 }
 
-// A list of one value, of index 1.
-fn one_value(alloc: Global, type_octets: &[u8; 7]) -> Result<Vec<u8>, AllocError> {
-    let site = site_octets(alloc, 1)?;
-    let mut octets = Vec::from_slice(alloc, b"\0\0\0\x01")?;
-    push_value(&mut octets, 1, type_octets, &site)?;
-    Ok(octets)
-}
-
-// The same, once more where a growth was refused.
-fn held_value(rt: &impl Abort, alloc: Global, type_octets: &[u8; 7]) -> Vec<u8> {
-    match one_value(alloc, type_octets) {
-        Ok(octets) => octets,
-        Err(AllocError) => one_value(alloc, type_octets).expect(rt, "there is memory"),
-    }
-}
-
-// A list of a site with as many servers as all sites may have, of index 1, and one of three, of index 2.
-fn values_at_the_limit(alloc: Global) -> Result<Vec<u8>, AllocError> {
-    let full = site_octets(alloc, 1024)?;
-    let more = site_octets(alloc, 3)?;
-    let mut octets = Vec::from_slice(alloc, b"\0\0\0\x02")?;
-    push_value(&mut octets, 1, b"HS_SITE", &full)?;
-    push_value(&mut octets, 2, b"HS_SITE", &more)?;
-    Ok(octets)
-}
-
-// The same, once more where a growth was refused.
-fn held_values_at_the_limit(rt: &impl Abort, alloc: Global) -> Vec<u8> {
-    match values_at_the_limit(alloc) {
-        Ok(octets) => octets,
-        Err(AllocError) => values_at_the_limit(alloc).expect(rt, "there is memory"),
-    }
-}
-
 // What texts and octets spell. Where a growth is refused, the second call finds memory: so the answers below are
 // insisted on.
 fn settings_of(rt: &impl Abort, alloc: Global, text: &[u8]) -> Settings {
@@ -134,31 +93,10 @@ fn sites_of(
     }
 }
 
-fn groups_of(rt: &impl Abort, alloc: Global, instance: &Instance) -> Groups
-    ensures { AreGroups instance.now result }
-{
-    match groups(alloc, instance) {
-        Ok(groups) => groups,
-        Err(AllocError) => groups(alloc, instance).expect(rt, "there is memory"),
-    }
-}
-
 // The fault of the sites that settings have no need of values for, or None where there is no fault.
 fn sites_fault(rt: &impl Abort, alloc: Global, settings: &[u8]) -> Option<BuildFault> {
     let settings = settings_of(rt, alloc, settings);
     sites_of(alloc, &settings, None).err()
-}
-
-// The same of settings and the octets of a list of values.
-fn sites_fault_by(
-    rt: &impl Abort,
-    alloc: Global,
-    settings: &[u8],
-    octets: &[u8],
-) -> Option<BuildFault> {
-    let settings = settings_of(rt, alloc, settings);
-    let values = values_of(rt, alloc, octets);
-    sites_of(alloc, &settings, Some(&values)).err()
 }
 
 // The two sites of the base.
@@ -208,42 +146,6 @@ fn bad_sites_have_their_first_fault(rt: HostRuntime) {
     }
 }
 
-// The sites of settings and of a value of this type have the fault, if any.
-fn has_fault_by_a_value(
-    rt: &impl Abort,
-    alloc: Global,
-    settings: &[u8],
-    type_octets: &[u8; 7],
-    wanted: Option<BuildFault>,
-) {
-    let values = held_value(rt, alloc, type_octets);
-    let fault = sites_fault_by(rt, alloc, settings, &values);
-    is_same_of(rt, &settings, fault, wanted);
-}
-
-#[test]
-fn sites_are_read_from_values(rt: HostRuntime) {
-    let none = Some(BuildFault::NoValue { site: 0 });
-    let other = Some(BuildFault::NotSiteValue { site: 0 });
-    for (settings, type_octets, wanted) in [
-        (FIRST_VALUE, b"HS_SITE", None),
-        (SECOND_VALUE, b"HS_SITE", none),
-        (FIRST_VALUE, b"HS_SITF", other),
-    ] {
-        has_fault_by_a_value(&rt, rt.alloc(), settings, type_octets, wanted);
-    }
-}
-
-#[test]
-fn the_servers_of_all_sites_are_counted_at_the_limits(rt: HostRuntime) {
-    let values = held_values_at_the_limit(&rt, rt.alloc());
-    let more = Some(BuildFault::TooManyServers);
-    for (settings, wanted) in [(FIRST_VALUE, None), (BOTH_VALUES, more)] {
-        let fault = sites_fault_by(&rt, rt.alloc(), settings, &values);
-        is_same(&rt, fault, wanted);
-    }
-}
-
 // The texts of the tables.
 #[derive(Clone, Copy)]
 struct Tables<'a> {
@@ -267,8 +169,8 @@ fn demand_of(rt: &impl Abort, alloc: Global, text: &[u8]) -> Demand {
 }
 
 fn costs_of(rt: &impl Abort, alloc: Global, text: &[u8]) -> Costs {
-    let costs = match read_costs(alloc, text) {
-        Err(TableFault::OutOfMemory) => read_costs(alloc, text),
+    let costs = match read_costs(alloc, text, Limits::Tables) {
+        Err(TableFault::OutOfMemory) => read_costs(alloc, text, Limits::Tables),
         answer => answer,
     };
     costs.expect(rt, "the costs are read")
@@ -345,16 +247,6 @@ fn instance_of(rt: &impl Abort, alloc: Global, settings: &[u8], tables: Tables<'
     built(rt, alloc, settings, None, tables).expect(rt, "the instance is built")
 }
 
-// The fault of texts, and None where an instance is built.
-fn fault_of(
-    rt: &impl Abort,
-    alloc: Global,
-    settings: &[u8],
-    tables: Tables<'_>,
-) -> Option<BuildFault> {
-    built(rt, alloc, settings, None, tables).err()
-}
-
 // The first row of the base, and its last server.
 fn is_the_base(rt: &impl Abort, base: &Instance) {
     assert!(rt; base.rows() == 3);
@@ -372,74 +264,6 @@ fn is_the_base(rt: &impl Abort, base: &Instance) {
 fn the_base_is_built(rt: HostRuntime) {
     let base = instance_of(&rt, rt.alloc(), SETTINGS, BASE);
     is_the_base(&rt, &base);
-}
-
-// The servers of the base, which stand on no host.
-fn are_the_base_servers(rt: &impl Abort, base: &Instance) {
-    let servers = [
-        (0, 0, 7, 10),
-        (0, 1, 3, 6),
-        (1, 0, 1, 2),
-        (1, 1, 2, 10),
-        (1, 2, 9, 10),
-    ];
-    assert!(rt; base.servers() == 5);
-    assert!(rt; base.hosts() == 0);
-    for (number, server) in servers.iter().enumerate() {
-        is_same(rt, base.server(number as u32), *server);
-        is_same(rt, base.host_of(number as u32), None);
-    }
-}
-
-#[test]
-fn servers_stand_site_by_site(rt: HostRuntime) {
-    let base = instance_of(&rt, rt.alloc(), SETTINGS, BASE);
-    are_the_base_servers(&rt, &base);
-}
-
-#[test]
-fn rows_are_found_by_region_and_handle(rt: HostRuntime) {
-    const CASES: [(&[u8], &[u8], Option<u32>); 4] = [
-        (b"r1", b"10/2", Some(1)),
-        (b"r2", b"10/3", Some(2)),
-        (b"r2", b"10/2", None),
-        (b"10/1", b"r1", None),
-    ];
-    let base = instance_of(&rt, rt.alloc(), SETTINGS, BASE);
-    for (region, handle, wanted) in CASES {
-        is_same(&rt, base.find_row(region, handle), wanted);
-    }
-}
-
-fn to(site: u32, server: u32, cost: u64) -> Arc {
-    Arc { site, server, cost }
-}
-
-// The places are 1, 0 and 1 at E and 2, 1 and 0 at W.
-fn arcs_of_the_base(rt: &impl Abort, base: &Instance) {
-    assert!(rt; base.rows() == 3);
-    is_same(rt, base.arcs(0), [to(0, 1, 1), to(1, 4, 4)].as_slice());
-    is_same(rt, base.arcs(1), [to(0, 0, 1), to(1, 3, 4)].as_slice());
-    is_same(rt, base.arcs(2), [to(0, 1, 2), to(1, 2, 3)].as_slice());
-}
-
-// Of the first row at W, and of the last row none.
-fn arcs_of_one_site(rt: &impl Abort, less: &Instance) {
-    assert!(rt; less.rows() == 3);
-    is_same(rt, less.arcs(0), [to(1, 4, 4)].as_slice());
-    is_same(rt, less.arcs(2).len(), 0);
-}
-
-#[test]
-fn arcs_go_to_the_responsible_servers(rt: HostRuntime) {
-    let base = instance_of(&rt, rt.alloc(), SETTINGS, BASE);
-    arcs_of_the_base(&rt, &base);
-    let tables = Tables {
-        costs: b"region,site,cost\nr1,W,4\nr9,E,2\n",
-        ..BASE
-    };
-    let less = instance_of(&rt, rt.alloc(), SETTINGS, tables);
-    arcs_of_one_site(&rt, &less);
 }
 
 // The settings with the host. Where a growth is refused, the second joining finds memory.
@@ -468,68 +292,6 @@ fn servers_stand_on_hosts(rt: HostRuntime) {
     is_hosted(&rt, &instance);
 }
 
-// Costs whose first row names a site that is not there.
-const UNKNOWN_COST: &[u8] = b"region,site,cost\nr1,X,1\nr1,E,1\nr1,W,4\nr2,E,2\nr2,W,3\n";
-
-// Capacities whose second row does.
-const UNKNOWN_CAPACITY: &[u8] = b"site,server_id,capacity\nE,7,10\nX,7,10\n";
-
-fn unknown_site(table: Table, row: u32) -> BuildFault {
-    BuildFault::UnknownSite { table, row }
-}
-
-// The fault of the texts, whose settings are those of the base, is this one.
-fn is_fault(rt: &impl Abort, alloc: Global, tables: Tables<'_>, wanted: BuildFault) {
-    is_same(rt, fault_of(rt, alloc, SETTINGS, tables), Some(wanted));
-}
-
-#[test]
-fn a_site_of_the_costs_that_is_not_there_is_reported(rt: HostRuntime) {
-    let late: &[u8] = b"region,site,cost\nr1,E,1\nr2,X,1\n";
-    for (costs, row) in [(UNKNOWN_COST, 0), (late, 1)] {
-        let tables = Tables { costs, ..BASE };
-        is_fault(&rt, rt.alloc(), tables, unknown_site(Table::Costs, row));
-    }
-}
-
-#[test]
-fn a_site_or_server_of_the_capacities_that_is_not_there_is_reported(rt: HostRuntime) {
-    let unknown_server: &[u8] =
-        b"site,server_id,capacity\nE,5,1\nE,7,10\nE,3,6\nW,1,2\nW,2,10\nW,9,10\n";
-    let cases = [
-        (UNKNOWN_CAPACITY, unknown_site(Table::Capacity, 1)),
-        (unknown_server, BuildFault::UnknownServer { row: 0 }),
-    ];
-    for (capacity, fault) in cases {
-        is_fault(&rt, rt.alloc(), Tables { capacity, ..BASE }, fault);
-    }
-}
-
-#[test]
-fn a_server_without_capacity_is_reported(rt: HostRuntime) {
-    let fault = BuildFault::NoCapacity {
-        site: 1,
-        server_id: 9,
-    };
-    let tables = Tables {
-        capacity: b"site,server_id,capacity\nE,7,10\nE,3,6\nW,1,2\nW,2,10\n",
-        ..BASE
-    };
-    is_fault(&rt, rt.alloc(), tables, fault);
-}
-
-#[test]
-fn sites_are_tried_before_costs_and_these_before_capacities(rt: HostRuntime) {
-    let tables = Tables {
-        costs: UNKNOWN_COST,
-        capacity: UNKNOWN_CAPACITY,
-        ..BASE
-    };
-    let no_server = Some(BuildFault::NoServer { site: 0 });
-    is_same(&rt, fault_of(&rt, rt.alloc(), NO_SERVER, tables), no_server);
-    is_fault(&rt, rt.alloc(), tables, unknown_site(Table::Costs, 0));
-}
-
 // The instance of texts and the octets of a value list.
 fn instance_from(
     rt: &impl Abort,
@@ -540,48 +302,6 @@ fn instance_from(
 ) -> Instance {
     let values = values_of(rt, alloc, octets);
     built(rt, alloc, settings, Some(&values), tables).expect(rt, "the instance is built")
-}
-
-// Its server and the arc of its last row.
-fn is_built_from_a_value(rt: &impl Abort, instance: &Instance) {
-    assert!(rt; instance.servers() == 1);
-    is_same(rt, instance.server(0), (0, 0, 0, 6));
-    assert!(rt; instance.rows() == 3);
-    is_same(rt, instance.arcs(2), [to(0, 0, 2)].as_slice());
-}
-
-#[test]
-fn an_instance_is_built_from_values(rt: HostRuntime) {
-    let octets = held_value(&rt, rt.alloc(), b"HS_SITE");
-    let tables = Tables {
-        costs: b"region,site,cost\nr2,E,2\n",
-        capacity: b"site,server_id,capacity\nE,0,6\n",
-        ..BASE
-    };
-    let instance = instance_from(&rt, rt.alloc(), FIRST_VALUE, &octets, tables);
-    is_built_from_a_value(&rt, &instance);
-}
-
-// The first two of three rows are in one group.
-fn two_are_alike(rt: &impl Abort, alloc: Global, instance: &Instance) {
-    let found = groups_of(rt, alloc, instance);
-    assert!(rt; instance.rows() == 3);
-    assert!(rt; found.len() == 2);
-    is_same(rt, found.of(0), 0);
-    is_same(rt, found.of(1), 0);
-    is_same(rt, found.of(2), 1);
-}
-
-#[test]
-fn rows_of_one_region_and_the_same_arcs_are_in_one_group(rt: HostRuntime) {
-    let alike = Tables {
-        demand: b"region,handle,count\nr1,10/a,1\nr1,10/A,2\nr2,10/a,3\n",
-        ..BASE
-    };
-    let instance = instance_of(&rt, rt.alloc(), SETTINGS, alike);
-    two_are_alike(&rt, rt.alloc(), &instance);
-    let base = instance_of(&rt, rt.alloc(), SETTINGS, BASE);
-    is_same(&rt, groups_of(&rt, rt.alloc(), &base).len(), 3);
 }
 
 // A line of numbers, each behind a text.
@@ -705,18 +425,9 @@ fn all_is_at_the_limit(rt: &impl Abort, instance: &Instance) {
     }
 }
 
-// There are as many groups as regions at least, and a quarter of the rows at most.
-fn is_grouped(rt: &impl Abort, alloc: Global, instance: &Instance) {
-    assert!(rt; instance.rows() == 8192);
-    let found = groups_of(rt, alloc, instance);
-    is_same(rt, found.of(0), 0);
-    assert!(rt; 64 <= found.len() && found.len() <= 2048);
-}
-
 #[test]
 fn an_instance_at_the_limits_is_built(rt: HostRuntime) {
     let texts = texts_at_the_limit(&rt, rt.alloc());
     let instance = instance_at_the_limit(&rt, rt.alloc(), &texts);
     all_is_at_the_limit(&rt, &instance);
-    is_grouped(&rt, rt.alloc(), &instance);
 }

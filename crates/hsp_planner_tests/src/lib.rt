@@ -7,6 +7,8 @@ mod accept_tests;
 #[cfg(test)]
 mod checks;
 #[cfg(test)]
+mod drawn_tests;
+#[cfg(test)]
 mod inputs;
 #[cfg(test)]
 mod instance_tests;

@@ -216,7 +216,7 @@ fn a_shortage_at_the_limits_reaches_its_servers(rt: HostRuntime) {
 }
 
 // Of the first 256 rows a place has 13 at most: of those of one place five cost one, the next five two and the others
-// three, a million times. The nodes of the search are the groups of rows, more than a thousand servers and the sink.
+// three, a million times. The nodes of the search are the rows, more than a thousand servers and the sink.
 #[test]
 fn searches_over_a_heap_meet_as_many_servers_as_there_may_be(rt: HostRuntime) {
     let texts = texts_of(&rt, rt.alloc(), 256, 0);

@@ -83,42 +83,6 @@ fn frontiers_take_the_least_key(rt: HostRuntime) {
     forgets_old_keys::<HeapFrontier>(&rt, rt.alloc());
 }
 
-/// The calls that a frontier with a node is sure of, and those left when it has another: one is spent at most.
-fn spares<F: Frontier>(alloc: Global) -> Result<(u64, u64), AllocError>
-    requires { (nodes : ℕ) → F.may_have nodes }
-{
-    let mut frontier = F::with_nodes(alloc, 2)?;
-    frontier.put(0, 4)?;
-    let before = frontier.spare();
-    frontier.put(1, 9)?;
-    Ok((before, frontier.spare()))
-}
-
-fn knows_its_spare_calls<F: Frontier>(rt: &impl Abort, alloc: Global)
-    requires { (nodes : ℕ) → F.may_have nodes }
-{
-    let spares = match spares::<F>(alloc) {
-        Err(AllocError) => spares::<F>(alloc),
-        spares => spares,
-    };
-    assert!(rt; spares.is_ok_and(|(before, after)| before <= after.saturating_add(1)));
-}
-
-/// Whether a scan is made that is sure of all calls.
-fn is_scan_sure(alloc: Global) -> bool {
-    match ScanFrontier::with_nodes(alloc, 2) {
-        Ok(scan) => scan.spare() == u64::MAX,
-        Err(AllocError) => false,
-    }
-}
-
-#[test]
-fn frontiers_know_their_spare_calls(rt: HostRuntime) {
-    knows_its_spare_calls::<ScanFrontier>(&rt, rt.alloc());
-    knows_its_spare_calls::<HeapFrontier>(&rt, rt.alloc());
-    assert!(rt; is_scan_sure(rt.alloc()) || is_scan_sure(rt.alloc()));
-}
-
 /// What becomes of a network.
 fn outcome_of<F: Frontier>(alloc: Global, network: &Network) -> Result<Outcome, AllocError>
     requires small { IsSmall (problem_of network.now) }
@@ -171,34 +135,6 @@ fn both_lack(rt: &impl Abort, alloc: Global, network: &Network, short: &[bool])
 }
 
 #[test]
-fn later_source_pushes_an_earlier_one_off(rt: HostRuntime) {
-    let network = Network {
-        demands: &[5, 5],
-        capacities: &[5, 5],
-        limits: &[],
-        hosts: &[None, None],
-        sources: &[0, 0, 1],
-        servers: &[0, 1, 0],
-        costs: &[1, 3, 1],
-    };
-    both_meet(&rt, rt.alloc(), &network, &[0, 5, 5]);
-}
-
-#[test]
-fn server_without_capacity_takes_nothing(rt: HostRuntime) {
-    let network = Network {
-        demands: &[2],
-        capacities: &[0, 4],
-        limits: &[],
-        hosts: &[None, None],
-        sources: &[0, 0],
-        servers: &[0, 1],
-        costs: &[0, 7],
-    };
-    both_meet(&rt, rt.alloc(), &network, &[0, 2]);
-}
-
-#[test]
 fn host_is_full_before_its_servers(rt: HostRuntime) {
     let network = Network {
         demands: &[4, 3],
@@ -213,20 +149,6 @@ fn host_is_full_before_its_servers(rt: HostRuntime) {
 }
 
 #[test]
-fn host_is_short(rt: HostRuntime) {
-    let network = Network {
-        demands: &[4, 3],
-        capacities: &[9, 9],
-        limits: &[6],
-        hosts: &[Some(0), Some(0)],
-        sources: &[0, 1],
-        servers: &[0, 1],
-        costs: &[2, 2],
-    };
-    both_lack(&rt, rt.alloc(), &network, &[true, true]);
-}
-
-#[test]
 fn shared_server_is_short(rt: HostRuntime) {
     let network = Network {
         demands: &[4, 3, 2],
@@ -238,20 +160,6 @@ fn shared_server_is_short(rt: HostRuntime) {
         costs: &[1, 1, 1],
     };
     both_lack(&rt, rt.alloc(), &network, &[true, true, false]);
-}
-
-#[test]
-fn source_without_arcs_is_short(rt: HostRuntime) {
-    let network = Network {
-        demands: &[1, 1],
-        capacities: &[5],
-        limits: &[],
-        hosts: &[None],
-        sources: &[0],
-        servers: &[0],
-        costs: &[3],
-    };
-    both_lack(&rt, rt.alloc(), &network, &[false, true]);
 }
 
 /// Each source is met by one path, and so by one search.

@@ -2,13 +2,15 @@
 
 ghost use Rattle.std.specs.Prelude.{ℕ, ⊤, None, slice_index_or, vec_len};
 
-use crate::inputs::{MOST, Set, TWO_SITES_OF_ONE, instance_of, judged};
+use crate::inputs::{Set, TWO_SITES_OF_ONE, instance_of, judged};
 use crate::same::is_same;
 use hsp_cert::{Certificate, UseLine};
 use hsp_check::Verdict;
-use hsp_flow::{Effort, Frontier, HeapFrontier, ScanFrontier, solve, solve_counted, solve_with};
+use hsp_flow::{
+    Effort, Frontier, HeapFrontier, ScanFrontier, solve, solve_counted, solve_proposed, solve_with,
+};
 use hsp_instance::Instance;
-use hsp_test_support::service::{BASE, HOST, ONE_SERVER, Texts};
+use hsp_test_support::service::{BASE, Texts};
 use std::alloc::{AllocError, Global};
 use std::process::Abort;
 
@@ -97,90 +99,12 @@ fn the_base_is_planned(rt: HostRuntime) {
 }
 
 #[test]
-fn the_order_of_rows_costs_nothing(rt: HostRuntime) {
-    let texts = Texts {
-        demand: b"region,handle,count\nr2,10/3,3\nr1,10/2,4\nr1,10/1,5\n",
-        ..BASE
-    };
-    let uses = [used(0, 0, 1), used(0, 1, 2), used(1, 0, 4), used(2, 0, 5)];
-    plans(&rt, rt.alloc(), texts, 17, Some(&uses));
-}
-
-#[test]
 fn a_shortage_is_reported(rt: HostRuntime) {
     let texts = Texts {
         demand: b"region,handle,count\nr1,10/1,5\nr1,10/2,4\nr2,10/3,9\n",
         ..BASE
     };
     falls_short(&rt, rt.alloc(), texts, (&[2], 9, 8));
-}
-
-#[test]
-fn rows_fall_short_together(rt: HostRuntime) {
-    let texts = Texts {
-        demand: b"region,handle,count\nr1,10/1,4\nr1,10/2,1\nr2,10/3,4\n",
-        costs: b"region,site,cost\nr1,E,1\nr2,E,2\n",
-        ..BASE
-    };
-    falls_short(&rt, rt.alloc(), texts, (&[0, 2], 8, 6));
-}
-
-#[test]
-fn nothing_is_planned_for_no_demand(rt: HostRuntime) {
-    let texts = Texts {
-        demand: b"region,handle,count\n",
-        ..BASE
-    };
-    plans(&rt, rt.alloc(), texts, 0, Some(&[]));
-}
-
-#[test]
-fn a_row_without_costs_falls_short_where_it_asks(rt: HostRuntime) {
-    let asking = Texts {
-        demand: b"region,handle,count\nr3,10/1,1\n",
-        ..BASE
-    };
-    falls_short(&rt, rt.alloc(), asking, (&[0], 1, 0));
-    let idle = Texts {
-        demand: b"region,handle,count\nr3,10/1,0\n",
-        ..BASE
-    };
-    plans(&rt, rt.alloc(), idle, 0, Some(&[]));
-}
-
-#[test]
-fn sites_of_one_cost_are_planned(rt: HostRuntime) {
-    let texts = Texts {
-        demand: b"region,handle,count\nr1,10/1,2\n",
-        costs: b"region,site,cost\nr1,E,1\nr1,W,1\n",
-        ..BASE
-    };
-    plans(&rt, rt.alloc(), texts, 2, None);
-}
-
-#[test]
-fn handles_of_one_hash_are_planned(rt: HostRuntime) {
-    let texts = Texts {
-        demand: b"region,handle,count\nr1,10/a,2\nr1,10/A,3\nr2,10/a,4\n",
-        ..BASE
-    };
-    let uses = [used(0, 0, 2), used(1, 0, 3), used(2, 0, 1), used(2, 1, 3)];
-    plans(&rt, rt.alloc(), texts, 16, Some(&uses));
-}
-
-#[test]
-fn hosts_are_planned_for(rt: HostRuntime) {
-    let hosted = Texts {
-        hosts: HOST,
-        ..BASE
-    };
-    plans(&rt, rt.alloc(), hosted, 23, None);
-    let roomy = Texts {
-        hosts: MOST,
-        ..BASE
-    };
-    let uses = [used(0, 0, 5), used(1, 0, 4), used(2, 0, 1), used(2, 1, 2)];
-    plans(&rt, rt.alloc(), roomy, 17, Some(&uses));
 }
 
 // A scan that takes no more than three nodes.
@@ -232,27 +156,6 @@ impl Frontier for Narrow {
     }
 }
 
-// The certificate is that of a plan of this cost and of `many` uses.
-fn has_uses(rt: &impl Abort, certificate: &Certificate, cost: u64, many: usize) {
-    let best = certificate.as_best().expect(rt, "a plan came");
-    is_same(rt, best.cost(), cost);
-    is_same(rt, best.uses().len(), many);
-}
-
-// One row is no wider than twenty of its region at one server: a group, the server and the sink.
-#[test]
-fn rows_of_one_kind_are_one_node(rt: HostRuntime) {
-    let texts = Texts {
-        sites: ONE_SERVER,
-        demand: TWENTY_ROWS_OF_ONE,
-        costs: b"region,site,cost\nr1,X,1\n",
-        capacity: b"site,server_id,capacity\nX,7,20\n",
-        ..BASE
-    };
-    let certificate = planned::<Narrow>(&rt, rt.alloc(), texts);
-    has_uses(&rt, &certificate, 20, 20);
-}
-
 // How many searches the loop begins for the instance.
 fn searches_for(rt: &impl Abort, alloc: Global, instance: &Instance) -> u64 {
     let mut effort = Effort::default();
@@ -269,8 +172,8 @@ fn takes_searches(rt: &impl Abort, alloc: Global, texts: Texts<'_>, wanted: u64)
     is_same(rt, searches_for(rt, alloc, &instance), wanted);
 }
 
-// Two sites of a server each, and two rows of one kind beside another.
-const TWO_KINDS: Texts<'static> = Texts {
+// Two sites of a server each, and two rows of one region beside another.
+const THREE_ROWS: Texts<'static> = Texts {
     sites: TWO_SITES_OF_ONE,
     demand: b"region,handle,count\nr1,10/1,5\nr1,10/2,4\nr2,10/3,3\n",
     costs: b"region,site,cost\nr1,X,1\nr1,Y,2\nr2,X,2\nr2,Y,1\n",
@@ -278,60 +181,30 @@ const TWO_KINDS: Texts<'static> = Texts {
     ..BASE
 };
 
-// Of the first kind 6 go to X and 3 to Y, and the second kind goes to Y: a search for each. Were that not taken for the
-// rows, there would be searches from the rows as well.
+// The first row goes to X, the second takes what X has left and then Y, and the third goes to Y: four searches.
 #[test]
-fn kinds_of_rows_are_searched_from(rt: HostRuntime) {
+fn rows_are_searched_from(rt: HostRuntime) {
     let uses = [used(0, 0, 5), used(1, 0, 1), used(1, 1, 3), used(2, 1, 3)];
-    plans_over::<ScanFrontier>(&rt, rt.alloc(), TWO_KINDS, 15, Some(&uses));
-    takes_searches(&rt, rt.alloc(), TWO_KINDS, 3);
+    plans_over::<ScanFrontier>(&rt, rt.alloc(), THREE_ROWS, 15, Some(&uses));
+    takes_searches(&rt, rt.alloc(), THREE_ROWS, 4);
 }
 
-// The two rows of a kind ask for more than 16 bits hold, and are searched from together all the same.
+// With 5 at Y the third row gets 2, and its last search finds no way.
 #[test]
-fn large_kinds_of_rows_are_searched_from(rt: HostRuntime) {
-    let texts = Texts {
-        demand: b"region,handle,count\nr1,10/1,65536\nr1,10/2,65536\nr2,10/3,3\n",
-        capacity: b"site,server_id,capacity\nX,7,65542\nY,7,65533\n",
-        ..TWO_KINDS
-    };
-    plans_over::<ScanFrontier>(&rt, rt.alloc(), texts, 196_605, None);
-    takes_searches(&rt, rt.alloc(), texts, 3);
-}
-
-// With 5 at Y the second kind gets 2, and its last search finds no way.
-#[test]
-fn kinds_of_rows_fall_short(rt: HostRuntime) {
+fn rows_fall_short(rt: HostRuntime) {
     let texts = Texts {
         capacity: b"site,server_id,capacity\nX,7,6\nY,7,5\n",
-        ..TWO_KINDS
+        ..THREE_ROWS
     };
     falls_short_over::<ScanFrontier>(&rt, rt.alloc(), texts, (&[0, 1, 2], 12, 11));
-    takes_searches(&rt, rt.alloc(), texts, 4);
+    takes_searches(&rt, rt.alloc(), texts, 5);
 }
 
 #[test]
-fn a_frontier_that_refuses_is_want_of_memory(rt: HostRuntime) {
+fn a_frontier_that_refuses_is_out_of_memory(rt: HostRuntime) {
     let base = instance_of(&rt, rt.alloc(), BASE);
     let is_refused = solve_with::<Narrow>(rt.alloc(), &base).is_err();
     assert!(rt; is_refused);
-}
-
-const TWENTY_ROWS_OF_ONE: &[u8] =
-    b"region,handle,count\nr1,10/0,1\nr1,10/1,1\nr1,10/2,1\nr1,10/3,1\nr1,10/4,1\nr1,10/5,1\nr1,10/6,1\nr1,10/7,1\n\
-    r1,10/8,1\nr1,10/9,1\nr1,10/10,1\nr1,10/11,1\nr1,10/12,1\nr1,10/13,1\nr1,10/14,1\nr1,10/15,1\nr1,10/16,1\n\
-    r1,10/17,1\nr1,10/18,1\nr1,10/19,1\n";
-
-#[test]
-fn one_server_takes_all(rt: HostRuntime) {
-    let texts = Texts {
-        sites: ONE_SERVER,
-        demand: b"region,handle,count\nr1,10/1,7\nr1,10/2,13\n",
-        costs: b"region,site,cost\nr1,X,1\n",
-        capacity: b"site,server_id,capacity\nX,7,20\n",
-        ..BASE
-    };
-    plans(&rt, rt.alloc(), texts, 20, None);
 }
 
 // The planner's own certificate, once more where a growth was refused.
@@ -359,4 +232,21 @@ pub(crate) fn is_solved(rt: &impl Abort, alloc: Global, texts: Texts<'_>, cost: 
 #[test]
 fn the_planner_takes_the_heap(rt: HostRuntime) {
     is_solved(&rt, rt.alloc(), BASE, 17);
+}
+
+// What planning the instance took.
+fn effort_for(rt: &impl Abort, alloc: Global, instance: &Instance) -> Effort {
+    let mut effort = Effort::default();
+    if solve_proposed(alloc, instance, &mut effort).is_err() {
+        effort = Effort::default();
+        solve_proposed(alloc, instance, &mut effort).expect(rt, "there is memory");
+    }
+    effort
+}
+
+#[test]
+fn the_planner_takes_a_proposal(rt: HostRuntime) {
+    let base = instance_of(&rt, rt.alloc(), BASE);
+    let effort = effort_for(&rt, rt.alloc(), &base);
+    is_same(&rt, (effort.proposals, effort.searching.searches), (1, 0));
 }

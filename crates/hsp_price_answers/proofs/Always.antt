@@ -13,15 +13,15 @@ use Rattle.hsp_price_text.specs.declared.certificate.PriceCertificate.{PriceCert
 use Rattle.hsp_price_text.specs.declared.certificate.PriceCertificate.TheVariants.{Plan, Shortage}
 use Rattle.hsp_cert.proofs.LineReading.{one_answer}
 use Rattle.hsp_price_text.proofs.Whole.{takes}
-use Rattle.hsp_dispatch.specs.declared.front_share.Front.{Front}
+use Rattle.hsp_log.specs.declared.front_share.Front.{Front}
 use Rattle.hsp_price_dispatch.specs.Starting.{Fits, Stands}
 use Rattle.hsp_price_dispatch.specs.declared.fault.StartFault.{StartFault}
 use Rattle.hsp_price_dispatch.specs.declared.fault.StartFault.TheVariants as start
-use Rattle.hsp_price_runs.proofs.Shown.{certificate_means}
-use Rattle.hsp_stream.specs.AnswersShown.{IsOfTalk}
-use Rattle.hsp_stream.specs.AnswerRun.{EndsTalk, Refuses}
-use Rattle.hsp_stream.specs.declared.fault.StreamFault.TheVariants.{OutOfMemory}
-use Rattle.hsp_stream.proofs.TalkEnds.{ends_always}
+use Rattle.hsp_inputs.proofs.CertificateRead.{certificate_means}
+use Rattle.hsp_price_answers.specs.AnswersShown.{IsOfTalk}
+use Rattle.hsp_price_answers.specs.AnswerRun.{EndsTalk, Refuses}
+use Rattle.hsp_inputs.specs.declared.stream_fault.StreamFault.TheVariants.{OutOfMemory}
+use Rattle.hsp_price_answers.proofs.TalkEnds.{ends_always}
 use Rattle.hsp_price_answers.specs.PriceAnswerRun.{AnswersClaim, AnswersText, PriceRun, fault_of_start}
 use Rattle.hsp_price_answers.specs.PriceAnswers.{ByPrices}
 

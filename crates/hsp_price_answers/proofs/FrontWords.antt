@@ -4,14 +4,13 @@ use Rattle.hsp_text.specs.Answers.{◌>>=◌}
 use Rattle.hsp_text.specs.Whole.{whole_within}
 use Rattle.hsp_text.specs.declared.limits.TheConstants.{MOST_FRONTS}
 use Rattle.hsp_text.proofs.Steps.{first_step}
-use Rattle.hsp_dispatch.specs.declared.front_share.Front.{Front}
-use Rattle.hsp_runs.specs.declared.fault.Fault.TheVariants.{BadFronts}
-use Rattle.hsp_runs.specs.Counts.{count_at}
-use Rattle.hsp_stream.specs.Words.{front_at, fronts_at, word_or}
-use Rattle.hsp_stream.specs.declared.fault.StreamFault.TheVariants.{Input}
-use Rattle.hsp_stream.proofs.SpelledFronts.{HasNoLog, below_none, else_none, front_is, many_is, many_is_read}
-use Rattle.hsp_stream.proofs.SpelledFronts.{then_none, word_none}
-use Rattle.hsp_stream.proofs.SpelledFronts.{front_is_read as front_number_is_read}
+use Rattle.hsp_log.specs.declared.front_share.Front.{Front}
+use Rattle.hsp_inputs.specs.declared.fault.Fault.TheVariants.{BadFronts}
+use Rattle.hsp_inputs.specs.Counts.{count_at}
+use Rattle.hsp_price_answers.specs.Words.{front_at, fronts_at, word_or}
+use Rattle.hsp_inputs.specs.declared.stream_fault.StreamFault.TheVariants.{Input}
+use Rattle.hsp_price_answers.proofs.SpelledFronts.{HasNoLog, below_none, else_none, front_is, many_is, many_is_read}
+use Rattle.hsp_price_answers.proofs.SpelledFronts.{then_none, word_none, front_is_read as front_number_is_read}
 use Rattle.hsp_price_answers.specs.FrontWords.{front_among, front_spelled}
 use Rattle.hsp_price_answers.specs.PricesShown.{SpellsFront}
 use Rattle.hsp_price_answers.specs.declared.front_words.FrontChoice.{FrontChoice}

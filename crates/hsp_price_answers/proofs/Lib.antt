@@ -1,3 +1,8 @@
+pub mod InTurn
+pub mod TalkEnds
+mod TalkFails
+pub mod SpelledFronts
+pub mod AnswersShown
 mod Lines
 mod PriceTurns
 mod FrontWords

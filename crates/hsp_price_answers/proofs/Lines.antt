@@ -1,11 +1,11 @@
 -- The lines of answers, by those of servers.
-use Rattle.std.proofs.Common.{◌≡◌, ◌≤◌, ◌∙◌, ℕ, List, Option, None, Some, ap, arith, length}
-use Rattle.std.proofs.Common.{codes, option_map, refl, slice_index_or}
+use Rattle.std.proofs.Common.{◌≡◌, ◌≤◌, ◌∙◌, ℕ, List, Option, None, Some, ap, arith, length, codes, option_map, refl}
+use Rattle.std.proofs.Common.{slice_index_or}
 use Rattle.std.specs.List.{slice_get}
 use Rattle.std.proofs.lemmas.List.Elements.{All-map}
 use Rattle.std.proofs.lemmas.Option.{slice_get-map}
 use Rattle.hsp_instance.specs.Instance.{Instance, Server}
-use Rattle.hsp_dispatch.specs.Lines.{lines_of, or_none, server_line}
+use Rattle.hsp_log.specs.Lines.{lines_of, or_none, server_line}
 use Rattle.hsp_price_dispatch.specs.declared.answer.PriceAnswer.{PriceAnswer}
 use Rattle.hsp_price_dispatch.specs.declared.answer.PriceAnswer.TheVariants.{Assigned, Diverted, Full, Unknown}
 use Rattle.hsp_price_answers.specs.Lines.{AreLong, at_server, diverted_line, line_by, price_line}

@@ -2,17 +2,17 @@
 use Rattle.std.proofs.Common.{◌≡◌, ◌+◌, ◌∙◌, Bool, ℕ, List, [], ◌∷◌, Option, ap, arith, cond, count_by, map, refl}
 use Rattle.std.proofs.lemmas.List.Sums.{sum_by-cons}
 use Rattle.hsp_instance.specs.Instance.{Instance}
-use Rattle.hsp_dispatch.specs.Dispatch.{Entry}
-use Rattle.hsp_dispatch.specs.Lines.{lines_of}
-use Rattle.hsp_dispatch.specs.declared.form.Form.{Form}
+use Rattle.hsp_log.specs.Entries.{Entry}
+use Rattle.hsp_log.specs.Lines.{lines_of}
+use Rattle.hsp_log.specs.declared.form.Form.{Form}
 use Rattle.hsp_price_dispatch.specs.Choosing.{answer_by, left_by}
 use Rattle.hsp_price_dispatch.specs.Holding.{Held}
 use Rattle.hsp_price_dispatch.specs.Laws.{answers_to}
 use Rattle.hsp_price_dispatch.specs.declared.answer.PriceAnswer.{PriceAnswer}
 use Rattle.hsp_price_dispatch.specs.declared.answer.PriceAnswer.TheVariants.{Assigned, Diverted, Full, Unknown}
 use Rattle.hsp_price_check.specs.Tally.{capped}
-use Rattle.hsp_stream.specs.Answering.{AreGiven, InTurn, lines_in}
-use Rattle.hsp_stream.specs.Asking.{queries_in}
+use Rattle.hsp_price_answers.specs.Answering.{AreGiven, InTurn, lines_in}
+use Rattle.hsp_price_answers.specs.Asking.{queries_in}
 use Rattle.hsp_price_answers.specs.Lines.{line_by, price_line}
 use Rattle.hsp_price_answers.specs.PriceAnswers.{ByPrices, PricesHeld, TakesByPrices, price_sums}
 use Rattle.hsp_price_answers.specs.Sums.{is_assigned, is_diverted, is_full, is_unknown, no_sums, sums_of, with_answer}

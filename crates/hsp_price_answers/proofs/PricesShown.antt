@@ -1,6 +1,6 @@
 -- What a run that answers by prices shows.
-use Rattle.std.proofs.Common.{◌≡◌, ◌≢◌, ◌<◌, ◌≤◌, ◌∙◌, ◌⊎◌, ℕ, List, [], ◌∷◌, Ok, Err, IfErr, arith, inl}
-use Rattle.std.proofs.Common.{inr, refl, subst}
+use Rattle.std.proofs.Common.{◌≡◌, ◌≢◌, ◌<◌, ◌≤◌, ◌∙◌, ◌⊎◌, ℕ, List, [], ◌∷◌, Ok, Err, IfErr, arith, inl, inr, refl}
+use Rattle.std.proofs.Common.{subst}
 use Rattle.std.specs.List.{Contains}
 use Rattle.hsp_tables.specs.Costs.{CostEntry}
 use Rattle.hsp_instance.specs.Instance.{Instance}
@@ -9,8 +9,8 @@ use Rattle.hsp_price_text.specs.Claim.{Best}
 use Rattle.hsp_price_text.specs.declared.certificate.PriceCertificate.{PriceCertificate}
 use Rattle.hsp_price_text.specs.declared.certificate.PriceCertificate.TheVariants.{Plan, Shortage}
 use Rattle.hsp_prices.specs.Least.{arcs_of, least_of}
-use Rattle.hsp_dispatch.specs.Dispatch.{Entry}
-use Rattle.hsp_dispatch.specs.declared.front_share.Front.{Front}
+use Rattle.hsp_log.specs.Entries.{Entry}
+use Rattle.hsp_log.specs.declared.front_share.Front.{Front}
 use Rattle.hsp_price_dispatch.specs.Choosing.{left_by, row_of}
 use Rattle.hsp_price_dispatch.specs.Holding.{Held, host_room_at}
 use Rattle.hsp_price_dispatch.specs.Laws.{answers_to, count_on, left_after}
@@ -20,29 +20,29 @@ use Rattle.hsp_price_dispatch.specs.declared.fault.StartFault.TheVariants as sta
 use Rattle.hsp_price_dispatch.proofs.Arcs.{goes_over}
 use Rattle.hsp_price_dispatch.proofs.Planned.{plan_stays}
 use Rattle.hsp_price_dispatch.proofs.RoomTaken.{never_exceeds, same_service}
-use Rattle.hsp_runs.specs.declared.fault.Fault.TheVariants.{WrongKind}
-use Rattle.hsp_runs.specs.Headline.{Defines}
-use Rattle.hsp_runs.specs.Instance.{ReadsCosts}
-use Rattle.hsp_runs.specs.declared.inputs.Inputs.{Inputs}
+use Rattle.hsp_inputs.specs.declared.fault.Fault.TheVariants.{WrongKind}
+use Rattle.hsp_inputs.specs.Headline.{Defines}
+use Rattle.hsp_inputs.specs.Instance.{ReadsCosts}
+use Rattle.hsp_inputs.specs.declared.inputs.Inputs.{Inputs}
 use Rattle.hsp_price_check.specs.Classes.{service_of}
-use Rattle.hsp_price_runs.specs.PriceRun.{IsCertificateIn}
-use Rattle.hsp_price_runs.proofs.Shown.{certificate_means}
-use Rattle.hsp_stream.specs.AnswerRun.{EndsTalk, Refuses}
-use Rattle.hsp_stream.specs.AnswersShown.{IsRefused}
-use Rattle.hsp_stream.specs.Asking.{queries_in}
-use Rattle.hsp_stream.specs.declared.fault.RowFault.{RowFault}
-use Rattle.hsp_stream.specs.declared.fault.StreamFault.{StreamFault}
-use Rattle.hsp_stream.specs.declared.fault.StreamFault.TheVariants.{Input, Log, OutOfMemory}
-use Rattle.hsp_stream.proofs.AnswersShown.{input_refused, refused}
-use Rattle.hsp_stream.proofs.PageCosts.{costs_of_page}
+use Rattle.hsp_inputs.specs.Readings.{IsCertificateIn}
+use Rattle.hsp_inputs.proofs.CertificateRead.{certificate_means}
+use Rattle.hsp_price_answers.specs.AnswerRun.{EndsTalk, Refuses}
+use Rattle.hsp_price_answers.specs.AnswersShown.{IsRefused}
+use Rattle.hsp_price_answers.specs.Asking.{queries_in}
+use Rattle.hsp_log.specs.declared.fault.RowFault.{RowFault}
+use Rattle.hsp_inputs.specs.declared.stream_fault.StreamFault.{StreamFault}
+use Rattle.hsp_inputs.specs.declared.stream_fault.StreamFault.TheVariants.{Input, Log, OutOfMemory}
+use Rattle.hsp_price_answers.proofs.AnswersShown.{input_refused, refused}
+use Rattle.hsp_inputs.proofs.PageCosts.{costs_of_page}
 use Rattle.hsp_price_answers.specs.FrontWords.{front_spelled}
-use Rattle.hsp_price_answers.specs.PriceAnswerRun.{AnswersClaim, AnswersText, PriceRun}
-use Rattle.hsp_price_answers.specs.PriceAnswerRun.{fault_of_start}
+use Rattle.hsp_price_answers.specs.PriceAnswerRun.{AnswersClaim, AnswersText, PriceRun, fault_of_start}
 use Rattle.hsp_price_answers.specs.PriceAnswers.{ByPrices}
 use Rattle.hsp_price_answers.specs.PricesShown.{IsPriceTalk, ShowsPrices, ShowsPricesBy}
 use Rattle.hsp_price_answers.specs.declared.front_words.FrontChoice.{FrontChoice}
 use Rattle.hsp_price_answers.proofs.FrontWords.{front_is_spelled, words_none}
 use Rattle.hsp_price_answers.proofs.Rooms.{host_room_low, room_low}
+use Rattle.hsp_inputs.specs.Limits.{limits_of}
 
 -- ---- what stays
 
@@ -66,7 +66,7 @@ start_none start.OutOfMemory of e = cc (e)
 
 module _ (front : Front) (inside : front.number < front.fronts) (inputs : Inputs) (octets : List ℕ) (run : PriceRun)
     (it : Instance) (costs : List CostEntry) (page : Defines inputs it)
-    (read : ReadsCosts inputs.costs.items (Ok costs)) where
+    (read : ReadsCosts (limits_of inputs) inputs.costs.items (Ok costs)) where
   -- the service
   abbrev at : Service
   at = service_of costs it

@@ -5,12 +5,11 @@ use Rattle.hsp_prices.specs.Rows.{Service}
 use Rattle.hsp_price_text.specs.Claim.{Best}
 use Rattle.hsp_prices.specs.Least.{host_at}
 use Rattle.hsp_prices.specs.Sums.{host_load_at, load_at}
-use Rattle.hsp_dispatch.proofs.FrontShares.{share_le}
+use Rattle.hsp_log.proofs.FrontShares.{share_le}
 use Rattle.hsp_price_dispatch.specs.Holding.{Held, host_room_at, left_where, room_at}
 use Rattle.hsp_price_dispatch.specs.Starting.{Fits, IsBegun, capacity_at, limit_at}
 use Rattle.hsp_price_dispatch.proofs.Fronts.{sends_there}
-use Rattle.hsp_price_dispatch.proofs.Sums.{all_sends, host_load_is, left_is, load_is, sent_where, shares_low}
-use Rattle.hsp_price_dispatch.proofs.Sums.{whole}
+use Rattle.hsp_price_dispatch.proofs.Sums.{all_sends, host_load_is, left_is, load_is, sent_where, shares_low, whole}
 
 module _ (at : Service) (plan : Best) (fronts front : ℕ) (own : Held) (some : 0 < fronts) (fits : Fits at plan)
     (begun : IsBegun at plan fronts front own) where

@@ -1,9 +1,9 @@
 -- The front that words spell.
 use Rattle.std.specs.Prelude.{ℕ, Result, Ok, option_map}
 use Rattle.hsp_text.specs.Answers.{◌>>=◌}
-use Rattle.hsp_dispatch.specs.declared.front_share.Front.{Front}
-use Rattle.hsp_stream.specs.Words.{front_at, fronts_at, word_or}
-use Rattle.hsp_stream.specs.declared.fault.StreamFault.{StreamFault}
+use Rattle.hsp_log.specs.declared.front_share.Front.{Front}
+use Rattle.hsp_price_answers.specs.Words.{front_at, fronts_at, word_or}
+use Rattle.hsp_inputs.specs.declared.stream_fault.StreamFault.{StreamFault}
 use Rattle.hsp_price_answers.specs.declared.front_words.FrontChoice.{FrontChoice}
 
 -- the front of so many: the first where there is no word

@@ -11,7 +11,7 @@ use Rattle.hsp_price_dispatch.specs.Holding.{Held}
 use Rattle.hsp_price_dispatch.specs.Laws.{AreBegun, answers_to, count_at, count_on}
 use Rattle.hsp_price_dispatch.specs.Planned.{AreWithinPlan, asked_at, is_assigned, only_least_where}
 use Rattle.hsp_price_dispatch.specs.Starting.{Fits, IsBegun, capacity_at, limit_at}
-use Rattle.hsp_stream.specs.Asking.{Asked, queries_in}
+use Rattle.hsp_price_answers.specs.Asking.{Asked, queries_in}
 
 -- Machines answer logs, each by its front of one plan that fits, whatever the rows of each ask. All together they send
 -- no server and no host more than it takes.

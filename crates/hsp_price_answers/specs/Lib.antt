@@ -1,3 +1,11 @@
+pub mod Asking
+pub mod Saying
+pub mod Answering
+pub mod AnswerTalk
+pub mod TalkFaults
+pub mod Words
+pub mod AnswerRun
+pub mod AnswersShown
 pub mod Sums
 pub mod Lines
 pub mod FrontWords

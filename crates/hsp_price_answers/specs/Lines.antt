@@ -4,7 +4,7 @@ use Rattle.std.specs.Prelude.{option_map}
 use Rattle.std.specs.List.{slice_get}
 use Rattle.hsp_text.specs.Writing.{numbered}
 use Rattle.hsp_instance.specs.Instance.{Instance, Server}
-use Rattle.hsp_dispatch.specs.Lines.{name_at, or_none}
+use Rattle.hsp_log.specs.Lines.{name_at, or_none}
 use Rattle.hsp_price_dispatch.specs.declared.answer.PriceAnswer.{PriceAnswer}
 use Rattle.hsp_price_dispatch.specs.declared.answer.PriceAnswer.TheVariants.{Assigned, Diverted, Full, Unknown}
 use Rattle.hsp_price_answers.specs.declared.sums.PriceSums.{PriceSums}

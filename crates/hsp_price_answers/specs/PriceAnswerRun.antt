@@ -7,25 +7,26 @@ use Rattle.hsp_price_text.specs.Claim.{Best}
 use Rattle.hsp_price_text.specs.declared.certificate.PriceCertificate.{PriceCertificate}
 use Rattle.hsp_price_text.specs.declared.certificate.PriceCertificate.TheVariants.{Plan, Shortage}
 use Rattle.hsp_prices.specs.declared.verdict.PriceReason.TheVariants.{Load, NoSuchServer, Shape}
-use Rattle.hsp_dispatch.specs.declared.front_share.Front.{Front}
+use Rattle.hsp_log.specs.declared.front_share.Front.{Front}
 use Rattle.hsp_price_dispatch.specs.Holding.{Held}
 use Rattle.hsp_price_dispatch.specs.Starting.{Fits, IsBegun, Stands}
 use Rattle.hsp_price_dispatch.specs.declared.fault.StartFault.{StartFault}
 use Rattle.hsp_price_dispatch.specs.declared.fault.StartFault.TheVariants as start
-use Rattle.hsp_runs.specs.declared.fault.Fault.{Fault}
-use Rattle.hsp_runs.specs.declared.fault.Fault.TheVariants.{WrongKind}
-use Rattle.hsp_runs.specs.Instance.{IsInstanceOf, ReadsCosts}
-use Rattle.hsp_runs.specs.declared.inputs.Inputs.{Inputs}
+use Rattle.hsp_inputs.specs.declared.fault.Fault.{Fault}
+use Rattle.hsp_inputs.specs.declared.fault.Fault.TheVariants.{WrongKind}
+use Rattle.hsp_inputs.specs.Instance.{IsInstanceOf, ReadsCosts}
+use Rattle.hsp_inputs.specs.declared.inputs.Inputs.{Inputs}
 use Rattle.hsp_price_check.specs.Classes.{service_of}
-use Rattle.hsp_price_runs.specs.PriceRun.{IsCertificateIn}
-use Rattle.hsp_stream.specs.AnswerRun.{EndsTalk, Refuses, RunOf}
-use Rattle.hsp_stream.specs.Faults.{fault_of_input}
-use Rattle.hsp_stream.specs.declared.fault.StreamFault.{StreamFault}
-use Rattle.hsp_stream.specs.declared.fault.StreamFault.TheVariants.{Input, OutOfMemory, Refused}
+use Rattle.hsp_inputs.specs.Readings.{IsCertificateIn}
+use Rattle.hsp_price_answers.specs.AnswerRun.{EndsTalk, Refuses, RunOf}
+use Rattle.hsp_inputs.specs.Faults.{fault_of_input}
+use Rattle.hsp_inputs.specs.declared.stream_fault.StreamFault.{StreamFault}
+use Rattle.hsp_inputs.specs.declared.stream_fault.StreamFault.TheVariants.{Input, OutOfMemory, Refused}
 use Rattle.hsp_price_answers.specs.FrontWords.{front_spelled}
 use Rattle.hsp_price_answers.specs.PriceAnswers.{ByPrices}
 use Rattle.hsp_price_answers.specs.declared.front_words.FrontChoice.{FrontChoice}
 use Rattle.hsp_price_answers.specs.declared.sums.PriceSums.{PriceSums}
+use Rattle.hsp_inputs.specs.Limits.{limits_of}
 
 -- what is known of a peer before a run and after it, and what the run returns
 abbrev pub PriceRun : Type 0
@@ -63,7 +64,7 @@ AnswersText front it at octets run =
 -- by the instance that was read and the costs of the inputs, or its fault is returned
 abbrev pub AnswersInstance : Front → Inputs → List ℕ → PriceRun → Result Instance Fault → Type 0
 AnswersInstance front inputs octets run (Ok it) =
-    (costs : List CostEntry) × ReadsCosts inputs.costs.items (Ok costs)
+    (costs : List CostEntry) × ReadsCosts (limits_of inputs) inputs.costs.items (Ok costs)
     × AnswersText front it (service_of costs it) octets run
 AnswersInstance front inputs octets run (Err fault) = Refuses (fault_of_input fault) run
 

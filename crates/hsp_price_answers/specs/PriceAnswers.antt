@@ -1,13 +1,13 @@
 -- How the queries of rows are answered by prices.
 use Rattle.std.specs.Prelude.{◌≡◌, ℕ, List, Option, None, map}
 use Rattle.hsp_instance.specs.Instance.{Instance}
-use Rattle.hsp_dispatch.specs.Dispatch.{Entry}
-use Rattle.hsp_dispatch.specs.declared.form.Form.{Form}
+use Rattle.hsp_log.specs.Entries.{Entry}
+use Rattle.hsp_log.specs.declared.form.Form.{Form}
 use Rattle.hsp_price_dispatch.specs.Choosing.{answer_by, left_by}
 use Rattle.hsp_price_dispatch.specs.Holding.{Held}
 use Rattle.hsp_price_dispatch.specs.Laws.{answers_to}
-use Rattle.hsp_stream.specs.Answering.{lines_in, refused_in}
-use Rattle.hsp_stream.specs.Asking.{AreAsked, Asked, queries_in}
+use Rattle.hsp_price_answers.specs.Answering.{lines_in, refused_in}
+use Rattle.hsp_price_answers.specs.Asking.{AreAsked, Asked, queries_in}
 use Rattle.hsp_price_answers.specs.Lines.{line_by, price_line}
 use Rattle.hsp_price_answers.specs.Sums.{sums_of, with_answer, with_refused}
 use Rattle.hsp_price_answers.specs.declared.sums.PriceSums.{PriceSums}

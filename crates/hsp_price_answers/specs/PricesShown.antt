@@ -10,25 +10,26 @@ use Rattle.hsp_price_text.specs.Claim.{Best}
 use Rattle.hsp_price_text.specs.Text.{text_of}
 use Rattle.hsp_price_text.specs.declared.certificate.PriceCertificate.TheVariants as certificate
 use Rattle.hsp_prices.specs.Least.{arcs_of, least_of}
-use Rattle.hsp_dispatch.specs.Dispatch.{Entry}
-use Rattle.hsp_dispatch.specs.declared.front_share.Front.{Front}
+use Rattle.hsp_log.specs.Entries.{Entry}
+use Rattle.hsp_log.specs.declared.front_share.Front.{Front}
 use Rattle.hsp_price_dispatch.specs.Choosing.{answer_by, row_of}
 use Rattle.hsp_price_dispatch.specs.Holding.{Held}
 use Rattle.hsp_price_dispatch.specs.Laws.{answers_to, count_at, count_on, left_after}
 use Rattle.hsp_price_dispatch.specs.Starting.{Fits, IsBegun, capacity_at, limit_at}
 use Rattle.hsp_price_dispatch.specs.declared.answer.PriceAnswer.TheVariants.{Assigned, Diverted}
-use Rattle.hsp_runs.specs.Headline.{AreCosts, Defines}
-use Rattle.hsp_runs.specs.declared.inputs.Inputs.{Inputs}
+use Rattle.hsp_inputs.specs.Headline.{AreCosts, Defines}
+use Rattle.hsp_inputs.specs.declared.inputs.Inputs.{Inputs}
 use Rattle.hsp_price_check.specs.Classes.{service_of}
-use Rattle.hsp_stream.specs.AnswersShown.{IsOfTalk, IsRefused, SpellsOr}
-use Rattle.hsp_stream.specs.AnswerTalk.{EndsBy}
-use Rattle.hsp_stream.specs.Asking.{Asked, queries_in}
-use Rattle.hsp_stream.specs.declared.fault.StreamFault.{StreamFault}
+use Rattle.hsp_price_answers.specs.AnswersShown.{IsOfTalk, IsRefused, SpellsOr}
+use Rattle.hsp_price_answers.specs.AnswerTalk.{EndsBy}
+use Rattle.hsp_price_answers.specs.Asking.{Asked, queries_in}
+use Rattle.hsp_inputs.specs.declared.stream_fault.StreamFault.{StreamFault}
 use Rattle.hsp_talk.specs.Known.{Went}
 use Rattle.hsp_price_answers.specs.PriceAnswerRun.{PriceRun}
 use Rattle.hsp_price_answers.specs.PriceAnswers.{ByPrices}
 use Rattle.hsp_price_answers.specs.declared.front_words.FrontChoice.{FrontChoice}
 use Rattle.hsp_price_answers.specs.declared.sums.PriceSums.{PriceSums}
+use Rattle.hsp_inputs.specs.Limits.{limits_of}
 
 -- The words spell a front: one of one, and its number 0, where they don't spell others.
 pub record SpellsFront (words : FrontChoice) (front : Front) : Type 0 where
@@ -42,7 +43,7 @@ pub record SpellsFront (words : FrontChoice) (front : Front) : Type 0 where
 -- pay: to a site where its region has a cost, and to the server there that its handle's hash fixes.
 pub record IsPriceTalk (inputs : Inputs) (front : Front) (run : PriceRun) (it : Instance) (plan : Best) : Type 0 where
   pub costs : List CostEntry
-  pub are_costs : AreCosts it.sites inputs.costs.items costs
+  pub are_costs : AreCosts (limits_of inputs) it.sites inputs.costs.items costs
   pub fits : Fits (service_of costs it) plan
   pub own : Held
   pub begun : IsBegun (service_of costs it) plan front.fronts front.number own
@@ -79,7 +80,8 @@ abbrev pub AnswersAlways : Inputs → List ℕ → Result PriceSums StreamFault 
 AnswersAlways inputs octets answer =
     (it : Instance) (plan : Best) → Defines inputs it → IsCertificate (certificate.Plan plan)
     → octets ≡ text_of (certificate.Plan plan)
-    → ((costs : List CostEntry) → AreCosts it.sites inputs.costs.items costs → Fits (service_of costs it) plan)
+    → ((costs : List CostEntry) → AreCosts (limits_of inputs) it.sites inputs.costs.items costs
+    → Fits (service_of costs it) plan)
     → IfErr answer IsOfTalk
 
 -- the same where moreover words spell a front

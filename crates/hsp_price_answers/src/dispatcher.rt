@@ -1,18 +1,18 @@
 // A dispatcher by prices, with the lines of servers and the sums of its answers.
 
 ghost use Rattle.std.specs.Prelude.{◌≡◌, ◌≤◌, ◌++◌, IfOk, OnOk, length};
-ghost use Rattle.hsp_dispatch.specs.Lines.{lines_of};
+ghost use Rattle.hsp_log.specs.Lines.{lines_of};
 ghost use Rattle.hsp_price_answers.specs.Lines.{AreLong, diverted_line, line_by};
 ghost use Rattle.hsp_price_answers.specs.PriceAnswers.{TakesByPrices, price_sums};
 ghost use Rattle.hsp_price_answers.specs.Sums.{no_sums};
 ghost use Rattle.hsp_price_dispatch.specs.Choosing.{LeadsWithin};
 
+use crate::query_dispatcher::QueryDispatcher;
 use crate::sums::PriceSums;
-use hsp_dispatch::ServerLines;
 use hsp_instance::Instance;
+use hsp_log::ServerLines;
 use hsp_names::HandleRef;
 use hsp_price_dispatch::{PriceAnswer, PriceDispatcher};
-use hsp_stream::QueryDispatcher;
 use std::alloc::{AllocError, Global};
 use std::marker::Model;
 

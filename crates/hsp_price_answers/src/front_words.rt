@@ -4,8 +4,9 @@ ghost use Rattle.std.specs.Prelude.{◌≡◌, ◌≤◌, ◌<◌, IfOk};
 ghost use Rattle.hsp_text.specs.Answers.{Gives};
 ghost use Rattle.hsp_price_answers.specs.FrontWords.{front_among, front_spelled};
 
-use hsp_dispatch::front_share::Front;
-use hsp_stream::{StreamFault, front_at, fronts_at};
+use crate::fronts::{front_at, fronts_at};
+use hsp_inputs::StreamFault;
+use hsp_log::Front;
 
 /// The words of a front: how many there are, and the number of one of them. Absent words mean 1 and 0.
 #[derive(Drop)]

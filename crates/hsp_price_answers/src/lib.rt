@@ -1,10 +1,16 @@
 // The run that answers the rows of a log by a certificate by prices, for any handle and for as long as the log goes on.
 #![tactic(auto)]
 
+mod answerer;
+mod asking;
 mod dispatcher;
 mod front_words;
+mod fronts;
 pub mod laws;
+mod query_dispatcher;
+mod row_refusal;
 mod run;
+mod speaking;
 mod sums;
 
 pub use front_words::FrontChoice;

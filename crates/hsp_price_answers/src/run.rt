@@ -2,25 +2,25 @@
 
 ghost use Rattle.std.specs.Prelude.{◌≡◌, ◌⊎◌, ◌<◌, IfErr, Ok};
 ghost use Rattle.hsp_price_check.specs.Classes.{service_of};
-ghost use Rattle.hsp_stream.specs.AnswerRun.{run_of};
-ghost use Rattle.hsp_stream.specs.TalkFaults.{IsBeforeLog, IsFailedWrite, MayStopBy};
+ghost use Rattle.hsp_price_answers.specs.AnswerRun.{run_of};
+ghost use Rattle.hsp_price_answers.specs.TalkFaults.{IsBeforeLog};
+ghost use Rattle.hsp_inputs.specs.Stopping.{IsFailedWrite, MayStopBy};
 ghost use Rattle.hsp_talk.specs.Known.{IsHandedOn};
 ghost use Rattle.hsp_price_answers.specs.PriceAnswerRun.{AnswersClaim, AnswersFront, AnswersPlan, AnswersText};
 ghost use Rattle.hsp_price_answers.specs.PriceAnswerRun.{IsPriceAnswered, fault_of_start};
-ghost use Rattle.hsp_price_answers.specs.PricesShown.{AnswersAlways, AnswersAlwaysAt, ShowsPrices};
-ghost use Rattle.hsp_price_answers.specs.PricesShown.{ShowsPricesBy};
+ghost use Rattle.hsp_price_answers.specs.PricesShown.{AnswersAlways, AnswersAlwaysAt, ShowsPrices, ShowsPricesBy};
 
+use crate::answerer::Answerer;
 use crate::dispatcher::PriceAnswers;
 use crate::front_words::{FrontChoice, front_spelled};
+use crate::speaking::answer_rows;
 use crate::sums::PriceSums;
-use hsp_dispatch::front_share::Front;
+use hsp_inputs::{Fault, Inputs, StreamFault, certificate_in, costs_in, instance_in};
 use hsp_instance::Instance;
+use hsp_log::Front;
 use hsp_price_dispatch::{PriceDispatcher, StartFault};
-use hsp_price_runs::certificate_in;
 use hsp_price_text::{PriceCertificate, PricedPlan};
 use hsp_prices::PriceReason;
-use hsp_runs::{Fault, Inputs, costs_in, instance_in};
-use hsp_stream::{Answerer, StreamFault, answer_rows};
 use hsp_tables::Costs;
 use hsp_talk::Peer;
 use std::alloc::Global;
@@ -140,7 +140,7 @@ fn answer_inputs<P: Peer>(
         Ok(instance) => instance,
         Err(fault) => return Err(StreamFault::from(fault)),
     };
-    match costs_in(alloc, &inputs.costs) {
+    match costs_in(alloc, &inputs.costs, inputs.limits()) {
         Ok(costs) => {
             let service = ServiceRef {
                 instance: &instance,
@@ -154,7 +154,7 @@ fn answer_inputs<P: Peer>(
 
 /// Answers the rows of a log that a peer sends, by a front of the plan by prices that the octets of `prices` spell,
 /// until no more rows come. Every answer is sent before the next read, which may wait. The inputs are those of a
-/// service without rows: their table of demand has none.
+/// service: they have no table of demand.
 ///
 /// The first row that isn't blank is the header, `region,handle` or `region,body`. A byte order mark before it is
 /// passed over. Each later row that isn't blank is answered by one line, whatever handle it asks for:

@@ -6,7 +6,7 @@ use Rattle.std.specs.List.{list_any}
 use Rattle.std.specs.Str.{bytes_eq}
 use Rattle.hsp_tables.proofs.SeenNames.{first_seen-append}
 use Rattle.hsp_tables.specs.Table.{first_seen}
-use Rattle.hsp_text.specs.declared.limits.TheConstants.{MOST_REGIONS}
+use Rattle.hsp_text.specs.declared.limits.TheConstants.{MOST_LOG_REGIONS}
 use Rattle.hsp_instance.specs.Instance.{Row, regions_of}
 use Rattle.hsp_instance.specs.RowArcs.{with_region}
 
@@ -16,9 +16,9 @@ there_already : (regions : List (List ℕ)) (region : List ℕ) → list_any (by
 there_already regions region e = rw e refl
 
 -- regions stay few where the region is known, or where there are not as many as there may be
-pub few_regions : (regions : List (List ℕ)) (region : List ℕ) → length regions ≤ MOST_REGIONS
-    → (list_any (bytes_eq region) regions ≡ true) ⊎ (length regions < MOST_REGIONS)
-    → length (with_region regions region) ≤ MOST_REGIONS
+pub few_regions : (regions : List (List ℕ)) (region : List ℕ) → length regions ≤ MOST_LOG_REGIONS
+    → (list_any (bytes_eq region) regions ≡ true) ⊎ (length regions < MOST_LOG_REGIONS)
+    → length (with_region regions region) ≤ MOST_LOG_REGIONS
 few_regions regions region few (inl known) = rw (there_already regions region known) few
 few_regions regions region few (inr room) = grind (arith, length-append regions (region ∷ []))
 

@@ -1,7 +1,7 @@
 -- The check of a certificate by prices, as rows come in.
 use Rattle.std.specs.Prelude.{◌≡◌, ◌<◌, ◌≤◌, List, Option, Some, None, length}
 use Rattle.hsp_tables.specs.Costs.{AreCosts}
-use Rattle.hsp_text.specs.declared.limits.TheConstants.{MOST_REGIONS}
+use Rattle.hsp_text.specs.declared.limits.TheConstants.{MOST_LOG_REGIONS}
 use Rattle.hsp_instance.specs.Instance.{Row, regions_of}
 use Rattle.hsp_prices.specs.Rows.{Service}
 use Rattle.hsp_price_text.specs.Claim.{Best, Short}
@@ -20,7 +20,7 @@ use Rattle.hsp_price_check.specs.declared.checking.PriceCheck.{PriceCheck}
 
 -- there are more regions than rows may name
 abbrev pub HasTooMany : List Row → Type 0
-HasTooMany rows = MOST_REGIONS < length (regions_of rows)
+HasTooMany rows = MOST_LOG_REGIONS < length (regions_of rows)
 
 -- Who judges a certificate has passed over these rows.
 abbrev pub IsJudge : Service → PriceCertificate → List Row → Judge → Type 0
@@ -45,7 +45,7 @@ pub record IsPassed (at : Service) (certificate : PriceCertificate) (rows : List
   pub costs_are : check.arcs.costs ≡ at.costs
   pub sites_are : check.arcs.sites ≡ at.sites
   pub regions_are : check.arcs.regions ≡ regions_of rows
-  pub few_regions : length (regions_of rows) ≤ MOST_REGIONS
+  pub few_regions : length (regions_of rows) ≤ MOST_LOG_REGIONS
   pub judge : IsJudge at certificate rows check.judge
   pub service_is : at ≡ service_of check.costs.now check.instance.now
   pub regions : AreRegionSums (cost_by at (judged_plan check.judge)) rows check.regions.items

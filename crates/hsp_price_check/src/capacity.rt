@@ -25,6 +25,10 @@ fn rooms_of(alloc: Global, capacities: &[u64], flags: &[bool]) -> Result<Vec<u12
 }
 
 /// What the flagged servers take, those of a host no more than its limit.
+///
+/// # Errors
+///
+/// An `AllocError` where memory runs out.
 pub fn capacity_of_set(
     alloc: Global,
     numbers: &ServiceNumbers,

@@ -39,7 +39,7 @@ use hsp_names::HandleRef;
 use hsp_price_text::{Class, PriceCertificate, PricedPlan, ShortServers};
 use hsp_prices::{PriceReason, PriceVerdict};
 use hsp_tables::Costs;
-use hsp_text::limits::MOST_REGIONS;
+use hsp_text::limits::MOST_LOG_REGIONS;
 use std::alloc::{AllocError, Global};
 
 // Who judges a certificate.
@@ -210,6 +210,20 @@ impl Judge<'_> {
 
 impl<'a> PriceCheck<'a> {
     /// The check of a certificate before the first row.
+    ///
+    /// ```
+    /// // A service whose server 0 takes a query from r1 for 1, and the others one from r2.
+    /// let text = b"HSPLAN PRICES 1\nPLAN\ncost 12\nserver 0 0\nserver 1 0\nserver 2 0\nEND\n";
+    /// let certificate = read_prices(alloc, text)?;
+    /// let mut check = PriceCheck::new(alloc, &instance, &costs, &certificate)?;
+    /// check.add(alloc, b"r1", HandleRef::parse(b"10/1")?, 7)?;
+    /// check.add(alloc, b"r2", HandleRef::parse(b"10/1")?, 5)?;
+    /// assert!(rt; check.verdict(alloc)? == PriceVerdict::Yes);
+    /// ```
+    ///
+    /// # Errors
+    ///
+    /// An `AllocError` where memory runs out.
     pub fn new(
         alloc: Global,
         instance: &'a Instance,
@@ -236,19 +250,21 @@ impl<'a> PriceCheck<'a> {
 
     // Whether no row had the region, and there are as many regions as there may be.
     fn has_no_room(&self, region: &[u8]) -> bool
-        ensures none { IsTrue result → (MOST_REGIONS ≤ length self.now.arcs.regions)
+        ensures none { IsTrue result → (MOST_LOG_REGIONS ≤ length self.now.arcs.regions)
             × (list_any (bytes_eq region.now) self.now.arcs.regions ≡ false) }
         ensures room { result ≡ false
             → (list_any (bytes_eq region.now) self.now.arcs.regions ≡ true)
-            ⊎ (length self.now.arcs.regions < MOST_REGIONS) }
+            ⊎ (length self.now.arcs.regions < MOST_LOG_REGIONS) }
     {
-        self.arcs.regions() >= MOST_REGIONS && !self.arcs.knows(region)
+        self.arcs.regions() >= MOST_LOG_REGIONS && !self.arcs.knows(region)
     }
 
     /// Passes over a row. The region is a name, and the count a whole number.
     ///
-    /// The fault is TooManyRegions where the rows have 65 regions with this one. After a fault the check judges no
-    /// further row.
+    /// # Errors
+    ///
+    /// `TooManyRegions` where the rows have 4,097 regions with this one, and else `OutOfMemory` where memory runs out.
+    /// After either the check judges no further row.
     pub fn add(
         &mut self,
         alloc: Global,
@@ -277,6 +293,10 @@ impl<'a> PriceCheck<'a> {
     }
 
     /// The verdict on the certificate, by the rows that were passed over.
+    ///
+    /// # Errors
+    ///
+    /// An `AllocError` where memory runs out.
     pub fn verdict(&self, alloc: Global) -> Result<PriceVerdict, AllocError>
         requires { IsOfSomeRows self.now }
         ensures { IfOk result (λ verdict. (at : Service) (certificate : PriceCertificate)

@@ -8,7 +8,7 @@ use std::alloc::AllocError;
 /// Why a row can't be passed over.
 #[derive(Clone, Copy, Debug, PartialEq, Eq, Drop)]
 pub enum PassFault {
-    /// The row's region is the 65th.
+    /// The row's region is the 4,097th.
     TooManyRegions,
     /// Memory ran out.
     OutOfMemory,

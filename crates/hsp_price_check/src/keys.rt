@@ -17,6 +17,10 @@ impl KindKey {
     ghost use Rattle.hsp_price_check.specs.KindKeys.{key_in};
 
     /// The key of these octets and places.
+    ///
+    /// # Errors
+    ///
+    /// An `AllocError` where memory runs out.
     pub fn new(alloc: Global, region: &[u8], places: &[u32]) -> Result<KindKey, AllocError>
         ensures { IfOk result
             (λ key. key_in key ≡ record { region = region.now; places = places.now }) }

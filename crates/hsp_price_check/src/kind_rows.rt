@@ -11,6 +11,10 @@ use std::alloc::{AllocError, Global};
 pub type FirstNumbers = IndexMap<KindKey, u32>;
 
 /// Adds a number by a key, where none was added by the key before.
+///
+/// # Errors
+///
+/// An `AllocError` where memory runs out.
 pub fn add_first(
     alloc: Global,
     firsts: &mut FirstNumbers,

@@ -159,7 +159,11 @@ impl SeenRows {
     }
 
     /// Puts in a number for a region and a handle. It is left out where there are rows enough, where the row is too
-    /// long, and where the row has a number. Where memory runs out nothing changes.
+    /// long, and where the row has a number.
+    ///
+    /// # Errors
+    ///
+    /// An `AllocError` where memory runs out. Then nothing changes.
     pub fn remember(
         &mut self,
         alloc: Global,

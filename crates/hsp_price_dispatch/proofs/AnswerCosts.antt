@@ -1,8 +1,7 @@
 -- What answers cost together, where the plan's certificate is valid for the queries.
-use Rattle.std.proofs.Common.{◌≡◌, ◌<◌, ◌≤◌, ◌+◌, ◌*◌, ◌==◌, ◌∙◌, ℕ, Bool, true, List, [], ◌∷◌, All, Option, None}
-use Rattle.std.proofs.Common.{Some, ap, arith, eq-eqb, if◌then◌else◌, inl, inr, length, map}
-use Rattle.std.proofs.Common.{mul-one, mul-zero, mul_comm, ne_eqb, one-mul, refl, slice_index, subst, sum}
-use Rattle.std.proofs.Common.{sum_by, sym, zero-mul}
+use Rattle.std.proofs.Common.{◌≡◌, ◌<◌, ◌≤◌, ◌+◌, ◌*◌, ◌==◌, ◌∙◌, ℕ, Bool, true, List, [], ◌∷◌, All, Option, None, Some}
+use Rattle.std.proofs.Common.{ap, arith, eq-eqb, if◌then◌else◌, inl, inr, length, map, mul-one, mul-zero, mul_comm}
+use Rattle.std.proofs.Common.{ne_eqb, one-mul, refl, slice_index, subst, sum, sum_by, sym, zero-mul}
 use Rattle.std.specs.List.{AllByRecursion, Contains, count_by}
 use Rattle.std.proofs.lemmas.Bool.{cases_lt, true≢false}
 use Rattle.std.proofs.lemmas.List.{get_or_past, length-map}
@@ -27,7 +26,7 @@ use Rattle.hsp_prices.specs.Verdict.{IsVerdict}
 use Rattle.hsp_prices.specs.declared.verdict.PriceReason.TheVariants as reason
 use Rattle.hsp_prices.specs.declared.verdict.PriceVerdict.TheVariants.{Yes}
 use Rattle.hsp_prices.proofs.LeastPay.{all_pay}
-use Rattle.hsp_dispatch.specs.Dispatch.{Entry}
+use Rattle.hsp_log.specs.Entries.{Entry}
 use Rattle.hsp_price_check.specs.Passed.{class_at}
 use Rattle.hsp_price_dispatch.specs.Choosing.{answer_by, choice_for, left_by, row_of}
 use Rattle.hsp_price_dispatch.specs.Holding.{Held}

@@ -1,7 +1,7 @@
 -- What a front holds at first, by the lists that were added up.
-use Rattle.std.proofs.Common.{◌≡◌, ◌<◌, ◌≤◌, ◌+◌, ◌-◌, ◌^◌, ◌==◌, ◌∙◌, ℕ, Bool, false, List, [], ◌∷◌, length, All}
-use Rattle.std.proofs.Common.{None, Option, Some, ap, arith, get_or, if◌then◌else◌, inl}
-use Rattle.std.proofs.Common.{inr, ne_eqb, refl, slice_index, subst, sym}
+use Rattle.std.proofs.Common.{◌≡◌, ◌<◌, ◌≤◌, ◌+◌, ◌-◌, ◌^◌, ◌==◌, ◌∙◌, ℕ, Bool, false, List, [], ◌∷◌, length, All, None}
+use Rattle.std.proofs.Common.{Option, Some, ap, arith, get_or, if◌then◌else◌, inl, inr, ne_eqb, refl, slice_index}
+use Rattle.std.proofs.Common.{subst, sym}
 use Rattle.std.specs.List.{flat_map}
 use Rattle.std.proofs.lemmas.Bool.{cases_lt}
 use Rattle.std.proofs.lemmas.List.{get_or_past, length-map}
@@ -17,7 +17,7 @@ use Rattle.hsp_prices.specs.Rows.{Service}
 use Rattle.hsp_price_text.specs.Claim.{Best}
 use Rattle.hsp_prices.specs.Least.{host_at}
 use Rattle.hsp_prices.specs.Sums.{host_load_at, load_at}
-use Rattle.hsp_dispatch.specs.Fronts.{share}
+use Rattle.hsp_log.specs.FrontShares.{share}
 use Rattle.hsp_price_check.specs.Passed.{capped}
 use Rattle.hsp_price_dispatch.specs.Holding.{Held, left_where}
 use Rattle.hsp_price_dispatch.specs.Standing.{IsAccepted, IsStanding}

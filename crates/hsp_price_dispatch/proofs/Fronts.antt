@@ -1,6 +1,6 @@
 -- Fronts side by side: each answers by its own entries, and together they keep within what servers and hosts take.
-use Rattle.std.proofs.Common.{◌≡◌, ◌<◌, ◌≤◌, ◌+◌, ◌-◌, ◌∙◌, ◌++◌, ◌==◌, ℕ, zero, suc, List, [], ◌∷◌, length, All}
-use Rattle.std.proofs.Common.{Bool, ap, ap₂, arith, eq-eqb, inl, inr, ne_eqb, refl, subst, sym}
+use Rattle.std.proofs.Common.{◌≡◌, ◌<◌, ◌≤◌, ◌+◌, ◌-◌, ◌∙◌, ◌++◌, ◌==◌, ℕ, zero, suc, List, [], ◌∷◌, length, All, Bool}
+use Rattle.std.proofs.Common.{ap, ap₂, arith, eq-eqb, inl, inr, ne_eqb, refl, subst, sym}
 use Rattle.std.specs.List.{zip}
 use Rattle.std.proofs.lemmas.Bool.{cases_eq}
 use Rattle.std.proofs.lemmas.List.Elements.{All-append, All-head, All-tail}
@@ -11,21 +11,20 @@ use Rattle.hsp_prices.specs.Rows.{Service}
 use Rattle.hsp_price_text.specs.Claim.{Best, Class}
 use Rattle.hsp_prices.specs.Least.{host_at}
 use Rattle.hsp_prices.specs.Sums.{host_load_at, load_at, sends}
-use Rattle.hsp_dispatch.specs.Dispatch.{Entry, each_after}
-use Rattle.hsp_dispatch.specs.Fronts.{Event, entries_at, share}
-use Rattle.hsp_dispatch.proofs.FrontCounts.{more_elsewhere, more_here}
-use Rattle.hsp_dispatch.proofs.FrontShares.{shares_add_up}
+use Rattle.hsp_log.specs.Entries.{Entry, each_after, Event, entries_at}
+use Rattle.hsp_log.specs.FrontShares.{share}
+use Rattle.hsp_log.proofs.Entries.{more_elsewhere, more_here}
+use Rattle.hsp_log.proofs.FrontShares.{shares_add_up}
 use Rattle.hsp_price_dispatch.specs.Choosing.{answer_by, left_by}
 use Rattle.hsp_price_dispatch.specs.Holding.{Held, host_room_at, left_where, room_at}
-use Rattle.hsp_price_dispatch.specs.Laws.{AnswersByItsOwn, AreBegun}
-use Rattle.hsp_price_dispatch.specs.Laws.{EndsInTheSame, GoesByItsEntries, GoesOnWithTheRest, NeverExceedsTogether}
-use Rattle.hsp_price_dispatch.specs.Laws.{RoomsAddUp, answers_at, answers_to, count_at, count_on, event_answer}
-use Rattle.hsp_price_dispatch.specs.Laws.{left_after}
+use Rattle.hsp_price_dispatch.specs.Laws.{AnswersByItsOwn, AreBegun, EndsInTheSame, GoesByItsEntries, GoesOnWithTheRest}
+use Rattle.hsp_price_dispatch.specs.Laws.{NeverExceedsTogether, RoomsAddUp, answers_at, answers_to, count_at, count_on}
+use Rattle.hsp_price_dispatch.specs.Laws.{event_answer, left_after}
 use Rattle.hsp_price_dispatch.specs.Starting.{Fits, capacity_at, limit_at}
 use Rattle.hsp_price_dispatch.specs.declared.answer.PriceAnswer.{PriceAnswer}
 use Rattle.hsp_price_dispatch.proofs.RoomTaken.{never_exceeds}
-use Rattle.hsp_price_dispatch.proofs.Sums.{all_sends, host_load_is, left_is, load_is}
-use Rattle.hsp_price_dispatch.proofs.Sums.{sent_where, shares_together, whole}
+use Rattle.hsp_price_dispatch.proofs.Sums.{all_sends, host_load_is, left_is, load_is, sent_where, shares_together}
+use Rattle.hsp_price_dispatch.proofs.Sums.{whole}
 
 -- ---- each front alone
 

@@ -11,7 +11,7 @@ use Rattle.hsp_instance.specs.declared.arc.Arc.{Arc}
 use Rattle.hsp_prices.specs.Rows.{Service}
 use Rattle.hsp_price_text.specs.Claim.{Best}
 use Rattle.hsp_prices.specs.Least.{arcs_of, least_of}
-use Rattle.hsp_dispatch.specs.Dispatch.{Entry}
+use Rattle.hsp_log.specs.Entries.{Entry}
 use Rattle.hsp_price_dispatch.specs.Choosing.{can_give, choice_for, class_number, first_cell, fuller, fullest}
 use Rattle.hsp_price_dispatch.specs.Choosing.{is_fuller, left_by, left_with, places_from, places_of, row_of}
 use Rattle.hsp_price_dispatch.specs.Holding.{Held, cell_at, has_room, no_cell, one_given}

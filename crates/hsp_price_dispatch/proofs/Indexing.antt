@@ -1,6 +1,6 @@
 -- What servers cost beside arcs, and where the cells of a class stand, by the lists that a front keeps for it.
-use Rattle.std.proofs.Common.{◌≡◌, ◌≤◌, ◌<◌, ◌∙◌, ℕ, List, [], ◌∷◌, length, position, slice_index, All}
-use Rattle.std.proofs.Common.{None, Option, Some, ap, ap₂, arith, filter, length-set, refl, subst, sym, Bool}
+use Rattle.std.proofs.Common.{◌≡◌, ◌≤◌, ◌<◌, ◌∙◌, ℕ, List, [], ◌∷◌, length, position, slice_index, All, None, Option}
+use Rattle.std.proofs.Common.{Some, ap, ap₂, arith, filter, length-set, refl, subst, sym, Bool}
 use Rattle.std.specs.Str.{bytes_eq}
 use Rattle.std.specs.List.{AllByRecursion}
 use Rattle.std.proofs.lemmas.Bool.{and_parts}
@@ -18,16 +18,15 @@ use Rattle.hsp_prices.specs.Rows.{Service}
 use Rattle.hsp_price_text.specs.Claim.{Best}
 use Rattle.hsp_prices.specs.Least.{arcs_of, is_least, least_arcs, least_of, pay_over, servers_of}
 use Rattle.hsp_prices.proofs.Lists.{all_kept}
-use Rattle.hsp_dispatch.specs.Dispatch.{Entry}
+use Rattle.hsp_log.specs.Entries.{Entry}
 use Rattle.hsp_price_check.specs.ClassNumbers.{HasClasses, is_named}
 use Rattle.hsp_price_check.specs.Extras.{pay_by}
 use Rattle.hsp_price_check.specs.Passed.{class_at, no_class}
 use Rattle.hsp_price_check.proofs.PricePays.{pay_is}
 use Rattle.hsp_price_dispatch.specs.Choosing.{Least, LeadsWithin, answer_of, assigned, assigned_over, choice_among}
-use Rattle.hsp_price_dispatch.specs.Choosing.{choice_for, choice_over, class_number, elsewhere, least_for}
-use Rattle.hsp_price_dispatch.specs.Choosing.{or_full, row_of}
+use Rattle.hsp_price_dispatch.specs.Choosing.{choice_for, choice_over, class_number, elsewhere, least_for, or_full}
+use Rattle.hsp_price_dispatch.specs.Choosing.{row_of, left_with}
 use Rattle.hsp_price_dispatch.specs.Holding.{Held, cell_at, one_given}
-use Rattle.hsp_price_dispatch.specs.Choosing.{left_with}
 use Rattle.hsp_price_dispatch.specs.Standing.{ClassIsThere, IsIndexOf, IsOfService}
 use Rattle.hsp_price_dispatch.specs.Taking.{CanTake}
 use Rattle.hsp_price_dispatch.specs.declared.answer.Choice.{Choice}

@@ -1,14 +1,12 @@
 -- Queries that ask for no more than the plan has are assigned by one front.
-use Rattle.std.proofs.Common.{◌≡◌, ◌<◌, ◌≤◌, ◌+◌, ◌-◌, ◌==◌, ◌∙◌, ℕ, zero, suc, Bool, true, false, List, [], ◌∷◌}
-use Rattle.std.proofs.Common.{All, None, Option, Some, ap, arith, drop, eq-eqb, get_or, if◌then◌else◌, inl, inr}
+use Rattle.std.proofs.Common.{◌≡◌, ◌<◌, ◌≤◌, ◌+◌, ◌-◌, ◌==◌, ◌∙◌, ℕ, zero, suc, Bool, true, false, List, [], ◌∷◌, All}
+use Rattle.std.proofs.Common.{None, Option, Some, ap, arith, drop, eq-eqb, get_or, if◌then◌else◌, inl, inr}
 use Rattle.std.proofs.Common.{get_or-set_other, get_or-set_same, is_some, length, length-set, map, nat_lt, position}
-use Rattle.std.proofs.Common.{refl, slice_index, slice_set, subst, sum, sym, take}
-use Rattle.std.proofs.Common.{ne_eqb}
+use Rattle.std.proofs.Common.{refl, slice_index, slice_set, subst, sum, sym, take, ne_eqb}
 use Rattle.std.specs.List.{AllByRecursion, flat_map, zip}
 use Rattle.std.proofs.lemmas.List.Concat.{get_or-flat_map}
 use Rattle.std.proofs.lemmas.Bool.{and_from, and_parts, cases_eq, cases_lt, lt-ltb, ltb-true, true≢false}
-use Rattle.std.proofs.lemmas.List.{get_or_default, take_all}
-use Rattle.std.proofs.lemmas.List.{drop_all, drop_more, get_or-map, get_or_past, length-map}
+use Rattle.std.proofs.lemmas.List.{get_or_default, take_all, drop_all, drop_more, get_or-map, get_or_past, length-map}
 use Rattle.std.proofs.lemmas.List.Elements.{All-from_recursion, All-head, All-tail}
 use Rattle.std.proofs.lemmas.List.Quantifiers.{position-Some}
 use Rattle.std.proofs.lemmas.List.Sums.{sum_by-cons}
@@ -19,23 +17,21 @@ use Rattle.hsp_instance.specs.declared.arc.Arc.{Arc}
 use Rattle.hsp_price_text.specs.Claim.{Best, Class, is_best}
 use Rattle.hsp_instance.specs.Instance.{Host, Server}
 use Rattle.hsp_prices.specs.Least.{arcs_of, host_at, least_arcs, least_of, only_arc, pay_over, servers_of}
-use Rattle.hsp_prices.specs.Sums.{sends}
+use Rattle.hsp_prices.specs.Sums.{sends, host_load_at, load_at}
 use Rattle.hsp_prices.proofs.GivenClasses.{IsGiven, given_classes}
-use Rattle.hsp_prices.specs.Sums.{host_load_at, load_at}
-use Rattle.hsp_dispatch.specs.Dispatch.{Entry}
-use Rattle.hsp_dispatch.specs.Fronts.{share}
-use Rattle.hsp_dispatch.proofs.FrontShares.{shares_add_up}
+use Rattle.hsp_log.specs.Entries.{Entry}
+use Rattle.hsp_log.specs.FrontShares.{share}
+use Rattle.hsp_log.proofs.FrontShares.{shares_add_up}
 use Rattle.hsp_transport.specs.Sums.{sum_below}
 use Rattle.hsp_transport.proofs.Summing.{by_place as by_places, sum_below_same}
 use Rattle.hsp_price_check.specs.ClassNumbers.{is_named}
 use Rattle.hsp_price_check.specs.Passed.{class_at, no_class}
 use Rattle.hsp_price_dispatch.specs.Choosing.{answer_by, answer_of, assigned, by_class, by_place, by_room, can_give}
-use Rattle.hsp_price_dispatch.specs.Choosing.{choice_for, class_number, elsewhere, first_cell, fuller}
-use Rattle.hsp_price_dispatch.specs.Choosing.{fullest, left_by, left_with, no_arc, place_at, places_from}
-use Rattle.hsp_price_dispatch.specs.Choosing.{places_of, row_of}
+use Rattle.hsp_price_dispatch.specs.Choosing.{choice_for, class_number, elsewhere, first_cell, fuller, fullest, left_by}
+use Rattle.hsp_price_dispatch.specs.Choosing.{left_with, no_arc, place_at, places_from, places_of, row_of}
 use Rattle.hsp_price_dispatch.specs.Holding.{Held, cell_at, has_room_at, held_at, host_held_at, host_passes}
-use Rattle.hsp_price_dispatch.specs.Holding.{host_room_at, is_free, left_where, no_cell, one_given, room_at}
-use Rattle.hsp_price_dispatch.specs.Holding.{with_given, with_query_at}
+use Rattle.hsp_price_dispatch.specs.Holding.{host_room_at, is_free, left_where, no_cell, one_given, room_at, with_given}
+use Rattle.hsp_price_dispatch.specs.Holding.{with_query_at}
 use Rattle.hsp_price_dispatch.specs.Planned.{only_least_where, asked_at, has_only, has_place, is_assigned, is_number}
 use Rattle.hsp_price_dispatch.specs.Planned.{AreWithinPlan, IsServedByPlan, is_placed}
 use Rattle.hsp_price_dispatch.specs.Laws.{answers_to, count_at, left_after}
@@ -53,8 +49,8 @@ use Rattle.hsp_price_dispatch.proofs.Begun.{cells_enough, cells_many}
 use Rattle.hsp_price_dispatch.proofs.FirstCells.{next_cell, sends_many}
 use Rattle.hsp_price_dispatch.proofs.Fronts.{sends_there}
 use Rattle.hsp_price_dispatch.proofs.RoomTaken.{host_takes, one_if, server_takes, takes_room}
-use Rattle.hsp_price_dispatch.proofs.Sums.{all_sends, host_load_is, left_is, load_is}
-use Rattle.hsp_price_dispatch.proofs.Sums.{sent_where, shares_together, whole}
+use Rattle.hsp_price_dispatch.proofs.Sums.{all_sends, host_load_is, left_is, load_is, sent_where, shares_together}
+use Rattle.hsp_price_dispatch.proofs.Sums.{whole}
 
 -- ---- places
 

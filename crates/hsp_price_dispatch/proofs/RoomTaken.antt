@@ -1,8 +1,7 @@
 -- The room that is left by queries, one after another.
-use Rattle.std.proofs.Common.{◌≡◌, ◌≢◌, ◌<◌, ◌+◌, ◌-◌, ◌==◌, ℕ, Bool, true, List, [], ◌∷◌, length}
-use Rattle.std.proofs.Common.{Option, Some, None, inl, inr, refl, ap, sym, arith, if◌then◌else◌, nat_lt}
-use Rattle.std.proofs.Common.{slice_index, eq-eqb, ne_eqb, get_or-set_other}
-use Rattle.std.proofs.Common.{get_or-set_same}
+use Rattle.std.proofs.Common.{◌≡◌, ◌≢◌, ◌<◌, ◌+◌, ◌-◌, ◌==◌, ℕ, Bool, true, List, [], ◌∷◌, length, Option, Some, None}
+use Rattle.std.proofs.Common.{inl, inr, refl, ap, sym, arith, if◌then◌else◌, nat_lt, slice_index, eq-eqb, ne_eqb}
+use Rattle.std.proofs.Common.{get_or-set_other, get_or-set_same}
 use Rattle.std.specs.Prelude.{⊤}
 use Rattle.std.proofs.lemmas.Bool.{and_parts, cases_eq, cases_lt, ltb-true}
 use Rattle.std.proofs.lemmas.List.{get_or_past}
@@ -10,7 +9,7 @@ use Rattle.std.proofs.lemmas.List.Sums.{sum_by-cons}
 use Rattle.hsp_check.specs.Plan.{is_on}
 use Rattle.hsp_instance.specs.declared.arc.Arc.{Arc}
 use Rattle.hsp_prices.specs.Least.{arcs_of, host_at, least_of}
-use Rattle.hsp_dispatch.specs.Dispatch.{Entry}
+use Rattle.hsp_log.specs.Entries.{Entry}
 use Rattle.hsp_price_dispatch.specs.Choosing.{answer_by, answer_of, choice_for, left_by, left_with, row_of}
 use Rattle.hsp_price_dispatch.specs.Holding.{Held, has_room_at, host_passes, host_room_at, one_less, one_less_on}
 use Rattle.hsp_price_dispatch.specs.Holding.{room_at, with_query_at}

@@ -12,8 +12,8 @@ use Rattle.hsp_prices.specs.Rows.{Service}
 use Rattle.hsp_price_text.specs.Claim.{Best, Class}
 use Rattle.hsp_prices.specs.Least.{host_at}
 use Rattle.hsp_prices.specs.Sums.{class_load, host_load_at, load_at, sends}
-use Rattle.hsp_dispatch.specs.Fronts.{share}
-use Rattle.hsp_dispatch.proofs.FrontShares.{share_le, shares_add_up}
+use Rattle.hsp_log.specs.FrontShares.{share}
+use Rattle.hsp_log.proofs.FrontShares.{share_le, shares_add_up}
 use Rattle.hsp_price_dispatch.specs.Holding.{left_where}
 use Rattle.hsp_price_dispatch.specs.Starting.{cell_of, cells_of}
 use Rattle.hsp_price_dispatch.specs.declared.cells.Cell.{Cell}

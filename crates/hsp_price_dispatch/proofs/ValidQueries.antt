@@ -27,13 +27,13 @@ use Rattle.hsp_prices.specs.declared.verdict.PriceVerdict.TheVariants.{Yes}
 use Rattle.hsp_prices.proofs.ByRow.{no_class as of_no_class, one_of}
 use Rattle.hsp_prices.proofs.ClassKinds.{least_servers, own_least}
 use Rattle.hsp_prices.proofs.Once.{AtMostOnce}
-use Rattle.hsp_dispatch.specs.Dispatch.{Entry}
+use Rattle.hsp_log.specs.Entries.{Entry}
 use Rattle.hsp_price_check.specs.ClassNumbers.{is_named}
 use Rattle.hsp_price_check.specs.Passed.{class_at, no_class}
 use Rattle.hsp_price_check.proofs.Positions.{fails_at, no_position, none_at, one_place}
 use Rattle.hsp_price_dispatch.specs.Choosing.{class_number, row_of}
-use Rattle.hsp_price_dispatch.specs.Planned.{AreWithinPlan, CostsWhatThePlanDoes, ValidIsWithinPlan, asked_at}
-use Rattle.hsp_price_dispatch.specs.Planned.{has_only, has_place, is_number, is_placed, only_least_where}
+use Rattle.hsp_price_dispatch.specs.Planned.{AreWithinPlan, CostsWhatThePlanDoes, ValidIsWithinPlan, asked_at, has_only}
+use Rattle.hsp_price_dispatch.specs.Planned.{has_place, is_number, is_placed, only_least_where}
 use Rattle.hsp_price_dispatch.specs.Starting.{capacity_at, limit_at}
 use Rattle.hsp_price_dispatch.proofs.AnswerCosts.{by_terms, costs, load_rows, no_terms, one_term}
 use Rattle.hsp_price_dispatch.proofs.Fronts.{sends_there}

@@ -10,7 +10,7 @@ use Rattle.hsp_prices.specs.Rows.{Service}
 use Rattle.hsp_price_text.specs.Claim.{Best, Class}
 use Rattle.hsp_prices.specs.Least.{arcs_of, least_arcs, least_of, pay_over, servers_of}
 use Rattle.hsp_prices.specs.Sums.{sends}
-use Rattle.hsp_dispatch.specs.Dispatch.{Entry}
+use Rattle.hsp_log.specs.Entries.{Entry}
 use Rattle.hsp_price_check.specs.ClassNumbers.{is_named}
 use Rattle.hsp_price_dispatch.specs.Holding.{Held, cell_at, has_room, has_room_at, is_free, is_free_at, with_given}
 use Rattle.hsp_price_dispatch.specs.Holding.{with_query_at}

@@ -1,7 +1,6 @@
 -- What holds of every plan and of every list of queries.
-use Rattle.std.specs.Prelude.{◌≡◌, ◌≤◌, ◌<◌, ◌*◌, ◌+◌, ◌==◌, ◌++◌, ◌⊎◌, Bool, false}
-use Rattle.std.specs.Prelude.{true, ℕ, List, [], ◌∷◌, All, Some, count_by}
-use Rattle.std.specs.Prelude.{length, if◌then◌else◌}
+use Rattle.std.specs.Prelude.{◌≡◌, ◌≤◌, ◌<◌, ◌*◌, ◌+◌, ◌==◌, ◌++◌, ◌⊎◌, Bool, false, true, ℕ, List, [], ◌∷◌, All, Some}
+use Rattle.std.specs.Prelude.{count_by, length, if◌then◌else◌}
 use Rattle.std.specs.List.{Contains}
 use Rattle.hsp_instance.specs.declared.arc.Arc.{Arc}
 use Rattle.hsp_check.specs.Plan.{is_on}
@@ -9,8 +8,7 @@ use Rattle.hsp_transport.specs.Sums.{sum_below}
 use Rattle.hsp_prices.specs.Rows.{Service}
 use Rattle.hsp_price_text.specs.Claim.{Best}
 use Rattle.hsp_prices.specs.Least.{arcs_of, host_at, least_of, pay_over}
-use Rattle.hsp_dispatch.specs.Dispatch.{Entry, each_after}
-use Rattle.hsp_dispatch.specs.Fronts.{Event, entries_at}
+use Rattle.hsp_log.specs.Entries.{Entry, each_after, Event, entries_at}
 use Rattle.hsp_price_dispatch.specs.Choosing.{answer_by, can_give, choice_for, class_number, fullest, left_by}
 use Rattle.hsp_price_dispatch.specs.Choosing.{places_of, row_of}
 use Rattle.hsp_price_dispatch.specs.Holding.{Held, cell_at, has_room, host_room_at, is_free, room_at}

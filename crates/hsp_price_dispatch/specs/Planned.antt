@@ -1,7 +1,6 @@
 -- Queries that ask for no more than the plan has, at one front.
-use Rattle.std.specs.Prelude.{◌≡◌, ◌≤◌, ◌<◌, ◌+◌, ◌==◌, Bool, true, false, ℕ}
-use Rattle.std.specs.Prelude.{List, [], ◌∷◌, All, Option, None, Some, count_by}
-use Rattle.std.specs.Prelude.{is_some, length, map, sum, sum_by, if◌then◌else◌}
+use Rattle.std.specs.Prelude.{◌≡◌, ◌≤◌, ◌<◌, ◌+◌, ◌==◌, Bool, true, false, ℕ, List, [], ◌∷◌, All, Option, None, Some}
+use Rattle.std.specs.Prelude.{count_by, is_some, length, map, sum, sum_by, if◌then◌else◌}
 use Rattle.hsp_instance.specs.declared.arc.Arc.{Arc}
 use Rattle.hsp_check.specs.Plan.{Feasible, Plan, is_on, total}
 use Rattle.hsp_prices.specs.Rows.{Service, network_for}
@@ -13,7 +12,7 @@ use Rattle.hsp_prices.specs.Shown.{IsService}
 use Rattle.hsp_prices.specs.Sums.{host_load_at, load_at}
 use Rattle.hsp_prices.specs.Verdict.{IsVerdict}
 use Rattle.hsp_prices.specs.declared.verdict.PriceVerdict.TheVariants.{Yes}
-use Rattle.hsp_dispatch.specs.Dispatch.{Entry}
+use Rattle.hsp_log.specs.Entries.{Entry}
 use Rattle.hsp_price_check.specs.Passed.{class_at}
 use Rattle.hsp_price_dispatch.specs.Choosing.{class_number, row_of}
 use Rattle.hsp_price_dispatch.specs.Holding.{Held}

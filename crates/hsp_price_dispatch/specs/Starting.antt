@@ -7,7 +7,7 @@ use Rattle.hsp_price_text.specs.Claim.{Best, Class}
 use Rattle.hsp_prices.specs.Sums.{host_load_at, load_at, sends}
 use Rattle.hsp_prices.specs.Verdict.{PlanMeets}
 use Rattle.hsp_prices.specs.declared.verdict.PriceReason.TheVariants as reason
-use Rattle.hsp_dispatch.specs.Fronts.{share}
+use Rattle.hsp_log.specs.FrontShares.{share}
 use Rattle.hsp_price_dispatch.specs.Holding.{Held, held_at, host_held_at, host_room_at, room_at}
 use Rattle.hsp_price_dispatch.specs.declared.cells.Cell.{Cell}
 use Rattle.hsp_price_dispatch.specs.declared.fault.StartFault.{StartFault}

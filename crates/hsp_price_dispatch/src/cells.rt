@@ -7,7 +7,7 @@ ghost use Rattle.hsp_price_dispatch.specs.Choosing.{first_cell};
 ghost use Rattle.hsp_price_dispatch.specs.Holding.{cell_at, one_given};
 ghost use Rattle.hsp_price_dispatch.specs.Starting.{cells_of};
 
-use hsp_dispatch::front_share::{Front, share};
+use hsp_log::{Front, share};
 use hsp_price_text::Class;
 use std::alloc::{AllocError, Global};
 

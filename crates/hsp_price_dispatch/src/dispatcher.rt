@@ -1,7 +1,7 @@
 // A front of the dispatcher that answers by a certificate by prices.
 
 ghost use Rattle.std.specs.Prelude.{◌≡◌, ◌≤◌, ◌<◌, IfErr, IfOk, OnErr, OnOk, length};
-ghost use Rattle.hsp_dispatch.specs.Shares.{query};
+ghost use Rattle.hsp_log.specs.Entries.{query};
 ghost use Rattle.hsp_price_check.specs.Classes.{service_of};
 ghost use Rattle.hsp_price_dispatch.specs.Choosing.{LeadsWithin, answer_by, choice_for, left_by};
 ghost use Rattle.hsp_price_dispatch.specs.Regions.{has_cost};
@@ -14,8 +14,8 @@ use crate::fault::StartFault;
 use crate::holding::Holding;
 use crate::seen_least::{LentLeast, SeenLeast};
 use crate::starting::{ServiceRef, accept, begin, index_of};
-use hsp_dispatch::front_share::Front;
 use hsp_instance::{Instance, RowArcs};
+use hsp_log::Front;
 use hsp_names::HandleRef;
 use hsp_price_text::PricedPlan;
 use hsp_tables::Costs;

@@ -1,13 +1,12 @@
 // What a front begins with.
 
-ghost use Rattle.std.specs.Prelude.{◌≡◌, ◌≤◌, ◌<◌, ◌+◌, ◌-◌, [], ℕ, All, IfErr, IfOk, List, length, slice_index};
-ghost use Rattle.std.specs.Prelude.{◌==◌};
+ghost use Rattle.std.specs.Prelude.{◌≡◌, ◌≤◌, ◌<◌, ◌+◌, ◌-◌, [], ℕ, All, IfErr, IfOk, List, length, slice_index, ◌==◌};
 ghost use Rattle.hsp_tables.specs.Costs.{CostEntry};
 ghost use Rattle.hsp_check.specs.Lists.{AreWithin};
 ghost use Rattle.hsp_prices.specs.Verdict.{PlanMeets};
 ghost use Rattle.hsp_prices.specs.declared.verdict.PriceReason.TheVariants.{NoSuchServer as MissingServer};
 ghost use Rattle.hsp_prices.specs.declared.verdict.PriceReason.TheVariants.{Shape as Shaped};
-ghost use Rattle.hsp_dispatch.specs.Fronts.{share};
+ghost use Rattle.hsp_log.specs.FrontShares.{share};
 ghost use Rattle.hsp_price_check.specs.ClassNumbers.{HasClasses};
 ghost use Rattle.hsp_price_check.specs.Classes.{service_of};
 ghost use Rattle.hsp_price_check.specs.Extras.{AreExtras};
@@ -24,8 +23,8 @@ use crate::fault::StartFault;
 use crate::holding::Holding;
 use crate::rooms::Rooms;
 use hsp_check::{add_hosts, are_within};
-use hsp_dispatch::front_share::{Front, share};
 use hsp_instance::Instance;
+use hsp_log::{Front, share};
 use hsp_price_check::{
     ServiceNumbers, are_there, class_loads, class_numbers, extras_of, numbers_of,
 };

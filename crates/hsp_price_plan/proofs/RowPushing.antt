@@ -7,7 +7,7 @@ use Rattle.std.proofs.Math.Nat.{suc-mul, zero-mul}
 use Rattle.std.proofs.lemmas.List.{drop-append-le, length-drop, nil_from_length, take-append-le, take_all}
 use Rattle.std.specs.List.{AllByRecursion}
 use Rattle.hsp_text.proofs.Lists.{all_push}
-use Rattle.hsp_text.specs.declared.limits.TheConstants.{MOST_REGIONS}
+use Rattle.hsp_text.specs.declared.limits.TheConstants.{MOST_LOG_REGIONS}
 use Rattle.hsp_instance.proofs.Lists.{all_so}
 use Rattle.hsp_instance.specs.declared.arc.Arc.{Arc}
 use Rattle.hsp_price_plan.specs.Entries.{IsPushed}
@@ -89,7 +89,7 @@ module _ (sites : ℕ) (regions more : List RegionArcs) (numbers counts places n
     (name : List ℕ) (arcs : List Arc) (place : AreInPlace sites regions numbers counts places)
     (grows : AreGrown regions more number name arcs) (pushed : IsPushed places sites arcs new) where
   -- all is in place with one row more
-  pub in_place_push : length numbers < 2 ^ 32 → length arcs ≤ sites → number < MOST_REGIONS
+  pub in_place_push : length numbers < 2 ^ 32 → length arcs ≤ sites → number < MOST_LOG_REGIONS
       → AreInPlace sites more (numbers ++ number ∷ []) (counts ++ count ∷ []) new
   in_place_push few short low =
       let all = length_push numbers number in
@@ -98,7 +98,7 @@ module _ (sites : ℕ) (regions more : List RegionArcs) (numbers counts places n
       let longer : length (numbers ++ number ∷ []) ≡ suc (length numbers) = omega (arith, all) in
       record {
         few_sites = place.few_sites;
-        few_regions = grows.few MOST_REGIONS low place.few_regions;
+        few_regions = grows.few MOST_LOG_REGIONS low place.few_regions;
         few = omega (arith, all, few);
         many_counts = omega (arith, all, all_counts, place.many_counts);
         many_places = rw longer (omega (arith, sum, pushed.many, place.many_places));

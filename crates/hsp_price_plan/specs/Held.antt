@@ -1,7 +1,7 @@
 -- Rows in memory.
 use Rattle.std.specs.Prelude.{◌≡◌, ◌≤◌, ◌<◌, ◌++◌, ◌*◌, ◌^◌, ℕ, List, [], ◌∷◌, drop, length, map, slice_index_or, take}
 use Rattle.std.specs.List.{AllByRecursion}
-use Rattle.hsp_text.specs.declared.limits.TheConstants.{MOST_REGIONS, MOST_SITES}
+use Rattle.hsp_text.specs.declared.limits.TheConstants.{MOST_LOG_REGIONS, MOST_SITES}
 use Rattle.hsp_instance.specs.RowArcs.{IsWithin}
 use Rattle.hsp_instance.specs.declared.arc.Arc.{Arc}
 use Rattle.hsp_prices.specs.KeptRows.{KeptRow, arcs_in}
@@ -40,7 +40,7 @@ pub record CanPush (held : HeldRows) (number : ℕ) (name : List ℕ) (arcs : Li
   pub few : length held.rows < 2 ^ 32
   pub sites : length arcs ≤ held.sites
   pub servers : AreServers arcs
-  pub few_regions : number < MOST_REGIONS
+  pub few_regions : number < MOST_LOG_REGIONS
   pub in_turn : number ≤ length held.regions
   pub known : number < length held.regions → region_at held.regions number ≡ region_with name arcs
 
@@ -73,7 +73,7 @@ rows_by sites regions (number ∷ numbers) (count ∷ counts) places =
 -- there is a region, a count and room for entries for each row
 pub record AreInPlace (sites : ℕ) (regions : List RegionArcs) (numbers counts places : List ℕ) : Type 0 where
   pub few_sites : sites ≤ MOST_SITES
-  pub few_regions : length regions ≤ MOST_REGIONS
+  pub few_regions : length regions ≤ MOST_LOG_REGIONS
   pub few : length numbers ≤ 2 ^ 32
   pub many_counts : length counts ≡ length numbers
   pub many_places : length places ≡ length numbers * sites

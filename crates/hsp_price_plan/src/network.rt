@@ -5,7 +5,6 @@ ghost use Rattle.std.specs.List.{AllByRecursion};
 ghost use Rattle.hsp_network.specs.Answer.{Answers, IsMet};
 ghost use Rattle.hsp_network.specs.Network.{IsNetwork};
 ghost use Rattle.hsp_network.specs.Problem.{problem_of};
-ghost use Rattle.hsp_network.specs.Layout.{IsSmall};
 ghost use Rattle.hsp_price_plan.specs.Columns.{AreColumns};
 ghost use Rattle.hsp_price_plan.specs.Pressing.{CanPress, HasTextPrices, IsTextOutcome};
 ghost use Rattle.hsp_price_plan.specs.Solving.{HasArcsWithin, HasFewArcs, IsOutcomeOf, demand_in, group_network};
@@ -14,9 +13,7 @@ use crate::columns::{GroupColumns, columns_of};
 use crate::group::RowGroup;
 use crate::press::press_prices;
 use hsp_cert::ranges::are_prices;
-use hsp_network::{
-    HeapFrontier, Network, Outcome, PricedFlow, SearchEffort, accepts, minimum_cost_flow, propose,
-};
+use hsp_network::{Effort, Network, Outcome, PricedFlow};
 use hsp_price_check::ServiceNumbers;
 use hsp_text::limits::{MOST_HOSTS, MOST_SERVERS};
 use std::alloc::{AllocError, Global};
@@ -43,34 +40,6 @@ fn group_network<'a>(
         sources: &columns.sources,
         servers: &columns.servers,
         costs: &columns.costs,
-    }
-}
-
-// What the network simplex method proposes for the network, where the test accepts it.
-fn accepted_proposal(alloc: Global, network: &Network<'_>) -> Result<Option<Outcome>, AllocError>
-    ensures { IfOk result (λ found. IfSome found (Answers (problem_of network.now))) }
-{
-    let Some(outcome) = propose(alloc, network)? else {
-        return Ok(None);
-    };
-    if accepts(alloc, network, &outcome)? {
-        Ok(Some(outcome))
-    } else {
-        Ok(None)
-    }
-}
-
-// What becomes of a network: what is proposed, where it is accepted, and otherwise what the searches find.
-fn outcome_of(alloc: Global, network: &Network<'_>) -> Result<Outcome, AllocError>
-    requires { IsSmall (problem_of network.now) }
-    ensures { IfOk result (Answers (problem_of network.now)) }
-{
-    match accepted_proposal(alloc, network)? {
-        Some(outcome) => Ok(outcome),
-        None => {
-            let mut effort = SearchEffort::default();
-            minimum_cost_flow::<HeapFrontier>(alloc, network, &mut effort)
-        }
     }
 }
 
@@ -136,6 +105,6 @@ pub fn solve(
     }
     let columns = columns_of(alloc, groups)?;
     let network = group_network(numbers, groups, &columns);
-    let outcome = outcome_of(alloc, &network)?;
+    let outcome = hsp_network::solve(alloc, &network, &mut Effort::default())?;
     Ok(Some(outcome_in_text(alloc, &network, outcome)?))
 }

@@ -117,6 +117,13 @@ fn round(
 /// arcs afterwards. Which arcs they keep at first decides how many rounds it takes, and which of several valid
 /// certificates is returned. Each round that keeps more shows how many.
 ///
+/// ```
+/// // Three rows of a service whose servers have room for all: from r1 of 3 and 4, and from r2 of 5, at 1 a query.
+/// let certificate = plan_rows(alloc, &numbers, &mut rows, &mut Silent)?;
+/// let wanted = b"HSPLAN PRICES 1\nPLAN\ncost 12\nserver 0 0\nserver 1 0\nserver 2 0\nEND\n";
+/// assert!(rt; write_prices(alloc, &certificate)?.as_slice() == wanted.as_slice());
+/// ```
+///
 /// # Errors
 ///
 /// `TooLarge` where each plan of the rows costs more than 10^16, a plan of them has more than 1,048,576 classes, a

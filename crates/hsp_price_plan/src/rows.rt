@@ -1,7 +1,7 @@
 // Rows of demand in memory.
 
 ghost use Rattle.std.specs.Prelude.{◌≡◌, ◌≤◌, ◌<◌, ◌+◌, ◌*◌, ◌^◌, OnErr, OnOk, drop, length, take};
-ghost use Rattle.hsp_text.specs.declared.limits.TheConstants.{MOST_REGIONS, MOST_SITES};
+ghost use Rattle.hsp_text.specs.declared.limits.TheConstants.{MOST_LOG_REGIONS, MOST_SITES};
 ghost use Rattle.hsp_transport.specs.Lists.{flag_at};
 ghost use Rattle.hsp_price_check.specs.Extras.{pay_by};
 ghost use Rattle.hsp_price_check.specs.LeastPay.{AreLow};
@@ -22,13 +22,13 @@ use std::marker::Model;
 
 /// Rows of demand, each with its region, its count and an arc at each of some sites. Of the arcs some are kept.
 ///
-/// There are at most 2^32 rows of at most 64 regions. All rows of a region have arcs at the same sites with the same
+/// There are at most 2^32 rows of at most 4,096 regions. All rows of a region have arcs at the same sites with the same
 /// costs, and to servers below 1,024. An arc takes two octets, and so does the place of a site without one.
 #[derive(Drop)]
 pub struct KeptRows {
     sites: usize,
     regions: Vec<Region>,
-    row_regions: Vec<u8>,
+    row_regions: Vec<u16>,
     counts: Vec<u64>,
     places: Vec<u16>,
     seen: DefaultHasher,
@@ -124,7 +124,7 @@ impl KeptRows {
         self.places.reserve(self.sites)?;
         add_region(&mut self.regions, alloc, region, name, arcs)?;
         push_entries(&mut self.places, self.sites, arcs)?;
-        self.row_regions.push(region as u8)?;
+        self.row_regions.push(region as u16)?;
         self.counts.push(count)?;
         Ok(())
     }
@@ -146,7 +146,7 @@ impl KeptRows {
     pub fn region_of(&self, row: usize) -> usize
         requires { row < length self.now.rows }
         ensures below { result < length self.now.regions }
-        ensures few { length self.now.regions ≤ MOST_REGIONS }
+        ensures few { length self.now.regions ≤ MOST_LOG_REGIONS }
         ensures named { (row_at self.now row).region ≡ region_named self.now result }
     {
         usize::from(self.row_regions[row])

@@ -3,7 +3,7 @@
 use crate::lists::{ABSENT, between, get_or, number_of, set};
 use hsp_instance::Arc;
 use hsp_network::greatest;
-use hsp_text::limits::{MOST_REGIONS, MOST_SITES};
+use hsp_text::limits::{MOST_LOG_REGIONS, MOST_SITES};
 use std::alloc::{AllocError, Global};
 
 // How many rows are looked at for a window.
@@ -20,7 +20,7 @@ const LEAST_ROWS: usize = WINDOW_ARCS / 4;
 #[derive(Drop)]
 pub(crate) struct Sample {
     costs: Vec<u64>,
-    regions: Vec<u8>,
+    regions: Vec<u16>,
     weights: Vec<u64>,
     starts: Vec<u32>,
     servers: Vec<u16>,
@@ -41,7 +41,7 @@ impl Sample {
     /// No rows, of a sample of rows with this key.
     pub(crate) fn new(alloc: Global, key: u64) -> Result<Sample, AllocError> {
         Ok(Sample {
-            costs: vec![in alloc; 0; MOST_REGIONS * MOST_SITES]?,
+            costs: vec![in alloc; 0; MOST_LOG_REGIONS * MOST_SITES]?,
             regions: Vec::new(alloc),
             weights: Vec::new(alloc),
             starts: vec![in alloc; 0; 1]?,
@@ -57,7 +57,12 @@ impl Sample {
     }
 
     /// Adds a row, none of whose arcs is kept.
-    pub(crate) fn push(&mut self, region: u8, arcs: &[Arc], weight: u64) -> Result<(), AllocError> {
+    pub(crate) fn push(
+        &mut self,
+        region: u16,
+        arcs: &[Arc],
+        weight: u64,
+    ) -> Result<(), AllocError> {
         let first_cost = usize::from(region).saturating_mul(MOST_SITES);
         for place in 0..arcs.len() {
             let arc = get_or(

@@ -41,7 +41,7 @@ pub(crate) fn sample_of(
         let weight = weight_of(row, rows.count(row), unit);
         if weight > 0 {
             rows.fill_arcs(row, &mut arcs)?;
-            sample.push(rows.region_of(row) as u8, &arcs, weight)?;
+            sample.push(rows.region_of(row) as u16, &arcs, weight)?;
         }
     }
     Ok(sample)

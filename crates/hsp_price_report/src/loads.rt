@@ -56,6 +56,10 @@ fn full_worth(alloc: Global, instance: &Instance, plan: &PricedPlan) -> Result<u
 /// The report has the form of [`load_report`](hsp_report::load_report): a header, a line for each server in ascending
 /// number, and `bound A - B = C`. A is what the rows pay by the prices, B the capacities and the limits at the prices
 /// of servers and hosts, and C what the plan costs.
+///
+/// # Errors
+///
+/// An `AllocError` where memory runs out.
 pub fn price_load_report(
     alloc: Global,
     instance: &Instance,

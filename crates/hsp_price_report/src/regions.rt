@@ -76,6 +76,10 @@ fn push_total(
 ///
 /// The report has the form of [`region_report`](hsp_report::region_report): a header, a line for each region in the
 /// order in which the rows name them first, and `total D C`. D is what all rows ask for, and C what the plan costs.
+///
+/// # Errors
+///
+/// An `AllocError` where memory runs out.
 pub fn price_region_report(
     alloc: Global,
     plan: &PricedPlan,

@@ -4,19 +4,20 @@ use Rattle.hsp_csv.specs.Records.{Fields}
 use Rattle.hsp_instance.specs.Instance.{Instance, Row}
 use Rattle.hsp_prices.specs.Rows.{Service}
 use Rattle.hsp_price_text.specs.declared.certificate.PriceCertificate.{PriceCertificate}
-use Rattle.hsp_runs.specs.declared.fault.Fault.{Fault}
-use Rattle.hsp_runs.specs.Instance.{IsInstanceOf}
-use Rattle.hsp_runs.specs.declared.inputs.Inputs.{Inputs}
+use Rattle.hsp_inputs.specs.declared.fault.Fault.{Fault}
+use Rattle.hsp_inputs.specs.Instance.{IsInstanceOf}
+use Rattle.hsp_inputs.specs.declared.inputs.Inputs.{Inputs}
 use Rattle.hsp_price_check.specs.Checking.{IsPassed}
 use Rattle.hsp_price_check.specs.declared.checking.PriceCheck.{PriceCheck}
-use Rattle.hsp_stream.specs.Faults.{fault_of_input}
-use Rattle.hsp_stream.specs.LogRows.{OfLog}
-use Rattle.hsp_stream.specs.declared.fault.StreamFault.{StreamFault}
+use Rattle.hsp_inputs.specs.Faults.{fault_of_input}
+use Rattle.hsp_log.specs.LogRows.{OfLog}
+use Rattle.hsp_inputs.specs.declared.stream_fault.StreamFault.{StreamFault}
 use Rattle.hsp_price_runs.specs.LogRows.{log_rows}
 use Rattle.hsp_price_runs.specs.Passing.{TakesRows}
 use Rattle.hsp_price_runs.specs.Taking.{HasPassedOver}
 use Rattle.hsp_price_runs.specs.PriceRun.{Answering, AnswersBy, AnswersReadBy, AnswersRecords, AnswersService}
-use Rattle.hsp_price_runs.specs.PriceRun.{AnswersText, IsCertificateIn}
+use Rattle.hsp_price_runs.specs.PriceRun.{AnswersText}
+use Rattle.hsp_inputs.specs.Readings.{IsCertificateIn}
 
 module _ (at : Service) (certificate : PriceCertificate) (old new : PriceCheck) (fresh : IsPassed at certificate [] old)
   where

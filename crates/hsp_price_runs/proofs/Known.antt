@@ -1,6 +1,6 @@
 -- What is answered where inputs define an instance, a log has rows, and a text spells a certificate.
-use Rattle.std.proofs.Common.{◌≡◌, ◌≢◌, ◌⊎◌, inl, inr, ℕ, List, Option, Some, None, Result, Ok, Err, IfErr, IfOk}
-use Rattle.std.proofs.Common.{ap, refl, subst, ◌∙◌}
+use Rattle.std.proofs.Common.{◌≡◌, ◌≢◌, ◌⊎◌, inl, inr, ℕ, List, Option, Some, None, Result, Ok, Err, IfErr, IfOk, ap}
+use Rattle.std.proofs.Common.{refl, subst, ◌∙◌}
 use Rattle.hsp_csv.specs.Records.{Fields, records_of}
 use Rattle.hsp_text.specs.Answers.{Follows, Then, fault_as}
 use Rattle.hsp_tables.specs.Costs.{CostEntry}
@@ -14,21 +14,23 @@ use Rattle.hsp_price_text.specs.declared.certificate.PriceCertificate.{PriceCert
 use Rattle.hsp_prices.specs.Verdict.{IsVerdict}
 use Rattle.hsp_prices.specs.declared.verdict.PriceVerdict.{PriceVerdict}
 use Rattle.hsp_prices.specs.declared.verdict.PriceVerdict.TheVariants.{No, Yes}
-use Rattle.hsp_runs.specs.declared.fault.Fault.{Fault}
-use Rattle.hsp_runs.specs.declared.fault.Fault.TheVariants.{Cert}
-use Rattle.hsp_runs.specs.Instance.{IsInstanceOf}
-use Rattle.hsp_runs.specs.HeadlineLaws.{GivesNothingElse}
-use Rattle.hsp_runs.specs.declared.inputs.Inputs.{Inputs}
+use Rattle.hsp_inputs.specs.declared.fault.Fault.{Fault}
+use Rattle.hsp_inputs.specs.declared.fault.Fault.TheVariants.{Cert}
+use Rattle.hsp_inputs.specs.Instance.{IsInstanceOf}
+use Rattle.hsp_inputs.specs.HeadlineLaws.{GivesNothingElse}
+use Rattle.hsp_inputs.specs.declared.inputs.Inputs.{Inputs}
 use Rattle.hsp_price_check.specs.Classes.{service_of}
-use Rattle.hsp_stream.specs.Faults.{fault_of_input}
-use Rattle.hsp_stream.specs.LogRows.{OfLog}
-use Rattle.hsp_stream.specs.Watching.{MayStopReading}
-use Rattle.hsp_stream.specs.declared.fault.StreamFault.{StreamFault}
-use Rattle.hsp_stream.proofs.PageCosts.{costs_are_one}
+use Rattle.hsp_inputs.specs.Faults.{fault_of_input}
+use Rattle.hsp_log.specs.LogRows.{OfLog}
+use Rattle.hsp_inputs.specs.Stopping.{MayStopReading}
+use Rattle.hsp_inputs.specs.declared.stream_fault.StreamFault.{StreamFault}
+use Rattle.hsp_inputs.specs.Limits.{limits_of}
+use Rattle.hsp_inputs.proofs.PageCosts.{costs_are_one}
 use Rattle.hsp_price_runs.specs.LogRows.{log_rows}
 use Rattle.hsp_price_runs.specs.PriceAlways.{HasRows, IsValidFor, SaysYesAlways}
 use Rattle.hsp_price_runs.specs.PriceRun.{Answering, AnswersBy, AnswersByPrices, AnswersRecords, AnswersService}
-use Rattle.hsp_price_runs.specs.PriceRun.{IsCertificateIn, IsPriceVerdict, IsVerdictBy, OfInput}
+use Rattle.hsp_price_runs.specs.PriceRun.{IsPriceVerdict, IsVerdictBy, OfInput}
+use Rattle.hsp_inputs.specs.Readings.{IsCertificateIn}
 
 -- a first step that is known is followed by the next
 known_first : {A B E : Type 0} (First : Result A E → Type 0) (Next : A → Result B E → Type 0) (x : A)
@@ -58,7 +60,7 @@ known_service only By inputs answer records has by =
     known_first (OfInput (IsInstanceOf inputs)) (AnswersService By inputs records) has.it answer
     (known_input (IsInstanceOf inputs) has.it (λ own is. only inputs has.it own has.defines is)) by in
     subst (λ (own : List CostEntry). By has.it (service_of own has.it) answer records)
-    (costs_are_one has.it.sites inputs.costs.items costs has.costs read has.are_costs) answers
+    (costs_are_one (limits_of inputs) has.it.sites inputs.costs.items costs has.costs read has.are_costs) answers
 
 -- where a reading agrees with a certificate it is that one
 agreed : (reading : Result PriceCertificate CertFault) (certificate : PriceCertificate)

@@ -6,3 +6,7 @@ mod RowsSpelled
 pub mod Known
 pub mod Shown
 mod OneTheory
+mod RowsHeld
+mod Planned
+mod PlanShown
+mod PlannedAlways

@@ -1,15 +1,15 @@
 -- The records of a log, as their rows are taken.
-use Rattle.std.proofs.Common.{◌≡◌, ◌∙◌, ◌+◌, ℕ, true, List, [], ◌∷◌, ◌++◌, Option, Result, Ok, Err}
-use Rattle.std.proofs.Common.{IfSome, append_assoc, refl, ap, subst, sym}
+use Rattle.std.proofs.Common.{◌≡◌, ◌∙◌, ◌+◌, ℕ, true, List, [], ◌∷◌, ◌++◌, Option, Result, Ok, Err, IfSome}
+use Rattle.std.proofs.Common.{append_assoc, refl, ap, subst, sym}
 use Rattle.csv.specs.declared.reader.Reader.{Reader}
 use Rattle.hsp_csv.specs.Records.{Fields, IsKnown, TakesRecord, records_left, records_of}
 use Rattle.hsp_text.specs.Answers.{◌>>=◌}
 use Rattle.hsp_instance.specs.Instance.{Row}
-use Rattle.hsp_stream.specs.LogRows.{OfLeft, OfLog, form_of}
-use Rattle.hsp_stream.specs.declared.fault.StreamFault.{StreamFault}
-use Rattle.hsp_stream.specs.declared.log_rows.CountForm.{CountForm}
-use Rattle.hsp_stream.proofs.LogReading.{at_start, left_more}
-use Rattle.hsp_price_runs.specs.LogRows.{log_rows, rows_with, with_record}
+use Rattle.hsp_log.specs.LogRows.{OfLeft, OfLog}
+use Rattle.hsp_price_runs.specs.LogRows.{form_of, log_rows, rows_with, with_record}
+use Rattle.hsp_inputs.specs.declared.stream_fault.StreamFault.{StreamFault}
+use Rattle.hsp_log.specs.declared.form.CountForm.{CountForm}
+use Rattle.hsp_log.proofs.LogReading.{at_start, left_more}
 use Rattle.hsp_price_runs.specs.Passing.{IsOverSome, TakesRecord as TakesRow}
 use Rattle.hsp_price_runs.proofs.RowsTaken.{read_record, record_more, row_taken}
 

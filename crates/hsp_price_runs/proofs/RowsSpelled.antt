@@ -1,17 +1,38 @@
 -- The rows of a log are those that its records spell.
-use Rattle.std.proofs.Common.{◌≡◌, ◌∙◌, ◌+◌, ◌++◌, ℕ, List, [], ◌∷◌, Option, Some, Result, Ok, Err}
-use Rattle.std.proofs.Common.{append_assoc, append-nil, ap, subst, sym, arith}
+use Rattle.std.proofs.Common.{◌≡◌, ◌∙◌, ◌+◌, ◌++◌, ℕ, List, [], ◌∷◌, Option, Some, Result, Ok, Err, append_assoc}
+use Rattle.std.proofs.Common.{append-nil, ap, subst, sym, arith, inl, inr}
 use Rattle.hsp_csv.specs.Records.{Fields}
 use Rattle.hsp_text.specs.Answers.{or_fault, fault_as}
 use Rattle.hsp_text.proofs.Steps.{first_step}
 use Rattle.hsp_instance.specs.Instance.{Row}
-use Rattle.hsp_stream.specs.LogRows.{Parts, SpellRows, Spells, SpellsLog, form_of, parts_in, row_of}
-use Rattle.hsp_stream.specs.declared.fault.RowFault.TheVariants as fault
-use Rattle.hsp_stream.specs.declared.fault.StreamFault.{StreamFault}
-use Rattle.hsp_stream.specs.declared.fault.StreamFault.TheVariants.{Log}
-use Rattle.hsp_stream.specs.declared.log_rows.CountForm.{CountForm}
-use Rattle.hsp_stream.proofs.LogRows.{header_is, row_any, told}
-use Rattle.hsp_price_runs.specs.LogRows.{log_rows, row_in, rows_with, with_record, with_row}
+use Rattle.hsp_log.specs.LogRows.{Parts, SpellRows, Spells, SpellsLog, parts_in, row_of, header_of}
+use Rattle.hsp_price_runs.specs.LogRows.{form_of, log_rows, row_in, rows_with, with_record, with_row}
+use Rattle.hsp_log.specs.declared.fault.RowFault.TheVariants as fault
+use Rattle.hsp_inputs.specs.declared.stream_fault.StreamFault.{StreamFault}
+use Rattle.hsp_inputs.specs.declared.stream_fault.StreamFault.TheVariants.{Log}
+use Rattle.hsp_log.specs.declared.form.CountForm.{CountForm}
+use Rattle.hsp_log.proofs.LogRows.{row_any, told}
+use Rattle.std.proofs.lemmas.Bool.{cases_Bool}
+use Rattle.hsp_csv.specs.Header.{same_fields}
+use Rattle.hsp_csv.proofs.SameFields.{same_fields_are}
+use Rattle.hsp_log.specs.declared.form.CountForm.TheVariants.{Counts, Ones}
+
+-- the header of a form is that form's
+pub header_is : (first : Fields) (form : CountForm) → form_of first ≡ Ok form → first ≡ header_of form
+header_is first form e = elim (cases_Bool (same_fields first (header_of Ones))) [
+  | inl ones ↦
+      let is : ◌≡◌ {A = Result CountForm StreamFault} (Ok Ones) (Ok form) = rw ones at e in
+      let same : Ones ≡ form = cc (is) in
+      same_fields_are first (header_of Ones) ones ∙ ap header_of same
+  | inr others ↦ elim (cases_Bool (same_fields first (header_of Counts))) [
+    | inl counts ↦
+        let is : ◌≡◌ {A = Result CountForm StreamFault} (Ok Counts) (Ok form) = rw (others, counts) at e in
+        let same : Counts ≡ form = cc (is) in
+        same_fields_are first (header_of Counts) counts ∙ ap header_of same
+    | inr none ↦ let is : ◌≡◌ {A = Result CountForm StreamFault} (Err (Log fault.Header)) (Ok form) =
+        rw (others, none) at e in cc (is)
+  ]
+]
 
 -- what there is, where nothing is a fault
 some_is : (n : ℕ) (o : Option Parts) (parts : Parts) → or_fault (Log (fault.Fields n)) o ≡ Ok parts → Some parts ≡ o

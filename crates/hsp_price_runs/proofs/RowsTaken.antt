@@ -1,32 +1,32 @@
 -- A record of a log, as the row that it spells.
-use Rattle.std.proofs.Common.{◌≡◌, ◌∙◌, ◌≤◌, ◌+◌, ◌++◌, ◌⊎◌, inl, inr, ℕ, List, [], ◌∷◌, length}
-use Rattle.std.proofs.Common.{Option, Some, Result, Ok, Err, ap, refl, sym}
+use Rattle.std.proofs.Common.{◌≡◌, ◌∙◌, ◌≤◌, ◌+◌, ◌++◌, ◌⊎◌, inl, inr, ℕ, List, [], ◌∷◌, length, Option, Some, Result}
+use Rattle.std.proofs.Common.{Ok, Err, ap, refl, sym}
 use Rattle.hsp_csv.specs.Records.{Fields}
 use Rattle.hsp_text.specs.Answers.{◌>>=◌, or_fault, fault_as}
-use Rattle.hsp_text.specs.declared.limits.TheConstants.{MOST_REGIONS}
+use Rattle.hsp_text.specs.declared.limits.TheConstants.{MOST_LOG_REGIONS}
 use Rattle.hsp_text.proofs.Steps.{le_true, le_false}
 use Rattle.hsp_instance.specs.Instance.{Row, regions_of}
 use Rattle.hsp_price_check.specs.Checking.{HasTooMany}
 use Rattle.hsp_price_check.specs.declared.fault.PassFault.{PassFault}
 use Rattle.hsp_price_check.specs.declared.fault.PassFault.TheVariants as pass
-use Rattle.hsp_stream.specs.LogRows.{Parts, parts_in, row_of}
-use Rattle.hsp_stream.specs.declared.fault.RowFault.{RowFault}
-use Rattle.hsp_stream.specs.declared.fault.RowFault.TheVariants as fault
-use Rattle.hsp_stream.specs.declared.fault.StreamFault.{StreamFault}
-use Rattle.hsp_stream.specs.declared.fault.StreamFault.TheVariants.{Log, OutOfMemory}
-use Rattle.hsp_stream.specs.declared.log_rows.CountForm.{CountForm}
+use Rattle.hsp_log.specs.LogRows.{Parts, parts_in, row_of}
+use Rattle.hsp_log.specs.declared.fault.RowFault.{RowFault}
+use Rattle.hsp_log.specs.declared.fault.RowFault.TheVariants as fault
+use Rattle.hsp_inputs.specs.declared.stream_fault.StreamFault.{StreamFault}
+use Rattle.hsp_inputs.specs.declared.stream_fault.StreamFault.TheVariants.{Log, OutOfMemory}
+use Rattle.hsp_log.specs.declared.form.CountForm.{CountForm}
 use Rattle.hsp_price_runs.specs.LogRows.{row_in, rows_with, with_record, with_row}
 use Rattle.hsp_price_runs.specs.Passing.{StopsAt, fault_of_pass}
 
 -- a row is taken where it makes no region too many
-pub row_taken : (n : ℕ) (rows : List Row) (row : Row) → length (regions_of (rows ++ row ∷ [])) ≤ MOST_REGIONS
+pub row_taken : (n : ℕ) (rows : List Row) (row : Row) → length (regions_of (rows ++ row ∷ [])) ≤ MOST_LOG_REGIONS
     → with_row n rows row ≡ Ok (rows ++ row ∷ [])
-row_taken n rows row few = rw (le_true (length (regions_of (rows ++ row ∷ []))) MOST_REGIONS few) refl
+row_taken n rows row few = rw (le_true (length (regions_of (rows ++ row ∷ []))) MOST_LOG_REGIONS few) refl
 
 -- and otherwise it is refused
 pub row_refused : (n : ℕ) (rows : List Row) (row : Row) → HasTooMany (rows ++ row ∷ [])
     → with_row n rows row ≡ Err (Log (fault.TooManyRegions n))
-row_refused n rows row many = rw (le_false (length (regions_of (rows ++ row ∷ []))) MOST_REGIONS many) refl
+row_refused n rows row many = rw (le_false (length (regions_of (rows ++ row ∷ []))) MOST_LOG_REGIONS many) refl
 
 -- a taker that stops at a row stops at it behind all rows that it may have taken
 pub taking_stops : {X : Type 0} (HasTaken : X → List Row → X → Type 0) (n : ℕ) (row : Row) (taker : X) (e : PassFault)

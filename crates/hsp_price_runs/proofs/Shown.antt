@@ -11,25 +11,19 @@ use Rattle.hsp_price_text.specs.declared.certificate.PriceCertificate.TheVariant
 use Rattle.hsp_prices.specs.Shown.{IsService, PlanIsShown, ShortageIsShown}
 use Rattle.hsp_prices.specs.Verdict.{IsVerdict}
 use Rattle.hsp_prices.specs.declared.verdict.PriceVerdict.TheVariants.{Yes}
-use Rattle.hsp_runs.specs.declared.fault.Fault.TheVariants.{Cert}
-use Rattle.hsp_runs.specs.declared.inputs.Inputs.{Inputs}
-use Rattle.hsp_runs.proofs.PageRead.{stated_well}
-use Rattle.hsp_runs.proofs.Steps.{went_on}
+use Rattle.hsp_inputs.specs.declared.inputs.Inputs.{Inputs}
+use Rattle.hsp_inputs.proofs.Steps.{went_on}
 use Rattle.hsp_price_check.specs.Classes.{service_of}
-use Rattle.hsp_stream.proofs.PageCosts.{costs_of_page}
-use Rattle.hsp_price_runs.specs.PriceRun.{AnswersRead, IsCertificateIn, IsVerdictBy, OfInput}
+use Rattle.hsp_inputs.proofs.PageCosts.{costs_of_page}
+use Rattle.hsp_price_runs.specs.PriceRun.{AnswersRead, IsVerdictBy, OfInput}
+use Rattle.hsp_inputs.specs.Readings.{IsCertificateIn}
+use Rattle.hsp_inputs.proofs.CertificateRead.{certificate_means}
 use Rattle.hsp_price_runs.specs.PricesShown.{ShowsLog, ShowsRows}
 use Rattle.hsp_price_runs.proofs.RowsSpelled.{log_spelled}
 
 -- an instance within its limits is such a service
 is_service : (costs : List CostEntry) (it : Instance) → IsInstance it → IsService (service_of costs it)
 is_service costs it is = record { sites = is.sites; hosts = is.hosts; servers = is.servers }
-
--- a certificate that was read is what the octets spell
-pub certificate_means : (octets : List ℕ) (certificate : PriceCertificate) → IsCertificateIn octets (Ok certificate)
-    → Means octets (Ok certificate)
-certificate_means octets certificate (reading, means, other, e) =
-    let is : reading ≡ Ok certificate = stated_well Cert reading certificate e in rw is at means
 
 module _ (plans : PlanIsShown) (shortages : ShortageIsShown) where
   -- Yes to either certificate shows it

@@ -8,3 +8,8 @@ pub mod PricesShown
 pub mod PriceAlways
 pub mod PriceVerdictText
 pub mod OneTheory
+pub mod Holding
+pub mod Taken
+pub mod PricesText
+pub mod PlanRun
+pub mod PlanAlways

@@ -2,13 +2,22 @@
 use Rattle.std.specs.Prelude.{◌+◌, ◌++◌, ℕ, List, [], ◌∷◌, length, nat_le, Result, Ok, Err, if◌then◌else◌}
 use Rattle.hsp_csv.specs.Records.{Fields}
 use Rattle.hsp_text.specs.Answers.{◌>>=◌, or_fault, fault_as}
-use Rattle.hsp_text.specs.declared.limits.TheConstants.{MOST_REGIONS}
+use Rattle.hsp_text.specs.declared.limits.TheConstants.{MOST_LOG_REGIONS}
 use Rattle.hsp_instance.specs.Instance.{Row, regions_of}
-use Rattle.hsp_stream.specs.LogRows.{form_of, parts_in, row_of}
-use Rattle.hsp_stream.specs.declared.fault.RowFault.TheVariants as fault
-use Rattle.hsp_stream.specs.declared.fault.StreamFault.{StreamFault}
-use Rattle.hsp_stream.specs.declared.fault.StreamFault.TheVariants.{Log}
-use Rattle.hsp_stream.specs.declared.log_rows.CountForm.{CountForm}
+use Rattle.hsp_log.specs.LogRows.{parts_in, row_of, header_of}
+use Rattle.hsp_log.specs.declared.fault.RowFault.TheVariants as fault
+use Rattle.hsp_inputs.specs.declared.stream_fault.StreamFault.{StreamFault}
+use Rattle.hsp_inputs.specs.declared.stream_fault.StreamFault.TheVariants.{Log}
+use Rattle.hsp_log.specs.declared.form.CountForm.{CountForm}
+use Rattle.hsp_csv.specs.Header.{same_fields}
+use Rattle.hsp_log.specs.declared.form.CountForm.TheVariants.{Counts, Ones}
+
+-- the form of a log by its first record
+abbrev pub form_of : Fields → Result CountForm StreamFault
+form_of first =
+    if same_fields first (header_of Ones) then Ok Ones
+    else if same_fields first (header_of Counts) then Ok Counts
+    else Err (Log fault.Header)
 
 -- the row that a record spells, or its first fault
 abbrev pub row_in : CountForm → ℕ → Fields → Result Row StreamFault
@@ -18,7 +27,7 @@ row_in form n fields =
 -- rows and one more, where they name no more regions than they may
 abbrev pub with_row : ℕ → List Row → Row → Result (List Row) StreamFault
 with_row n rows row =
-    if nat_le (length (regions_of (rows ++ row ∷ []))) MOST_REGIONS then Ok (rows ++ row ∷ [])
+    if nat_le (length (regions_of (rows ++ row ∷ []))) MOST_LOG_REGIONS then Ok (rows ++ row ∷ [])
     else Err (Log (fault.TooManyRegions n))
 
 -- rows and that of a record

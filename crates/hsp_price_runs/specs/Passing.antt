@@ -2,15 +2,15 @@
 -- another.
 use Rattle.std.specs.Prelude.{◌≡◌, ◌++◌, ◌≤◌, ℕ, List, [], ◌∷◌, Result, Ok, length}
 use Rattle.hsp_csv.specs.Records.{Fields}
-use Rattle.hsp_text.specs.declared.limits.TheConstants.{MOST_REGIONS}
+use Rattle.hsp_text.specs.declared.limits.TheConstants.{MOST_LOG_REGIONS}
 use Rattle.hsp_instance.specs.Instance.{Row, regions_of}
 use Rattle.hsp_price_check.specs.Checking.{HasTooMany}
 use Rattle.hsp_price_check.specs.declared.fault.PassFault.{PassFault}
 use Rattle.hsp_price_check.specs.declared.fault.PassFault.TheVariants as pass
-use Rattle.hsp_stream.specs.declared.fault.RowFault.TheVariants as fault
-use Rattle.hsp_stream.specs.declared.fault.StreamFault.{StreamFault}
-use Rattle.hsp_stream.specs.declared.fault.StreamFault.TheVariants.{Log, OutOfMemory}
-use Rattle.hsp_stream.specs.declared.log_rows.CountForm.{CountForm}
+use Rattle.hsp_log.specs.declared.fault.RowFault.TheVariants as fault
+use Rattle.hsp_inputs.specs.declared.stream_fault.StreamFault.{StreamFault}
+use Rattle.hsp_inputs.specs.declared.stream_fault.StreamFault.TheVariants.{Log, OutOfMemory}
+use Rattle.hsp_log.specs.declared.form.CountForm.{CountForm}
 use Rattle.hsp_price_runs.specs.LogRows.{row_in}
 
 -- the fault of a row that can't be taken
@@ -26,7 +26,7 @@ IsOverSome {X} HasTaken now = (first : X) × (rows : List Row) × HasTaken first
 abbrev pub Takes : {X : Type 0} → (X → List Row → X → Type 0) → Row → X → X → Type 0
 Takes {X} HasTaken row old new =
     (first : X) (rows : List Row) → HasTaken first rows old
-    → HasTaken first (rows ++ row ∷ []) new × (length (regions_of (rows ++ row ∷ [])) ≤ MOST_REGIONS)
+    → HasTaken first (rows ++ row ∷ []) new × (length (regions_of (rows ++ row ∷ [])) ≤ MOST_LOG_REGIONS)
 
 -- the row makes a region too many
 abbrev pub StopsAt : {X : Type 0} → (X → List Row → X → Type 0) → Row → X → PassFault → Type 0

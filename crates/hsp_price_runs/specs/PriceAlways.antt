@@ -9,19 +9,20 @@ use Rattle.hsp_price_text.specs.declared.certificate.PriceCertificate.{PriceCert
 use Rattle.hsp_prices.specs.Verdict.{IsVerdict}
 use Rattle.hsp_prices.specs.declared.verdict.PriceVerdict.{PriceVerdict}
 use Rattle.hsp_prices.specs.declared.verdict.PriceVerdict.TheVariants.{Yes}
-use Rattle.hsp_runs.specs.Headline.{AreCosts, Defines}
-use Rattle.hsp_runs.specs.declared.inputs.Inputs.{Inputs}
+use Rattle.hsp_inputs.specs.Headline.{AreCosts, Defines}
+use Rattle.hsp_inputs.specs.declared.inputs.Inputs.{Inputs}
 use Rattle.hsp_price_check.specs.Classes.{service_of}
-use Rattle.hsp_stream.specs.Watching.{MayStopReading}
-use Rattle.hsp_stream.specs.declared.fault.StreamFault.{StreamFault}
+use Rattle.hsp_inputs.specs.Stopping.{MayStopReading}
+use Rattle.hsp_inputs.specs.declared.stream_fault.StreamFault.{StreamFault}
 use Rattle.hsp_price_runs.specs.LogRows.{log_rows}
+use Rattle.hsp_inputs.specs.Limits.{limits_of}
 
 -- The inputs define an instance and costs, the records of a log have rows.
 pub record HasRows (inputs : Inputs) (records : List Fields) : Type 0 where
   pub it : Instance
   pub defines : Defines inputs it
   pub costs : List CostEntry
-  pub are_costs : AreCosts it.sites inputs.costs.items costs
+  pub are_costs : AreCosts (limits_of inputs) it.sites inputs.costs.items costs
   pub rows : List Row
   pub are_rows : log_rows records ≡ Ok rows
 

@@ -8,12 +8,12 @@ use Rattle.hsp_price_text.specs.declared.certificate.PriceCertificate.{PriceCert
 use Rattle.hsp_price_text.specs.declared.certificate.PriceCertificate.TheVariants.{Plan, Shortage}
 use Rattle.hsp_prices.specs.Verdict.{IsVerdict}
 use Rattle.hsp_prices.specs.declared.verdict.PriceVerdict.TheVariants.{No, Yes}
-use Rattle.hsp_runs.specs.declared.fault.Fault.TheVariants.{WrongKind}
-use Rattle.hsp_runs.specs.declared.inputs.Inputs.{Inputs}
+use Rattle.hsp_inputs.specs.declared.fault.Fault.TheVariants.{WrongKind}
+use Rattle.hsp_inputs.specs.declared.inputs.Inputs.{Inputs}
 use Rattle.hsp_price_report.specs.Kinds.{report_text}
 use Rattle.hsp_price_report.specs.declared.kind.PriceReportKind.{PriceReportKind}
-use Rattle.hsp_stream.specs.declared.fault.StreamFault.{StreamFault}
-use Rattle.hsp_stream.specs.declared.fault.StreamFault.TheVariants.{Input}
+use Rattle.hsp_inputs.specs.declared.stream_fault.StreamFault.{StreamFault}
+use Rattle.hsp_inputs.specs.declared.stream_fault.StreamFault.TheVariants.{Input}
 use Rattle.hsp_price_runs.specs.PriceRun.{AnswersInputs}
 use Rattle.hsp_price_runs.specs.declared.report.PriceReport.{PriceReport}
 use Rattle.hsp_price_runs.specs.declared.report.PriceReport.TheVariants.{Refused, Shown}

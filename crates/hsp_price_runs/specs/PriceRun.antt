@@ -1,32 +1,24 @@
 -- What is answered of a certificate by prices, by the rows of a log, or the first fault. What is asked is a relation
 -- between an instance, its service, a certificate, rows and answers.
-use Rattle.std.specs.Prelude.{◌≡◌, ◌≢◌, ℕ, List, Result, Ok, Err}
+use Rattle.std.specs.Prelude.{◌≡◌, ℕ, List, Result, Ok, Err}
 use Rattle.hsp_csv.specs.Records.{Fields}
 use Rattle.hsp_text.specs.Answers.{Then, fault_as}
 use Rattle.hsp_tables.specs.Costs.{CostEntry}
 use Rattle.hsp_instance.specs.Instance.{Instance, IsInstance, Row}
-use Rattle.hsp_cert.specs.declared.fault.CertFault.{CertFault}
-use Rattle.hsp_cert.specs.declared.fault.CertFault.TheVariants as cert_fault
 use Rattle.hsp_prices.specs.Rows.{Service}
-use Rattle.hsp_price_text.specs.Reading.{Means}
 use Rattle.hsp_price_text.specs.declared.certificate.PriceCertificate.{PriceCertificate}
 use Rattle.hsp_prices.specs.Verdict.{IsVerdict}
 use Rattle.hsp_prices.specs.declared.verdict.PriceVerdict.{PriceVerdict}
-use Rattle.hsp_runs.specs.declared.fault.Fault.{Fault}
-use Rattle.hsp_runs.specs.declared.fault.Fault.TheVariants.{Cert}
-use Rattle.hsp_runs.specs.Headline.{Defines}
-use Rattle.hsp_runs.specs.Instance.{IsInstanceOf, ReadsCosts}
-use Rattle.hsp_runs.specs.declared.inputs.Inputs.{Inputs}
+use Rattle.hsp_inputs.specs.declared.fault.Fault.{Fault}
+use Rattle.hsp_inputs.specs.Headline.{Defines}
+use Rattle.hsp_inputs.specs.Instance.{IsInstanceOf, ReadsCosts}
+use Rattle.hsp_inputs.specs.Readings.{IsCertificateIn}
+use Rattle.hsp_inputs.specs.declared.inputs.Inputs.{Inputs}
 use Rattle.hsp_price_check.specs.Classes.{service_of}
-use Rattle.hsp_stream.specs.Faults.{fault_of_input}
-use Rattle.hsp_stream.specs.declared.fault.StreamFault.{StreamFault}
+use Rattle.hsp_inputs.specs.Faults.{fault_of_input}
+use Rattle.hsp_inputs.specs.declared.stream_fault.StreamFault.{StreamFault}
 use Rattle.hsp_price_runs.specs.LogRows.{log_rows}
-
--- the certificate that octets spell
-abbrev pub IsCertificateIn : List ℕ → Result PriceCertificate Fault → Type 0
-IsCertificateIn octets answer =
-    (reading : Result PriceCertificate CertFault) × Means octets reading × (reading ≢ Err cert_fault.OutOfMemory)
-    × (answer ≡ fault_as Cert reading)
+use Rattle.hsp_inputs.specs.Limits.{limits_of}
 
 -- what is read of the inputs, with its fault as that of the run
 abbrev pub OfInput : {X : Type 0} → (Result X Fault → Type 0) → Result X StreamFault → Type 0
@@ -57,7 +49,8 @@ AnswersByPrices Is octets it at answer records = AnswersText (Is it at) octets a
 abbrev pub AnswersService : {X : Type 0} → Answering X → Inputs → List Fields → Instance → Result X StreamFault
     → Type 0
 AnswersService By inputs records it answer =
-    (costs : List CostEntry) × ReadsCosts inputs.costs.items (Ok costs) × By it (service_of costs it) answer records
+    (costs : List CostEntry) × ReadsCosts (limits_of inputs) inputs.costs.items (Ok costs)
+    × By it (service_of costs it) answer records
 
 -- first of all the inputs are read
 abbrev pub AnswersBy : {X : Type 0} → Answering X → Inputs → Result X StreamFault → List Fields → Type 0

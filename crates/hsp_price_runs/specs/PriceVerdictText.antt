@@ -3,7 +3,7 @@ use Rattle.std.specs.Prelude.{◌++◌, ◌∷◌, [], ℕ, List, codes, decimal
 use Rattle.hsp_prices.specs.Verdict.{number}
 use Rattle.hsp_prices.specs.declared.verdict.PriceVerdict.{PriceVerdict}
 use Rattle.hsp_prices.specs.declared.verdict.PriceVerdict.TheVariants.{Yes, No}
-use Rattle.hsp_stream.specs.PriceReasons.{reason_word}
+use Rattle.hsp_inputs.specs.PriceReasons.{reason_word}
 
 -- yes, or no with the reason's number and name
 abbrev pub verdict_words : PriceVerdict → List ℕ

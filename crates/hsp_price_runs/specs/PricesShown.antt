@@ -12,10 +12,11 @@ use Rattle.hsp_price_text.specs.Text.{text_of}
 use Rattle.hsp_price_text.specs.declared.certificate.PriceCertificate.{PriceCertificate}
 use Rattle.hsp_price_text.specs.declared.certificate.PriceCertificate.TheVariants as certificates
 use Rattle.hsp_prices.specs.Shown.{IsShownBy}
-use Rattle.hsp_runs.specs.Headline.{AreCosts, Defines}
-use Rattle.hsp_runs.specs.declared.inputs.Inputs.{Inputs}
+use Rattle.hsp_inputs.specs.Headline.{AreCosts, Defines}
+use Rattle.hsp_inputs.specs.declared.inputs.Inputs.{Inputs}
 use Rattle.hsp_price_check.specs.Classes.{service_of}
-use Rattle.hsp_stream.specs.LogRows.{SpellsLog}
+use Rattle.hsp_log.specs.LogRows.{SpellsLog}
+use Rattle.hsp_inputs.specs.Limits.{limits_of}
 
 -- a best plan of the rows, with the cost and the loads of the certificate, or a set of servers that is short, so that
 -- no plan is feasible
@@ -30,7 +31,7 @@ pub record ShowsLog (inputs : Inputs) (octets : List ℕ) (records : List Fields
   pub it : Instance
   pub defines : Defines inputs it
   pub costs : List CostEntry
-  pub are_costs : AreCosts it.sites inputs.costs.items costs
+  pub are_costs : AreCosts (limits_of inputs) it.sites inputs.costs.items costs
   pub rows : List Row
   pub spelled : SpellsLog records rows
   pub certificate : PriceCertificate

@@ -4,19 +4,19 @@ ghost use Rattle.std.specs.Prelude.{◌≡◌, ◌⊎◌, IfErr, IfOk, List, Res
 ghost use Rattle.hsp_instance.specs.Instance.{Instance as Built, Row};
 ghost use Rattle.hsp_prices.specs.Rows.{Service};
 ghost use Rattle.hsp_price_text.specs.declared.certificate.PriceCertificate.{PriceCertificate};
-ghost use Rattle.hsp_stream.specs.declared.fault.StreamFault.{StreamFault};
-ghost use Rattle.hsp_stream.specs.declared.fault.StreamFault.TheVariants.{OutOfMemory};
+ghost use Rattle.hsp_inputs.specs.declared.stream_fault.StreamFault.{StreamFault};
+ghost use Rattle.hsp_inputs.specs.declared.stream_fault.StreamFault.TheVariants.{OutOfMemory};
 ghost use Rattle.hsp_tables.specs.Costs.{CostEntry};
 ghost use Rattle.hsp_price_check.specs.Checking.{IsPassed};
 ghost use Rattle.hsp_price_check.specs.Classes.{service_of};
 ghost use Rattle.hsp_price_runs.specs.Asking.{HasPassed};
 ghost use Rattle.hsp_price_runs.specs.PriceRun.{IsVerdictBy};
 
+use hsp_inputs::StreamFault;
 use hsp_instance::Instance;
 use hsp_price_check::PriceCheck;
 use hsp_price_text::PriceCertificate;
 use hsp_prices::PriceVerdict;
-use hsp_stream::StreamFault;
 use std::alloc::Global;
 
 /// What is asked of a check that has passed over the rows of a log.

@@ -1,26 +1,60 @@
 // The pass of what takes rows over the rows of a log.
 
-ghost use Rattle.std.specs.Prelude.{◌≡◌, ◌⊎◌, Err, IfErr, List, OnOk, []};
+ghost use Rattle.std.specs.Prelude.{◌≡◌, ◌⊎◌, Err, IfErr, IfOk, List, OnOk, []};
 ghost use Rattle.csv.specs.Records.{fields_of};
-ghost use Rattle.hsp_csv.specs.Records.{IsReading};
+ghost use Rattle.hsp_csv.specs.Records.{IsReading, TakesRecord as HasTakenRecord};
+ghost use Rattle.hsp_text.specs.Answers.{Gives};
 ghost use Rattle.hsp_instance.specs.Instance.{Row};
-ghost use Rattle.hsp_stream.specs.LogRows.{OfLeft, OfLog};
-ghost use Rattle.hsp_stream.specs.Watching.{MayStopReading, watched_left};
-ghost use Rattle.hsp_stream.specs.RowsShown.{row_shown};
-ghost use Rattle.hsp_stream.specs.declared.fault.StreamFault.TheVariants.{OutOfMemory};
-ghost use Rattle.hsp_price_runs.specs.LogRows.{log_rows, rows_with, with_record, with_row};
+ghost use Rattle.hsp_log.specs.LogRows.{OfLeft, OfLog};
+ghost use Rattle.hsp_inputs.specs.Stopping.{MayStopReading};
+ghost use Rattle.hsp_log.specs.Watching.{watched_left};
+ghost use Rattle.hsp_log.specs.RowsShown.{row_shown};
+ghost use Rattle.hsp_inputs.specs.declared.stream_fault.StreamFault.TheVariants.{OutOfMemory};
+ghost use Rattle.hsp_price_runs.specs.LogRows.{form_of, log_rows, rows_with, with_record, with_row};
 ghost use Rattle.hsp_price_runs.specs.Passing.{IsOverSome, Takes, TakesRecord, TakesRows, fault_of_pass};
 
 use crate::taking::RowTaker;
 use csv::{ByteRecord, Reader};
+use hsp_csv::{RecordsFault, is_header, take_record};
+use hsp_inputs::StreamFault;
+use hsp_log::{CountForm, LogRow, RowFault, Watch, Watched, parts_in, row_of, watch_records};
 use hsp_price_check::PassFault;
-use hsp_stream::{
-    CountForm, LogRow, RowFault, StreamFault, Watch, Watched, form_of, parts_in, row_of,
-    take_watched, watch_records,
-};
 use hsp_talk::Source;
 use std::alloc::Global;
 use std::marker::Brand;
+
+// The form of a log, by its first record, or that this isn't the header of a log.
+fn form_of(record: &ByteRecord) -> Result<CountForm, StreamFault>
+    ensures { Gives (λ form. form) result (form_of (fields_of «record».now)) }
+{
+    if is_header(record, &[b"region", b"handle"]) {
+        return Ok(CountForm::Ones);
+    }
+    if is_header(record, &[b"region", b"handle", b"count"]) {
+        return Ok(CountForm::Counts);
+    }
+    Err(StreamFault::Log(RowFault::Header))
+}
+
+// Takes the next record of a source that is watched into `record`, and returns whether there was one.
+fn take_watched<S: Source, K: Watch>(
+    reader: &mut Reader<Watched<S, K>>,
+    record: &mut ByteRecord,
+) -> Result<bool, StreamFault>
+    requires { IsReading reader.old }
+    ensures takes { IfOk result (λ found. HasTakenRecord (watched_left S.remaining) reader.old
+        reader.new found (fields_of «record».new)) }
+    ensures reading { OnOk result (IsReading reader.new) }
+    ensures fault { IfErr result (MayStopReading K.may_fail) }
+{
+    match take_record(reader, record) {
+        Ok(found) => Ok(found),
+        Err(RecordsFault::ReadFailed) if reader.get_ref().has_failed() => {
+            Err(StreamFault::Log(RowFault::ReadFailed))
+        }
+        Err(_) => Err(StreamFault::OutOfMemory),
+    }
+}
 
 // The fault of a row that can't be taken.
 fn fault_of_pass(row: u64, fault: PassFault) -> StreamFault

@@ -1,19 +1,18 @@
 // Reports of certificates by prices.
 
 ghost use Rattle.std.specs.Prelude.{◌⊎◌, Err, IfErr, IfOk, Ok};
-ghost use Rattle.hsp_stream.specs.LogRows.{OfLog};
-ghost use Rattle.hsp_stream.specs.Watching.{MayStopReading};
+ghost use Rattle.hsp_log.specs.LogRows.{OfLog};
+ghost use Rattle.hsp_inputs.specs.Stopping.{MayStopReading};
 ghost use Rattle.hsp_price_runs.specs.PriceReport.{IsPriceReport, IsReportBy};
 
 use crate::asked::Asked;
 use crate::run::ask_inputs;
+use hsp_inputs::{Fault, Inputs, StreamFault};
 use hsp_instance::Instance;
 use hsp_price_check::PriceCheck;
 use hsp_price_report::PriceReportKind;
 use hsp_price_text::PriceCertificate;
 use hsp_prices::{PriceReason, PriceVerdict};
-use hsp_runs::{Fault, Inputs};
-use hsp_stream::StreamFault;
 use hsp_talk::Source;
 use std::alloc::Global;
 

@@ -1,27 +1,24 @@
 // Questions to a check of a certificate by prices, and the verdict.
 
 ghost use Rattle.std.specs.Prelude.{◌≡◌, ◌⊎◌, Err, IfErr, IfOk, Ok};
-ghost use Rattle.hsp_runs.specs.Memory.{OrNoMemory};
 ghost use Rattle.hsp_prices.specs.declared.verdict.PriceVerdict.TheVariants.{Yes};
 ghost use Rattle.hsp_price_check.specs.Classes.{service_of};
-ghost use Rattle.hsp_stream.specs.LogRows.{OfLog};
-ghost use Rattle.hsp_stream.specs.Watching.{MayStopReading};
+ghost use Rattle.hsp_log.specs.LogRows.{OfLog};
+ghost use Rattle.hsp_inputs.specs.Stopping.{MayStopReading};
 ghost use Rattle.hsp_price_runs.specs.PriceRun.{AnswersInputs, AnswersRead, AnswersRecords, AnswersText};
-ghost use Rattle.hsp_price_runs.specs.PriceRun.{IsCertificateIn, IsPriceVerdict};
+ghost use Rattle.hsp_price_runs.specs.PriceRun.{IsPriceVerdict};
 ghost use Rattle.hsp_price_runs.specs.PriceAlways.{SaysYesAlways};
 ghost use Rattle.hsp_price_runs.specs.PricesShown.{ShowsLog};
 
 use crate::asked::{Asked, AskedVerdict};
 use crate::log_pass::pass_log;
-use hsp_cert::CertFault;
+use hsp_inputs::headline_laws::instances_are_defined;
+use hsp_inputs::{Fault, Inputs, StreamFault, certificate_in, costs_in, instance_in};
 use hsp_instance::Instance;
 use hsp_price_check::PriceCheck;
+use hsp_price_text::PriceCertificate;
 use hsp_price_text::laws::one_answer;
-use hsp_price_text::{PriceCertificate, read_prices};
 use hsp_prices::{PriceVerdict, plan_is_shown, shortage_is_shown};
-use hsp_runs::headline_laws::instances_are_defined;
-use hsp_runs::{Fault, Inputs, costs_in, instance_in};
-use hsp_stream::StreamFault;
 use hsp_tables::Costs;
 use hsp_talk::Source;
 use std::alloc::Global;
@@ -31,17 +28,6 @@ use std::alloc::Global;
 struct ServiceRef<'a> {
     instance: &'a Instance,
     costs: &'a Costs,
-}
-
-/// The certificate by prices that octets spell. Its faults are `Cert`.
-pub fn certificate_in(alloc: Global, octets: &[u8]) -> Result<PriceCertificate, Fault>
-    ensures { OrNoMemory (IsCertificateIn octets.now) result }
-{
-    match read_prices(alloc, octets) {
-        Ok(certificate) => Ok(certificate),
-        Err(CertFault::OutOfMemory) => Err(Fault::OutOfMemory),
-        Err(fault) => Err(Fault::Cert(fault)),
-    }
 }
 
 // The answer of a check of a certificate, by the rows of a log.
@@ -104,7 +90,7 @@ pub(crate) fn ask_inputs<A: Asked, R: Source + Drop>(
     let instance = instance_in(alloc, inputs)?;
     // The instance is within its limits.
     let _rows = instance.rows();
-    match costs_in(alloc, &inputs.costs) {
+    match costs_in(alloc, &inputs.costs, inputs.limits()) {
         Ok(costs) => {
             let service = ServiceRef {
                 instance: &instance,
@@ -118,7 +104,7 @@ pub(crate) fn ask_inputs<A: Asked, R: Source + Drop>(
 }
 
 /// The verdict on the certificate by prices that the octets of `prices` spell, by the rows of a log. The inputs are
-/// those of a service without rows: their table of demand has none.
+/// those of a service: they have no table of demand.
 ///
 /// The log's header is `region,handle` or `region,handle,count`. A row without a count asks for one query. The log may
 /// have any number of rows, in any order, and a pair of region and handle any number of them. None of them is held.

@@ -2,13 +2,13 @@
 
 ghost use Rattle.std.specs.Prelude.{◌≡◌, ◌⊎◌, IfErr, List, OnOk};
 ghost use Rattle.hsp_instance.specs.Instance.{Row};
-ghost use Rattle.hsp_stream.specs.RowsShown.{row_shown};
+ghost use Rattle.hsp_log.specs.RowsShown.{row_shown};
 ghost use Rattle.hsp_price_check.specs.declared.fault.PassFault.TheVariants.{OutOfMemory};
 ghost use Rattle.hsp_price_runs.specs.Passing.{IsOverSome, StopsAt, Takes};
 ghost use Rattle.hsp_price_runs.specs.Taking.{HasPassedOver};
 
+use hsp_log::LogRow;
 use hsp_price_check::{PassFault, PriceCheck};
-use hsp_stream::LogRow;
 use std::alloc::Global;
 
 /// What takes the rows of a log, one after another. The rows of a log name at most 64 regions.

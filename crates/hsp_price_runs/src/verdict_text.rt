@@ -4,8 +4,8 @@ ghost use Rattle.std.specs.Prelude.{◌≡◌, ◌++◌, IfOk, OnOk};
 ghost use Rattle.hsp_prices.specs.Verdict.{number};
 ghost use Rattle.hsp_price_runs.specs.PriceVerdictText.{verdict_status, verdict_text, verdict_words};
 
+use hsp_inputs::price_reason_word;
 use hsp_prices::{PriceReason, PriceVerdict};
-use hsp_stream::price_reason_word;
 use hsp_text::push_whole;
 use std::alloc::{AllocError, Global};
 

@@ -40,8 +40,18 @@ fn read_lines(alloc: Global, text: &[u8]) -> Result<PriceCertificate, CertFault>
 
 /// The certificate that the text spells.
 ///
-/// A text that spells no certificate has one fault: the first line that can't stand in its place, an end before the
-/// line `END` and its LF, or something after them.
+/// ```
+/// let text = b"HSPLAN PRICES 1\nSHORT\nserver 1\nserver 3\ndemand 9\ncapacity 8\nEND\n";
+/// let certificate = read_prices(alloc, text)?;
+/// assert!(rt; matches!(&certificate, PriceCertificate::Shortage(_)));
+/// assert!(rt; write_prices(alloc, &certificate)?.as_slice() == text.as_slice());
+/// ```
+///
+/// # Errors
+///
+/// A text that spells no certificate has one fault: `BadLine` at the first line that can't stand in its place, `Ended`
+/// where it ends before the line `END` and its LF, or `AfterEnd` where something follows them. `OutOfMemory` where
+/// memory runs out.
 pub fn read_prices(alloc: Global, text: &[u8]) -> Result<PriceCertificate, CertFault>
     // What is returned is true of the text,
     ensures means { Means text.now result }

@@ -106,6 +106,10 @@ fn push_shortage(out: &mut Vec<u8>, set: &ShortServers) -> Result<(), AllocError
 }
 
 /// The text of a certificate.
+///
+/// # Errors
+///
+/// An `AllocError` where memory runs out.
 pub fn write_prices(alloc: Global, certificate: &PriceCertificate) -> Result<Vec<u8>, AllocError>
     ensures { IfOk result (λ text. text.items ≡ text_of certificate.now) }
 {

@@ -63,8 +63,19 @@ fn site_answer(alloc: Global, octets: &[u8]) -> Result<SiteRecord, RecordFault>
 
 /// Reads HS_SITE data (RFC 3651, section 3.2.2): the record that all of the octets spell.
 ///
-/// Octets that spell no record have one fault: Truncated, TooManyServers or Trailing. TooManyServers stands at the
-/// number of servers, before any server is read.
+/// ```
+/// // A site that hashes local names, with one server: 7, at the address 0.0.0.1.
+/// let octets = b"\0\x01\x02\0\0\x01\0\x01\0\0\0\0\0\0\0\0\0\0\0\x01\
+///     \0\0\0\x07\0\0\0\0\0\0\0\0\0\0\0\0\0\0\0\x01\0\0\0\0\0\0\0\0";
+/// let site = decode_site(alloc, octets)?;
+/// assert!(rt; site.server_count() == 1 && site.server(0).id() == 7);
+/// assert!(rt; decode_site(alloc, &octets[..47]).err() == Some(RecordFault::Truncated { at: 44 }));
+/// ```
+///
+/// # Errors
+///
+/// Octets that spell no record have one fault: `Truncated` where they end inside a field, `TooManyServers` above 1,024
+/// servers, before any server is read, or `Trailing` where more octets follow. `OutOfMemory` where memory runs out.
 pub fn decode_site(alloc: Global, octets: &[u8]) -> Result<SiteRecord, RecordFault>
     // What is returned is true of the octets,
     ensures means { Means site_format octets.now result }
@@ -92,8 +103,20 @@ fn values_answer(alloc: Global, octets: &[u8]) -> Result<ValueList<'_>, RecordFa
 /// Reads a list of handle values (RFC 3651, section 3.1): the values that all of the octets spell. Their types and data
 /// are lent from the octets.
 ///
-/// Octets that spell no list have one fault: Truncated, IndexTwice or Trailing. IndexTwice stands at an index, before
-/// the rest of its value is read.
+/// ```
+/// // One value of index 1 without data, with a reference to index 2 of 10/3.
+/// let octets = b"\0\0\0\x01\0\0\0\x01\0\0\0\x07HS_SITE\0\0\0\0\x0e\x01\0\0\x0e\x10\0\0\0\0\x65\x53\xf1\0\
+///     \0\0\0\x01\0\0\0\x0410/3\0\0\0\x02";
+/// let list = decode_values(alloc, octets)?;
+/// assert!(rt; list.find(1).is_some_and(|value| value.type_octets() == b"HS_SITE".as_slice()));
+/// assert!(rt; list.find(2).is_none());
+/// ```
+///
+/// # Errors
+///
+/// Octets that spell no list have one fault: `Truncated` where they end inside a field, `IndexTwice` at an index that
+/// an earlier value has, before the rest of its value is read, or `Trailing` where more octets follow. `OutOfMemory`
+/// where memory runs out.
 pub fn decode_values(alloc: Global, octets: &[u8]) -> Result<ValueList<'_>, RecordFault>
     // What is returned is true of the octets,
     ensures means { Means values_format octets.now result }
@@ -118,7 +141,18 @@ fn request_answer(octets: &[u8]) -> Result<Request<'_>, RecordFault>
 }
 
 /// Reads the body of a resolution request (RFC 3652, section 3.2.1): the handle of the body that all of the octets
-/// spell. Octets that spell no body are Truncated or Trailing. It takes no memory.
+/// spell. It takes no memory.
+///
+/// ```
+/// let body = b"\0\0\0\x0410/3\0\0\0\x01\0\0\0\x01\0\0\0\x01\0\0\0\x07HS_SITE";
+/// assert!(rt; decode_request(body)?.handle() == b"10/3".as_slice());
+/// assert!(rt; decode_request(&body[..30]).err() == Some(RecordFault::Truncated { at: 24 }));
+/// ```
+///
+/// # Errors
+///
+/// Octets that spell no body have one fault: `Truncated` where they end inside a field, or `Trailing` where more octets
+/// follow.
 pub fn decode_request(octets: &[u8]) -> Result<Request<'_>, RecordFault>
     // What is returned is true of the octets,
     ensures means { (answer : Result RequestBody RecordFault)

@@ -91,6 +91,16 @@ fn push_head(out: &mut Vec<u8>, site: &SiteRecord) -> Result<(), AllocError>
 }
 
 /// The one spelling of the record as HS_SITE data (RFC 3651, section 3.2.2).
+///
+/// ```
+/// // `octets` are those of the example of `decode_site`.
+/// let site = decode_site(alloc, octets)?;
+/// assert!(rt; encode_site(alloc, &site)?.as_slice() == octets.as_slice());
+/// ```
+///
+/// # Errors
+///
+/// An `AllocError` where memory runs out.
 pub fn encode_site(alloc: Global, site: &SiteRecord) -> Result<Vec<u8>, AllocError>
     ensures { IfOk result (λ octets. octets.items ≡ spelling site_format site.now) }
 {

@@ -45,6 +45,10 @@ fn push_values(out: &mut Vec<u8>, values: &[Value]) -> Result<(), AllocError>
 }
 
 /// The one spelling of the list of handle values (RFC 3651, section 3.1).
+///
+/// # Errors
+///
+/// An `AllocError` where memory runs out.
 pub fn encode_values(alloc: Global, list: &ValueList) -> Result<Vec<u8>, AllocError>
     ensures { IfOk result (λ octets. octets.items ≡ spelling values_format list.now) }
 {

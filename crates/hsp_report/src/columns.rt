@@ -21,6 +21,10 @@ pub fn aligned(width: usize, number: u128) -> Column
 }
 
 /// Appends a line: numbers, each right-aligned in its column with a space behind it, and a name.
+///
+/// # Errors
+///
+/// An `AllocError` where memory runs out. Nothing is said of `out` then.
 pub fn push_columns(out: &mut Vec<u8>, columns: &[Column], name: &[u8]) -> Result<(), AllocError>
     ensures { OnOk result (out.new.items ≡ out.old.items ++ column_line columns.now name.now) }
 {
@@ -42,6 +46,10 @@ fn push_term(out: &mut Vec<u8>, sign: &[u8], number: u128) -> Result<(), AllocEr
 }
 
 /// Appends a line: a word, two numbers, and what is left of the first without the second.
+///
+/// # Errors
+///
+/// An `AllocError` where memory runs out. Nothing is said of `out` then.
 pub fn push_difference(
     out: &mut Vec<u8>,
     word: &[u8],

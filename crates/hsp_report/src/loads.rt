@@ -20,6 +20,10 @@ use std::alloc::{AllocError, Global};
 pub const LOAD_HEADER: &[u8] = b"place     server       load   capacity         price site\n";
 
 /// Appends the line of the server with this number, which is one of the instance's, with a load and a price.
+///
+/// # Errors
+///
+/// An `AllocError` where memory runs out. Nothing is said of `out` then.
 pub fn push_server(
     out: &mut Vec<u8>,
     instance: &Instance,
@@ -93,6 +97,16 @@ fn loads_text(alloc: Global, instance: &Instance, plan: &BestRef<'_>) -> Result<
 ///
 /// A server's line has its place in 5 columns, its identifier, its load and its capacity in 10 each and its price in
 /// 13, right-aligned, and the name of its site. A number that is wider than its columns stands whole.
+///
+/// ```
+/// // Instance and certificate are those of the example of `hsp_check::check`.
+/// let report = load_report(alloc, &instance, &certificate)?;
+/// assert!(rt; report.ends_with(b"    2          9          0         10             0 W\nbound 23 - 6 = 17\n"));
+/// ```
+///
+/// # Errors
+///
+/// An `AllocError` where memory runs out.
 pub fn load_report(
     alloc: Global,
     instance: &Instance,

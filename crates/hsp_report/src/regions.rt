@@ -155,6 +155,16 @@ fn regions_text(
 ///
 /// A region's line has its demand in 10 columns and its cost in 16, right-aligned, and its name. A number that is wider
 /// than its columns stands whole.
+///
+/// ```
+/// // Instance and certificate are those of the example of `hsp_check::check`.
+/// let report = region_report(alloc, &instance, &certificate)?;
+/// assert!(rt; report.ends_with(b"         9                9 r1\n         3                8 r2\ntotal 12 17\n"));
+/// ```
+///
+/// # Errors
+///
+/// An `AllocError` where memory runs out.
 pub fn region_report(
     alloc: Global,
     instance: &Instance,

@@ -118,6 +118,10 @@ fn shortage_text(
 /// A row's line has its number in 4 columns and its count in 7, right-aligned, and its region. A server's line has its
 /// place in 5 columns, its identifier and its capacity in 10 each, right-aligned, and the name of its site. A number
 /// that is wider than its columns stands whole.
+///
+/// # Errors
+///
+/// An `AllocError` where memory runs out.
 pub fn shortage_report(
     alloc: Global,
     instance: &Instance,

@@ -1,8 +1,9 @@
 use crate::held::joined;
-use crate::line_tests::{Broken, is_reported};
 use crate::log_runs::*;
 use crate::same::is_same;
-use hsp_dispatch::{FrontSums, LogFault, LogSums};
+use hsp_dispatch::LogSums;
+use hsp_inputs::Fault;
+use hsp_log::LogFault;
 use hsp_runs::*;
 use std::alloc::{AllocError, Global};
 use std::process::Abort;
@@ -57,39 +58,6 @@ fn logs_are_answered(rt: HostRuntime) {
 }
 
 #[test]
-fn logs_are_answered_up_to_a_fault(rt: HostRuntime) {
-    let cases: [LogEnd<'_>; 5] = [
-        (b"", 100, LogFault::Header, b""),
-        (
-            b"region,handle\nr1\n",
-            100,
-            LogFault::Fields { row: 0 },
-            b"",
-        ),
-        (
-            b"region,handle\nr1,10/1\nr1,10\n",
-            100,
-            LogFault::BadHandle { row: 1 },
-            b"assigned E 1 3\n",
-        ),
-        (
-            b"region,body\nr1,00\n",
-            100,
-            LogFault::BadBody { row: 0 },
-            b"",
-        ),
-        (LOG, 20, LogFault::WriteFailed, &LINES[..20]),
-    ];
-    stop_at_faults(&rt, rt.alloc(), BY_ONE, &cases);
-}
-
-#[test]
-fn a_log_that_cannot_be_read_is_reported(rt: HostRuntime) {
-    let ended = run_twice(&rt, rt.alloc(), base_plan(BY_ONE), Broken, 100);
-    has_stopped(&rt, &ended, LogFault::ReadFailed, WORKED, 0);
-}
-
-#[test]
 fn logs_are_answered_up_to_each_octet_that_cannot_be_read(rt: HostRuntime) {
     each_read_fails(&rt, rt.alloc(), WORKED);
 }
@@ -117,44 +85,6 @@ fn a_bad_row_behind_many_is_reported(rt: HostRuntime) {
     let fault = LogFault::BadHandle { row: 2_000 };
     is_same(&rt, &ended.answer, &Err(Fault::Log(fault)));
     is_same(&rt, ended.page.taken.len(), 16_000);
-}
-
-#[test]
-fn what_is_not_accepted_answers_nothing(rt: HostRuntime) {
-    nothing_is_answered(&rt, rt.alloc(), WORKED);
-}
-
-#[test]
-fn faults_of_logs_have_their_lines(rt: HostRuntime) {
-    const CASES: [(LogFault, u8, &[u8]); 8] = [
-        (LogFault::ReadFailed, 5, b"hsplan: log: ReadFailed\n"),
-        (LogFault::WriteFailed, 5, b"hsplan: log: WriteFailed\n"),
-        (LogFault::Header, 1, b"hsplan: log: Header\n"),
-        (
-            LogFault::Fields { row: 3 },
-            1,
-            b"hsplan: log: Fields row 3\n",
-        ),
-        (
-            LogFault::BadHandle { row: 1 },
-            1,
-            b"hsplan: log: BadHandle row 1\n",
-        ),
-        (LogFault::LogTooLong, 1, b"hsplan: log: LogTooLong\n"),
-        (
-            LogFault::BadBody { row: 0 },
-            1,
-            b"hsplan: log: BadBody row 0\n",
-        ),
-        (
-            LogFault::BadFront { row: 2 },
-            1,
-            b"hsplan: log: BadFront row 2\n",
-        ),
-    ];
-    for (fault, status, wanted) in CASES {
-        is_reported(&rt, rt.alloc(), &Fault::Log(fault), wanted, status);
-    }
 }
 
 // The sums have this line.

@@ -1,10 +1,6 @@
-use crate::line_tests::{Broken, is_reported};
 use crate::log_runs::*;
-use crate::run_tests::LACKING;
-use hsp_dispatch::{FrontSums, LogFault};
+use hsp_dispatch::FrontSums;
 use hsp_runs::*;
-use std::alloc::Global;
-use std::process::Abort;
 
 const TWO: Answerers<'static> = Answerers::Fronts(b"2");
 
@@ -83,71 +79,6 @@ fn fronts_answer_by_their_shares(rt: HostRuntime) {
     }
 }
 
-// The word is no number of fronts, and nothing is written.
-fn has_bad_fronts(rt: &impl Abort, alloc: Global, asked: Asked<'_>) {
-    let ended = run_twice(rt, alloc, asked, LOG, 100);
-    has_ended(rt, &ended, Err(Fault::BadFronts), b"");
-}
-
-#[test]
-fn no_number_of_fronts_is_refused_first(rt: HostRuntime) {
-    const WORDS: [&[u8]; 8] = [b"0", b"65", b"x", b"", b"-1", b"02", b"2 ", b"4294967298"];
-    for word in WORDS {
-        let by = Answerers::Fronts(word);
-        has_bad_fronts(&rt, rt.alloc(), base_plan(by));
-        let lacking = Asked {
-            texts: LACKING,
-            cert: b"",
-            by,
-        };
-        has_bad_fronts(&rt, rt.alloc(), lacking);
-    }
-}
-
-#[test]
-fn what_is_not_accepted_answers_no_front(rt: HostRuntime) {
-    nothing_is_answered(&rt, rt.alloc(), WORKED);
-}
-
-#[test]
-fn events_are_answered_up_to_a_fault(rt: HostRuntime) {
-    let cases: [LogEnd<'_>; 6] = [
-        (b"region,handle\nr1,10/1\n", 100, LogFault::Header, b""),
-        (
-            b"front,region,handle\n0,r1,10/1\nr1,10/1\n",
-            100,
-            LogFault::Fields { row: 1 },
-            b"assigned E 1 3\n",
-        ),
-        (
-            b"front,region,handle\n0,r1,10/1\n-1,r1,10/1\n",
-            100,
-            LogFault::BadFront { row: 1 },
-            b"assigned E 1 3\n",
-        ),
-        (
-            b"front,region,handle\n4294967296,r1,10/1\n",
-            100,
-            LogFault::BadFront { row: 0 },
-            b"",
-        ),
-        (
-            b"front,region,handle\n4294967295,r1,10/1\n2,r1,10\n",
-            100,
-            LogFault::BadHandle { row: 1 },
-            b"nofront\n",
-        ),
-        (LOG, 20, LogFault::WriteFailed, &LINES[..20]),
-    ];
-    stop_at_faults(&rt, rt.alloc(), TWO, &cases);
-}
-
-#[test]
-fn events_that_cannot_be_read_are_reported(rt: HostRuntime) {
-    let ended = run_twice(&rt, rt.alloc(), base_plan(TWO), Broken, 100);
-    has_stopped(&rt, &ended, LogFault::ReadFailed, WORKED, 0);
-}
-
 #[test]
 fn events_are_answered_up_to_each_octet_that_cannot_be_read(rt: HostRuntime) {
     each_read_fails(&rt, rt.alloc(), WORKED);
@@ -156,15 +87,4 @@ fn events_are_answered_up_to_each_octet_that_cannot_be_read(rt: HostRuntime) {
 #[test]
 fn events_are_answered_up_to_each_octet_that_cannot_be_written(rt: HostRuntime) {
     each_write_fails(&rt, rt.alloc(), WORKED);
-}
-
-#[test]
-fn no_number_of_fronts_has_its_line(rt: HostRuntime) {
-    is_reported(
-        &rt,
-        rt.alloc(),
-        &Fault::BadFronts,
-        b"hsplan: BadFronts\n",
-        1,
-    );
 }

@@ -19,11 +19,3 @@ pub fn copied(rt: &impl Abort, alloc: Global, octets: &[u8]) -> Vec<u8> {
         Err(AllocError) => Vec::from_slice(alloc, octets).expect(rt, "there is memory"),
     }
 }
-
-/// The same octets, where there are some.
-pub fn copied_if_any(rt: &impl Abort, alloc: Global, octets: Option<&[u8]>) -> Option<Vec<u8>> {
-    match octets {
-        Some(octets) => Some(copied(rt, alloc, octets)),
-        None => None,
-    }
-}

@@ -1,9 +1,10 @@
-use crate::held::{copied, copied_if_any, joined};
+use crate::held::copied;
 use crate::same::is_same;
 use hsp_cert::CertFault;
 use hsp_check::Reason;
-use hsp_dispatch::LogFault;
-use hsp_instance::{BuildFault, Table};
+use hsp_inputs::{Fault, fault_line, status_of};
+use hsp_instance::BuildFault;
+use hsp_log::LogFault;
 use hsp_names::HandleFault;
 use hsp_record::RecordFault;
 use hsp_runs::*;
@@ -15,7 +16,7 @@ use std::process::Abort;
 
 // A reader whose every read fails.
 #[derive(Clone, Copy, Drop)]
-pub(crate) struct Broken;
+struct Broken;
 
 impl Read for Broken {
     fn read(&mut self, _buf: &mut [u8]) -> io::Result<usize> {
@@ -57,7 +58,7 @@ fn answers(rt: &impl Abort, answer: &Result<Vec<u8>, Fault>, wanted: Wanted<'_>)
 #[derive(Clone, Copy)]
 enum Asked<'a> {
     Place(&'a [u8], &'a [u8]),
-    Sites(&'a [u8], Option<&'a [u8]>),
+    Sites(&'a [u8]),
 }
 
 fn inputs_of(rt: &impl Abort, alloc: Global, asked: Asked<'_>) -> Locate {
@@ -66,9 +67,9 @@ fn inputs_of(rt: &impl Abort, alloc: Global, asked: Asked<'_>) -> Locate {
             option: copied(rt, alloc, option),
             servers: copied(rt, alloc, servers),
         },
-        Asked::Sites(settings, values) => Locate::Sites {
+        Asked::Sites(settings) => Locate::Sites {
             settings: copied(rt, alloc, settings),
-            values: copied_if_any(rt, alloc, values),
+            values: None,
         },
     }
 }
@@ -114,111 +115,15 @@ fn servers_at_sites_are_printed(rt: HostRuntime) {
         (b"10/3", b"E 1 3\nW 0 1\n"),
     ];
     for (handle, wanted) in CASES {
-        locates(
-            &rt,
-            rt.alloc(),
-            Asked::Sites(SETTINGS, None),
-            handle,
-            Ok(wanted),
-        );
+        locates(&rt, rt.alloc(), Asked::Sites(SETTINGS), handle, Ok(wanted));
     }
     locates(
         &rt,
         rt.alloc(),
-        Asked::Sites(b"", None),
+        Asked::Sites(b""),
         b"10/3",
         Ok(b"".as_slice()),
     );
-}
-
-// Sites are refused, each with the fault beside it.
-fn refuses(rt: &impl Abort, alloc: Global, cases: [(&[u8], Option<&[u8]>, &[u8], Fault); 3]) {
-    for (settings, values, handle, wanted) in cases {
-        locates(
-            rt,
-            alloc,
-            Asked::Sites(settings, values),
-            handle,
-            Err(&wanted),
-        );
-    }
-}
-
-#[test]
-fn sites_are_refused_in_the_order_of_the_inputs(rt: HostRuntime) {
-    let by_index: &[u8] = b"[[site]]\nname = \"E\"\nindex = 2\n";
-    refuses(
-        &rt,
-        rt.alloc(),
-        [
-            (b"x", Some(b""), b"10", Fault::Handle(HandleFault::NoSlash)),
-            (
-                b"x",
-                Some(b""),
-                b"10/3",
-                Fault::Settings(TableFault::NotToml),
-            ),
-            (
-                by_index,
-                Some(b""),
-                b"10/3",
-                Fault::Values(RecordFault::Truncated { at: 0 }),
-            ),
-        ],
-    );
-}
-
-#[test]
-fn sites_without_a_value_or_a_server_are_refused(rt: HostRuntime) {
-    let by_index: &[u8] = b"[[site]]\nname = \"E\"\nindex = 2\n";
-    let no_server: &[u8] =
-        b"[[site]]\nname = \"E\"\nrecord = \"0001020000010001000000000000000000000000\"\n";
-    let no_value = Fault::Build(BuildFault::NoValue { site: 0 });
-    let none = Fault::Build(BuildFault::NoServer { site: 0 });
-    refuses(
-        &rt,
-        rt.alloc(),
-        [
-            (by_index, Some(b"\0\0\0\0"), b"10/3", no_value),
-            (
-                by_index,
-                None,
-                b"10/3",
-                Fault::Build(BuildFault::NoValue { site: 0 }),
-            ),
-            (no_server, None, b"10/3", none),
-        ],
-    );
-}
-
-#[test]
-fn sites_are_located_by_values(rt: HostRuntime) {
-    let list = list_of(&rt, rt.alloc(), b"HS_SITE");
-    let settings: &[u8] = b"[[site]]\nname = \"X\"\nindex = 1\n";
-    let asked = Asked::Sites(settings, Some(list.as_slice()));
-    let wanted: &[u8] = b"X 0 7\n";
-    locates(&rt, rt.alloc(), asked, b"10/3", Ok(wanted));
-}
-
-#[test]
-fn the_first_fault_is_reported(rt: HostRuntime) {
-    const CASES: [(&[u8], &[u8], &[u8], Fault); 6] = [
-        (b"x", b"0", b"10", Fault::BadOption),
-        (b"local", b"0", b"10", Fault::BadServers),
-        (b"local", b"1025", b"10/3", Fault::BadServers),
-        (b"local", b"02", b"10/3", Fault::BadServers),
-        (b"local", b"", b"10/3", Fault::BadServers),
-        (b"local", b"2", b"10", Fault::Handle(HandleFault::NoSlash)),
-    ];
-    for (option, servers, handle, wanted) in CASES {
-        locates(
-            &rt,
-            rt.alloc(),
-            Asked::Place(option, servers),
-            handle,
-            Err(&wanted),
-        );
-    }
 }
 
 // The fault has this line and this status.
@@ -235,11 +140,6 @@ pub(crate) fn is_reported(
         Err(AllocError) => fault_line(alloc, fault).expect(rt, "there is memory"),
     };
     is_same(rt, line.as_slice(), wanted);
-}
-
-// This is the line of a fault in the input.
-fn is_refused(rt: &impl Abort, alloc: Global, fault: &Fault, wanted: &[u8]) {
-    is_reported(rt, alloc, fault, wanted, 1);
 }
 
 #[test]
@@ -279,149 +179,6 @@ fn faults_have_their_lines_and_statuses(rt: HostRuntime) {
     ];
     for (fault, wanted, status) in CASES {
         is_reported(&rt, rt.alloc(), &fault, wanted, status);
-    }
-}
-
-#[test]
-fn faults_of_settings_have_their_lines(rt: HostRuntime) {
-    const CASES: [(TableFault, &[u8]); 9] = [
-        (TableFault::NotToml, b"hsplan: settings: NotToml\n"),
-        (TableFault::UnknownKey, b"hsplan: settings: UnknownKey\n"),
-        (
-            TableFault::BadSite { site: 0 },
-            b"hsplan: settings: BadSite site 0\n",
-        ),
-        (
-            TableFault::SiteTwice { site: 1 },
-            b"hsplan: settings: SiteTwice site 1\n",
-        ),
-        (
-            TableFault::TooManySites,
-            b"hsplan: settings: TooManySites\n",
-        ),
-        (TableFault::OutOfMemory, b"hsplan: settings: OutOfMemory\n"),
-        (
-            TableFault::BadHost { host: 0 },
-            b"hsplan: settings: BadHost host 0\n",
-        ),
-        (
-            TableFault::HostTwice { host: 1 },
-            b"hsplan: settings: HostTwice host 1\n",
-        ),
-        (
-            TableFault::TooManyHosts,
-            b"hsplan: settings: TooManyHosts\n",
-        ),
-    ];
-    for (fault, wanted) in CASES {
-        is_refused(&rt, rt.alloc(), &Fault::Settings(fault), wanted);
-    }
-}
-
-#[test]
-fn faults_of_rows_have_their_lines(rt: HostRuntime) {
-    const BAD_HANDLE: TableFault = TableFault::BadHandle {
-        row: 0,
-        fault: HandleFault::NoSlash,
-    };
-    const CASES: [(TableFault, &[u8]); 8] = [
-        (TableFault::Header, b"hsplan: settings: Header\n"),
-        (
-            TableFault::Fields { row: 0 },
-            b"hsplan: settings: Fields row 0\n",
-        ),
-        (
-            TableFault::BadName { row: 0 },
-            b"hsplan: settings: BadName row 0\n",
-        ),
-        (BAD_HANDLE, b"hsplan: settings: BadHandle row 0 NoSlash\n"),
-        (
-            TableFault::BadNumber { row: 0 },
-            b"hsplan: settings: BadNumber row 0\n",
-        ),
-        (
-            TableFault::RowTwice { row: 1 },
-            b"hsplan: settings: RowTwice row 1\n",
-        ),
-        (TableFault::TooManyRows, b"hsplan: settings: TooManyRows\n"),
-        (
-            TableFault::TooManyRegions,
-            b"hsplan: settings: TooManyRegions\n",
-        ),
-    ];
-    for (fault, wanted) in CASES {
-        is_refused(&rt, rt.alloc(), &Fault::Settings(fault), wanted);
-    }
-}
-
-#[test]
-fn faults_of_sites_have_their_lines(rt: HostRuntime) {
-    const TRUNCATED: BuildFault = BuildFault::BadRecord {
-        site: 1,
-        fault: RecordFault::Truncated { at: 44 },
-    };
-    const CASES: [(BuildFault, &[u8]); 7] = [
-        (
-            BuildFault::NoValue { site: 0 },
-            b"hsplan: build: NoValue site 0\n",
-        ),
-        (
-            BuildFault::NotSiteValue { site: 0 },
-            b"hsplan: build: NotSiteValue site 0\n",
-        ),
-        (
-            TRUNCATED,
-            b"hsplan: build: BadRecord site 1 Truncated at 44\n",
-        ),
-        (
-            BuildFault::BadHashOption { site: 0 },
-            b"hsplan: build: BadHashOption site 0\n",
-        ),
-        (
-            BuildFault::NoServer { site: 0 },
-            b"hsplan: build: NoServer site 0\n",
-        ),
-        (
-            BuildFault::ServerIdTwice { site: 0 },
-            b"hsplan: build: ServerIdTwice site 0\n",
-        ),
-        (
-            BuildFault::TooManyServers,
-            b"hsplan: build: TooManyServers\n",
-        ),
-    ];
-    for (fault, wanted) in CASES {
-        is_refused(&rt, rt.alloc(), &Fault::Build(fault), wanted);
-    }
-}
-
-#[test]
-fn faults_of_what_tables_name_have_their_lines(rt: HostRuntime) {
-    const UNKNOWN_SITE: BuildFault = BuildFault::UnknownSite {
-        table: Table::Costs,
-        row: 0,
-    };
-    const NO_CAPACITY: BuildFault = BuildFault::NoCapacity {
-        site: 1,
-        server_id: 9,
-    };
-    const CASES: [(BuildFault, &[u8]); 4] = [
-        (
-            UNKNOWN_SITE,
-            b"hsplan: build: UnknownSite table costs row 0\n",
-        ),
-        (
-            BuildFault::UnknownServer { row: 0 },
-            b"hsplan: build: UnknownServer row 0\n",
-        ),
-        (
-            NO_CAPACITY,
-            b"hsplan: build: NoCapacity site 1 server_id 9\n",
-        ),
-        (BuildFault::OutOfMemory, b"hsplan: build: OutOfMemory\n"),
-    ];
-    for (fault, wanted) in CASES {
-        is_refused(&rt, rt.alloc(), &Fault::Build(fault), wanted);
     }
 }
 
@@ -561,18 +318,6 @@ const ONE_SERVER_TEXT: &[u8] =
     b"version 1\nprotocol 2 0\nserial 1\nmask 0\noption 1\nfilter 0\nattributes 0\nservers 1\n\
     server 0 7 00000000000000000000000000000001 0 0\n";
 
-// A list of one value with the index 1, this type and the site as its data.
-pub(crate) fn list_of(rt: &impl Abort, alloc: Global, type_octets: &[u8; 7]) -> Vec<u8> {
-    let parts: [&[u8]; 5] = [
-        &[0, 0, 0, 1, 0, 0, 0, 1, 0, 0, 0, 7],
-        type_octets,
-        &[0, 0, 0, 48],
-        &ONE_SERVER,
-        &[0; 18],
-    ];
-    joined(rt, alloc, &parts)
-}
-
 // The answer of `site` is the wanted one.
 fn prints(rt: &impl Abort, alloc: Global, octets: &[u8], index: Option<&[u8]>, wanted: Wanted<'_>) {
     let answer = match site_run(alloc, octets, index) {
@@ -589,26 +334,4 @@ fn records_are_printed(rt: HostRuntime) {
     longer[..48].copy_from_slice(&ONE_SERVER);
     let trailing = Fault::Site(RecordFault::Trailing { at: 48 });
     prints(&rt, rt.alloc(), &longer, None, Err(&trailing));
-}
-
-// The answer of `site` for an index of the values is the fault.
-fn refuses_index(rt: &impl Abort, alloc: Global, octets: &[u8], index: &[u8], fault: Fault) {
-    prints(rt, alloc, octets, Some(index), Err(&fault));
-}
-
-#[test]
-fn values_are_printed(rt: HostRuntime) {
-    let list = list_of(&rt, rt.alloc(), b"HS_SITE");
-    prints(&rt, rt.alloc(), &list, Some(b"1"), Ok(ONE_SERVER_TEXT));
-    refuses_index(&rt, rt.alloc(), &list, b"2", Fault::NoValue);
-    refuses_index(&rt, rt.alloc(), &list, b"x", Fault::BadIndex);
-    refuses_index(&rt, rt.alloc(), &list, b"4294967296", Fault::BadIndex);
-    let truncated = Fault::Values(RecordFault::Truncated { at: 4 });
-    refuses_index(&rt, rt.alloc(), &[0, 0, 0, 1], b"1", truncated);
-}
-
-#[test]
-fn values_of_other_types_are_refused(rt: HostRuntime) {
-    let list = list_of(&rt, rt.alloc(), b"HS_SITF");
-    refuses_index(&rt, rt.alloc(), &list, b"1", Fault::NotSiteValue);
 }

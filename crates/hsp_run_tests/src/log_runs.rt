@@ -1,9 +1,10 @@
 // Runs over logs, by a dispatcher or by fronts: what a run is asked, what it reads and writes, and how it ends.
 
-use crate::run_tests::{BASE, CHEAPER_PLAN, LACKING, PLAN, SHORTAGE, Texts, inputs_of};
+use crate::run_tests::{BASE, PLAN, Texts, inputs_of};
 use crate::same::is_same;
-use hsp_check::Reason;
-use hsp_dispatch::{FrontSums, LogFault, LogSums};
+use hsp_dispatch::{FrontSums, LogSums};
+use hsp_inputs::Fault;
+use hsp_log::LogFault;
 use hsp_runs::*;
 use std::alloc::{AllocError, Global};
 use std::io::{self, Read, Write};
@@ -161,47 +162,11 @@ pub(crate) struct Worked<'a> {
 }
 
 // The run has stopped at the fault, behind `count` octets of the lines.
-pub(crate) fn has_stopped(
-    rt: &impl Abort,
-    ended: &Ended,
-    fault: LogFault,
-    worked: Worked<'_>,
-    count: usize,
-) {
+fn has_stopped(rt: &impl Abort, ended: &Ended, fault: LogFault, worked: Worked<'_>, count: usize) {
     is_same(rt, &ended.answer, &Err(Fault::Log(fault)));
     let taken = ended.page.taken.as_slice();
     assert!(rt; taken.len() == count);
     assert!(rt; worked.lines.starts_with(taken));
-}
-
-// What comes of a log, by how much room there is for its lines.
-pub(crate) type LogEnd<'a> = (&'a [u8], usize, LogFault, &'a [u8]);
-
-// Each log is answered up to its fault.
-pub(crate) fn stop_at_faults(
-    rt: &impl Abort,
-    alloc: Global,
-    by: Answerers<'_>,
-    cases: &[LogEnd<'_>],
-) {
-    for (log, room, fault, text) in cases {
-        let ended = run_twice(rt, alloc, base_plan(by), *log, *room);
-        has_ended(rt, &ended, Err(Fault::Log(*fault)), text);
-    }
-}
-
-// What is not accepted answers nothing.
-pub(crate) fn nothing_is_answered<'a>(rt: &impl Abort, alloc: Global, worked: Worked<'a>) {
-    let cases: [(Texts<'a>, &'a [u8], Fault); 2] = [
-        (BASE, CHEAPER_PLAN, Fault::Refused(Reason::Cost)),
-        (LACKING, SHORTAGE, Fault::WrongKind),
-    ];
-    for (texts, cert, fault) in cases {
-        is_same(rt, status_of(&fault), 3);
-        let by = worked.by;
-        let ended = run_twice(rt, alloc, Asked { texts, cert, by }, worked.log, 100);
-        has_ended(rt, &ended, Err(fault), b"");
-    }
 }
 
 // A reader that fails behind each octet from one on, up to another, is reported behind `lines` octets of lines.

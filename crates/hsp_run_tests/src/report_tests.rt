@@ -1,10 +1,8 @@
-use crate::run_tests::{BASE, CHEAPER_PLAN, LACKING, PLAN, SHORTAGE, Texts, UNASKED, inputs_of};
+use crate::run_tests::{BASE, LACKING, PLAN, SHORTAGE, Texts, inputs_of};
 use crate::same::is_same;
-use hsp_cert::CertFault;
-use hsp_check::Reason;
+use hsp_inputs::Fault;
 use hsp_report::ReportKind;
 use hsp_runs::*;
-use hsp_tables::TableFault;
 use std::alloc::Global;
 use std::process::Abort;
 
@@ -46,42 +44,5 @@ fn reports_are_of_their_kinds(rt: HostRuntime) {
         let report = reported(&rt, rt.alloc(), texts, cert, kind);
         let text = report.expect(&rt, "there is a report");
         is_same(&rt, text.as_slice(), wanted);
-    }
-}
-
-#[test]
-fn what_has_no_report_is_reported(rt: HostRuntime) {
-    const CASES: [(Texts<'_>, &[u8], ReportKind, Fault); 7] = [
-        (
-            UNASKED,
-            b"",
-            ReportKind::Load,
-            Fault::Demand(TableFault::Header),
-        ),
-        (
-            BASE,
-            SHORTAGE,
-            ReportKind::Load,
-            Fault::Refused(Reason::DemandSum),
-        ),
-        (LACKING, SHORTAGE, ReportKind::Load, Fault::WrongKind),
-        (LACKING, SHORTAGE, ReportKind::Region, Fault::WrongKind),
-        (BASE, PLAN, ReportKind::Shortage, Fault::WrongKind),
-        (
-            BASE,
-            CHEAPER_PLAN,
-            ReportKind::Shortage,
-            Fault::Refused(Reason::Cost),
-        ),
-        (
-            BASE,
-            b"",
-            ReportKind::Shortage,
-            Fault::Cert(CertFault::Ended),
-        ),
-    ];
-    for (texts, cert, kind, wanted) in CASES {
-        let found = reported(&rt, rt.alloc(), texts, cert, kind).err();
-        is_same(&rt, found, Some(wanted));
     }
 }

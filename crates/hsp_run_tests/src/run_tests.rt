@@ -1,13 +1,8 @@
-use crate::held::{copied, copied_if_any, joined};
-use crate::line_tests::{is_reported, list_of};
+use crate::held::{copied, joined};
 use crate::same::is_same;
-use hsp_cert::CertFault;
 use hsp_check::{Reason, Verdict};
-use hsp_instance::BuildFault;
-use hsp_names::HandleFault;
-use hsp_record::RecordFault;
+use hsp_inputs::{Fault, Inputs};
 use hsp_runs::*;
-use hsp_tables::TableFault;
 use hsp_test_support::service::{CAPACITY, COSTS, DEMAND, SETTINGS};
 use hsp_text::push_whole;
 use std::alloc::{AllocError, Global};
@@ -16,17 +11,7 @@ use std::process::Abort;
 // Two sites, three rows, five servers.
 pub(crate) const BASE: Texts<'static> = Texts {
     settings: SETTINGS,
-    values: None,
     demand: DEMAND,
-    costs: COSTS,
-    capacity: CAPACITY,
-};
-
-// The same without a table of demand.
-pub(crate) const UNASKED: Texts<'static> = Texts {
-    settings: SETTINGS,
-    values: None,
-    demand: b"",
     costs: COSTS,
     capacity: CAPACITY,
 };
@@ -34,7 +19,6 @@ pub(crate) const UNASKED: Texts<'static> = Texts {
 // The same, where the last row asks for 9 queries.
 pub(crate) const LACKING: Texts<'static> = Texts {
     settings: SETTINGS,
-    values: None,
     demand: b"region,handle,count\nr1,10/1,5\nr1,10/2,4\nr2,10/3,9\n",
     costs: COSTS,
     capacity: CAPACITY,
@@ -44,7 +28,6 @@ pub(crate) const LACKING: Texts<'static> = Texts {
 #[derive(Clone, Copy)]
 pub(crate) struct Texts<'a> {
     settings: &'a [u8],
-    values: Option<&'a [u8]>,
     demand: &'a [u8],
     costs: &'a [u8],
     capacity: &'a [u8],
@@ -53,8 +36,8 @@ pub(crate) struct Texts<'a> {
 pub(crate) fn inputs_of(rt: &impl Abort, alloc: Global, texts: Texts<'_>) -> Inputs {
     Inputs {
         settings: copied(rt, alloc, texts.settings),
-        values: copied_if_any(rt, alloc, texts.values),
-        demand: copied(rt, alloc, texts.demand),
+        values: None,
+        demand: Some(copied(rt, alloc, texts.demand)),
         costs: copied(rt, alloc, texts.costs),
         capacity: copied(rt, alloc, texts.capacity),
     }
@@ -112,130 +95,6 @@ fn plans_are_judged(rt: HostRuntime) {
     }
 }
 
-#[test]
-fn prices_are_judged(rt: HostRuntime) {
-    const CASES: [(&[u8], Reason); 4] = [
-        (
-            b"row 0 2\nrow 1 1\nrow 2 3\nserver 0 0\nserver 1 1\nserver 2 0\nserver 3 0\n",
-            Reason::Shape,
-        ),
-        (
-            b"row 0 3\nrow 1 1\nrow 2 3\nserver 0 0\nserver 1 1\nserver 2 0\nserver 3 0\nserver 4 0\n",
-            Reason::ArcPrice,
-        ),
-        (
-            b"row 0 1\nrow 1 1\nrow 2 3\nserver 0 0\nserver 1 1\nserver 2 0\nserver 3 0\nserver 4 0\n",
-            Reason::UsedArcPrice,
-        ),
-        (
-            b"row 0 2\nrow 1 1\nrow 2 3\nserver 0 0\nserver 1 1\nserver 2 0\nserver 3 0\nserver 4 1\n",
-            Reason::IdlePrice,
-        ),
-    ];
-    for (prices, reason) in CASES {
-        let text = plan_text(&rt, rt.alloc(), b"cost 17\n", USES, prices);
-        checks(&rt, rt.alloc(), BASE, &text, Verdict::No(reason));
-    }
-}
-
-#[test]
-fn shortages_are_judged(rt: HostRuntime) {
-    const SETS: [(&[u8], Verdict); 5] = [
-        (
-            b"HSPLAN 1\nSHORTAGE\ndemand 9\ncapacity 8\nrow 2\nEND\n",
-            Verdict::Yes,
-        ),
-        (
-            b"HSPLAN 1\nSHORTAGE\ndemand 10\ncapacity 8\nrow 2\nEND\n",
-            Verdict::No(Reason::DemandSum),
-        ),
-        (
-            b"HSPLAN 1\nSHORTAGE\ndemand 9\ncapacity 9\nrow 2\nEND\n",
-            Verdict::No(Reason::CapacitySum),
-        ),
-        (
-            b"HSPLAN 1\nSHORTAGE\ndemand 4\ncapacity 20\nrow 1\nEND\n",
-            Verdict::No(Reason::NotShort),
-        ),
-        (
-            b"HSPLAN 1\nSHORTAGE\ndemand 9\ncapacity 8\nrow 3\nEND\n",
-            Verdict::No(Reason::Shape),
-        ),
-    ];
-    for (text, wanted) in SETS {
-        checks(&rt, rt.alloc(), LACKING, text, wanted);
-    }
-}
-
-#[test]
-fn equal_costs_leave_several_best_plans(rt: HostRuntime) {
-    const PLANS: [&[u8]; 3] = [b"use 0 0 2\n", b"use 0 0 1\nuse 0 1 1\n", b"use 0 1 2\n"];
-    let texts = Texts {
-        demand: b"region,handle,count\nr1,10/1,2\n",
-        costs: b"region,site,cost\nr1,E,1\nr1,W,1\n",
-        ..BASE
-    };
-    let prices: &[u8] = b"row 0 1\nserver 0 0\nserver 1 0\nserver 2 0\nserver 3 0\nserver 4 0\n";
-    for uses in PLANS {
-        let text = plan_text(&rt, rt.alloc(), b"cost 2\n", uses, prices);
-        checks(&rt, rt.alloc(), texts, &text, Verdict::Yes);
-    }
-}
-
-#[test]
-fn sites_of_values_are_planned_for(rt: HostRuntime) {
-    let list = list_of(&rt, rt.alloc(), b"HS_SITE");
-    let texts = Texts {
-        settings: b"[[site]]\nname = \"X\"\nindex = 1\n",
-        values: Some(list.as_slice()),
-        demand: b"region,handle,count\nr1,10/1,1\n",
-        costs: b"region,site,cost\nr1,X,1\n",
-        capacity: b"site,server_id,capacity\nX,7,10\n",
-    };
-    let plan = b"HSPLAN 1\nPLAN\ncost 1\nuse 0 0 1\nrow 0 1\nserver 0 0\nEND\n";
-    checks(&rt, rt.alloc(), texts, plan, Verdict::Yes);
-}
-
-// The texts have the fault, as it is returned for an empty certificate.
-fn has_fault(rt: &impl Abort, alloc: Global, texts: Texts<'_>, fault: Fault) {
-    is_same(rt, judged(rt, alloc, texts, b""), Err(fault));
-}
-
-#[test]
-fn the_first_fault_of_the_inputs_is_reported(rt: HostRuntime) {
-    let empty: &[u8] = b"";
-    let no_capacities: &[u8] = b"site,server_id,capacity\n";
-    let no_capacity = BuildFault::NoCapacity {
-        site: 0,
-        server_id: 7,
-    };
-    let mut texts = Texts {
-        settings: b"x",
-        values: Some(empty),
-        demand: empty,
-        costs: b"x",
-        capacity: b"y",
-    };
-    has_fault(&rt, rt.alloc(), texts, Fault::Settings(TableFault::NotToml));
-    texts.settings = SETTINGS;
-    has_fault(
-        &rt,
-        rt.alloc(),
-        texts,
-        Fault::Values(RecordFault::Truncated { at: 0 }),
-    );
-    texts.values = Some(b"\0\0\0\0");
-    has_fault(&rt, rt.alloc(), texts, Fault::Demand(TableFault::Header));
-    texts.demand = DEMAND;
-    has_fault(&rt, rt.alloc(), texts, Fault::Costs(TableFault::Header));
-    texts.costs = COSTS;
-    has_fault(&rt, rt.alloc(), texts, Fault::Capacity(TableFault::Header));
-    texts.capacity = no_capacities;
-    has_fault(&rt, rt.alloc(), texts, Fault::Build(no_capacity));
-    texts.capacity = CAPACITY;
-    has_fault(&rt, rt.alloc(), texts, Fault::Cert(CertFault::Ended));
-}
-
 // The verdict has this line. Where a growth is refused, the second call finds memory.
 fn has_line(rt: &impl Abort, alloc: Global, verdict: &Verdict, wanted: &[u8]) {
     let line = match verdict_line(alloc, verdict) {
@@ -267,48 +126,6 @@ fn verdicts_have_their_lines(rt: HostRuntime) {
     }
 }
 
-#[test]
-fn faults_of_tables_and_certificates_have_their_lines(rt: HostRuntime) {
-    const BAD_HANDLE: TableFault = TableFault::BadHandle {
-        row: 0,
-        fault: HandleFault::NoSlash,
-    };
-    const CASES: [(Fault, &[u8]); 8] = [
-        (
-            Fault::Demand(TableFault::RowTwice { row: 1 }),
-            b"hsplan: demand: RowTwice row 1\n",
-        ),
-        (
-            Fault::Demand(BAD_HANDLE),
-            b"hsplan: demand: BadHandle row 0 NoSlash\n",
-        ),
-        (Fault::Costs(TableFault::Header), b"hsplan: costs: Header\n"),
-        (
-            Fault::Capacity(TableFault::BadNumber { row: 0 }),
-            b"hsplan: capacity: BadNumber row 0\n",
-        ),
-        (
-            Fault::Cert(CertFault::BadLine { line: 3 }),
-            b"hsplan: certificate: BadLine line 3\n",
-        ),
-        (
-            Fault::Cert(CertFault::Ended),
-            b"hsplan: certificate: Ended\n",
-        ),
-        (
-            Fault::Cert(CertFault::AfterEnd { line: 7 }),
-            b"hsplan: certificate: AfterEnd line 7\n",
-        ),
-        (
-            Fault::Cert(CertFault::OutOfMemory),
-            b"hsplan: certificate: OutOfMemory\n",
-        ),
-    ];
-    for (fault, wanted) in CASES {
-        is_reported(&rt, rt.alloc(), &fault, wanted, 1);
-    }
-}
-
 // The text that `plan` answers. Where a growth is refused, the second call finds memory.
 fn planned(rt: &impl Abort, alloc: Global, texts: Texts<'_>) -> Result<PlanText, Fault> {
     let inputs = inputs_of(rt, alloc, texts);
@@ -327,12 +144,6 @@ fn held_plan(rt: &impl Abort, alloc: Global, texts: Texts<'_>) -> PlanText {
 fn is_plan_from(rt: &impl Abort, plan: &PlanText, start: &[u8]) {
     assert!(rt; !plan.is_short());
     assert!(rt; plan.bytes().starts_with(start));
-}
-
-// The text is of this kind, and the wanted one.
-fn is_text(rt: &impl Abort, plan: &PlanText, is_short: bool, wanted: &[u8]) {
-    is_same(rt, plan.is_short(), is_short);
-    is_same(rt, plan.bytes(), wanted);
 }
 
 // The plan's text begins so, and is valid.
@@ -406,96 +217,8 @@ fn many_rows_are_planned_and_judged(rt: HostRuntime) {
     );
 }
 
-#[test]
-fn hosts_limit_plans(rt: HostRuntime) {
-    let host: &[u8] = b"[[host]]\naddress = \"00000000000000000000000000000001\"\nlimit = 8\n";
-    let settings = joined(&rt, rt.alloc(), &[SETTINGS, host]);
-    let limited = Texts {
-        settings: settings.as_slice(),
-        ..BASE
-    };
-    plans_from(&rt, rt.alloc(), limited, b"HSPLAN 2\nPLAN\ncost 23\n");
-}
-
-#[test]
-fn shortages_are_reported(rt: HostRuntime) {
-    const UNSERVED: Texts<'static> = Texts {
-        demand: b"region,handle,count\nr3,10/1,1\n",
-        ..BASE
-    };
-    const WITHOUT_W: Texts<'static> = Texts {
-        demand: b"region,handle,count\nr1,10/1,4\nr1,10/2,1\nr2,10/3,4\n",
-        costs: b"region,site,cost\nr1,E,1\nr2,E,2\n",
-        ..BASE
-    };
-    const CASES: [(Texts<'_>, &[u8]); 3] = [
-        (
-            LACKING,
-            b"HSPLAN 1\nSHORTAGE\ndemand 9\ncapacity 8\nrow 2\nEND\n",
-        ),
-        (
-            UNSERVED,
-            b"HSPLAN 1\nSHORTAGE\ndemand 1\ncapacity 0\nrow 0\nEND\n",
-        ),
-        (
-            WITHOUT_W,
-            b"HSPLAN 1\nSHORTAGE\ndemand 8\ncapacity 6\nrow 0\nrow 2\nEND\n",
-        ),
-    ];
-    for (texts, wanted) in CASES {
-        let plan = held_plan(&rt, rt.alloc(), texts);
-        is_text(&rt, &plan, true, wanted);
-    }
-}
-
-#[test]
-fn nothing_asked_for_is_planned(rt: HostRuntime) {
-    let nothing = Texts {
-        demand: b"region,handle,count\n",
-        ..BASE
-    };
-    let wanted: &[u8] =
-        b"HSPLAN 1\nPLAN\ncost 0\nserver 0 0\nserver 1 0\nserver 2 0\nserver 3 0\nserver 4 0\nEND\n";
-    let plan = held_plan(&rt, rt.alloc(), nothing);
-    is_text(&rt, &plan, false, wanted);
-    let no_query = Texts {
-        demand: b"region,handle,count\nr3,10/1,0\n",
-        ..BASE
-    };
-    plans_from(&rt, rt.alloc(), no_query, b"HSPLAN 1\nPLAN\ncost 0\nrow 0 ");
-}
-
-#[test]
-fn nothing_is_planned_for_inputs_with_a_fault(rt: HostRuntime) {
-    let no_table = Texts {
-        demand: b"",
-        costs: b"",
-        ..BASE
-    };
-    let found = planned(&rt, rt.alloc(), no_table).err();
-    is_same(&rt, found, Some(Fault::Demand(TableFault::Header)));
-}
-
 pub(crate) const PLAN: &[u8] =
     b"HSPLAN 1\nPLAN\ncost 17\nuse 0 0 5\nuse 1 0 4\nuse 2 0 1\nuse 2 1 2\nrow 0 2\nrow 1 1\nrow 2 3\nserver 0 0\n\
     server 1 1\nserver 2 0\nserver 3 0\nserver 4 0\nEND\n";
 
-pub(crate) const CHEAPER_PLAN: &[u8] =
-    b"HSPLAN 1\nPLAN\ncost 16\nuse 0 0 5\nuse 1 0 4\nuse 2 0 1\nuse 2 1 2\nrow 0 2\nrow 1 1\nrow 2 3\nserver 0 0\n\
-    server 1 1\nserver 2 0\nserver 3 0\nserver 4 0\nEND\n";
-
 pub(crate) const SHORTAGE: &[u8] = b"HSPLAN 1\nSHORTAGE\ndemand 9\ncapacity 8\nrow 2\nEND\n";
-
-#[test]
-fn certificates_that_are_not_accepted_have_their_lines(rt: HostRuntime) {
-    const CASES: [(Fault, &[u8]); 2] = [
-        (
-            Fault::Refused(Reason::IdlePrice),
-            b"hsplan: check: IdlePrice\n",
-        ),
-        (Fault::WrongKind, b"hsplan: WrongKind\n"),
-    ];
-    for (fault, wanted) in CASES {
-        is_reported(&rt, rt.alloc(), &fault, wanted, 3);
-    }
-}

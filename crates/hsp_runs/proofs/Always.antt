@@ -21,24 +21,22 @@ use Rattle.hsp_dispatch.specs.Dispatch.{all_of}
 use Rattle.hsp_dispatch.specs.Runs.{Desk, Streams}
 use Rattle.hsp_dispatch.specs.declared.answer.FrontSums.{FrontSums}
 use Rattle.hsp_dispatch.specs.declared.answer.LogSums.{LogSums}
-use Rattle.hsp_dispatch.specs.declared.fault.LogFault.{LogFault}
-use Rattle.hsp_dispatch.specs.declared.fault.LogFault.TheVariants as log_fault
-use Rattle.hsp_runs.specs.FaultText.{fault_of_log}
-use Rattle.hsp_runs.specs.declared.fault.Fault.{Fault}
-use Rattle.hsp_runs.specs.declared.fault.Fault.TheVariants.{BadFronts, Log, OutOfMemory}
-use Rattle.hsp_runs.specs.Always.{GivesTheDefinedAlways, ReadsAlways}
-use Rattle.hsp_runs.specs.Counts.{above_none}
+use Rattle.hsp_log.specs.declared.fault.LogFault.{LogFault}
+use Rattle.hsp_log.specs.declared.fault.LogFault.TheVariants as log_fault
+use Rattle.hsp_inputs.specs.FaultText.{fault_of_log}
+use Rattle.hsp_inputs.specs.declared.fault.Fault.{Fault}
+use Rattle.hsp_inputs.specs.declared.fault.Fault.TheVariants.{BadFronts, Log, OutOfMemory}
+use Rattle.hsp_runs.specs.Always.{ReadsAlways}
+use Rattle.hsp_inputs.specs.Counts.{above_none}
 use Rattle.hsp_runs.specs.Dispatch.{AnswersAs, AnswersBy, EndsLog, Refuses, Staff, a_dispatcher, fronts_at, so_many}
-use Rattle.hsp_runs.specs.Headline.{Defines, ShowsOf}
-use Rattle.hsp_runs.specs.Instance.{IsInstanceOf}
-use Rattle.hsp_runs.specs.HeadlineLaws.{GivesNothingElse}
+use Rattle.hsp_inputs.specs.Headline.{Defines}
+use Rattle.hsp_runs.specs.Shown.{ShowsOf, Holds, Shows, Spells}
 use Rattle.hsp_runs.specs.Logs.{IsOkUnlessLog}
-use Rattle.hsp_runs.specs.Parts.{IsNamed}
+use Rattle.hsp_inputs.specs.Parts.{IsNamed}
 use Rattle.hsp_runs.specs.Plan.{IsPlanText, Printed}
-use Rattle.hsp_runs.specs.Shown.{Holds, Shows, Spells}
-use Rattle.hsp_runs.specs.Memory.{OrNoMemory}
+use Rattle.hsp_inputs.specs.Memory.{OrNoMemory}
 use Rattle.hsp_runs.specs.declared.accepted.Accepted.{Accepted}
-use Rattle.hsp_runs.specs.declared.inputs.Inputs.{Inputs}
+use Rattle.hsp_inputs.specs.declared.inputs.Inputs.{Inputs}
 
 -- ---- a fault that is handed on
 
@@ -50,13 +48,6 @@ handed P holds (Ok x) fault is memory = absurd is
 handed P holds (Err e) fault is memory = rw (is ∙ memory) holds
 
 -- ---- what is read
-
--- inputs that define an instance give it, or memory ran out
-pub gives_always : GivesNothingElse → (inputs : Inputs) (answer : Result Instance Fault)
-    → OrNoMemory (IsInstanceOf inputs) answer → GivesTheDefinedAlways inputs answer
-gives_always only inputs (Ok x) is it page = let same = only inputs it (Ok x) page is in cc (same)
-gives_always only inputs (Err e) (inl memory) it page = memory
-gives_always only inputs (Err e) (inr is) it page = let none = only inputs it (Err e) page is in cc (none)
 
 -- what is read of a text whose reading this claim is
 reads_always : (octets : List ℕ) (given : Claim)

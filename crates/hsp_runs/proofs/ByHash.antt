@@ -9,14 +9,14 @@ use Rattle.hsp_check.specs.Valid.{IsValid}
 use Rattle.hsp_dispatch.specs.Fronts.{share_of}
 use Rattle.hsp_dispatch.specs.Laws.{KeepsToArcs}
 use Rattle.hsp_dispatch.proofs.ByHash.{goes_by_hash}
-use Rattle.hsp_dispatch.proofs.FrontShares.{share_none}
+use Rattle.hsp_log.proofs.FrontShares.{share_none}
 use Rattle.hsp_runs.specs.Accepted.{IsAcceptedOf}
 use Rattle.hsp_runs.specs.Check.{IsCertificate}
-use Rattle.hsp_runs.specs.Instance.{IsInstanceOf}
+use Rattle.hsp_inputs.specs.Instance.{IsInstanceOf}
 use Rattle.hsp_runs.specs.Laws.{LogsGoByHash}
 use Rattle.hsp_runs.specs.declared.accepted.Accepted.{Accepted}
-use Rattle.hsp_runs.specs.declared.inputs.Inputs as files
-use Rattle.hsp_runs.proofs.PageRead.{hold}
+use Rattle.hsp_inputs.specs.declared.inputs.Inputs as files
+use Rattle.hsp_inputs.proofs.PageRead.{hold}
 
 -- what is accepted was read, and its certificate is valid for its instance
 pub accepted_of : (inputs : files.Inputs) (octets : List ℕ) (accepted : Accepted)

@@ -12,12 +12,12 @@ use Rattle.hsp_dispatch.specs.Runs.{Desk, EndsWhole, Stops, Streams}
 use Rattle.hsp_dispatch.specs.Shares.{plan_of}
 use Rattle.hsp_dispatch.specs.declared.answer.FrontSums.{FrontSums}
 use Rattle.hsp_dispatch.specs.declared.answer.LogSums.{LogSums}
-use Rattle.hsp_dispatch.specs.declared.fault.LogFault.{LogFault}
-use Rattle.hsp_dispatch.specs.declared.fault.LogFault.TheVariants as log_fault
+use Rattle.hsp_log.specs.declared.fault.LogFault.{LogFault}
+use Rattle.hsp_log.specs.declared.fault.LogFault.TheVariants as log_fault
 use Rattle.hsp_runs.specs.Accepted.{plan_in}
 use Rattle.hsp_runs.specs.Dispatch.{AnswersAs, EndsLog, IsBeforeLog, a_dispatcher, so_many}
-use Rattle.hsp_runs.specs.FaultText.{fault_of_log}
-use Rattle.hsp_runs.specs.declared.fault.Fault.{Fault}
+use Rattle.hsp_inputs.specs.FaultText.{fault_of_log}
+use Rattle.hsp_inputs.specs.declared.fault.Fault.{Fault}
 
 -- a result that is of this fault
 pub is_fault : {A : Type 0} (answer : Result A Fault) (fault : Fault) → IsErrAnd answer (λ e. e ≡ fault)

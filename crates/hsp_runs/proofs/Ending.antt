@@ -4,11 +4,11 @@ use Rattle.hsp_csv.specs.Records.{Fields}
 use Rattle.hsp_dispatch.specs.Runs.{Answered, Begins, Desk, EndsWhole, Stops, StopsAt, StopsInLine, StopsSomewhere}
 use Rattle.hsp_dispatch.specs.Runs.{Streams}
 use Rattle.hsp_dispatch.specs.declared.answer.FrontSums.{FrontSums}
-use Rattle.hsp_dispatch.specs.declared.fault.LogFault.{LogFault}
-use Rattle.hsp_dispatch.specs.declared.fault.LogFault.TheVariants as log_fault
+use Rattle.hsp_log.specs.declared.fault.LogFault.{LogFault}
+use Rattle.hsp_log.specs.declared.fault.LogFault.TheVariants as log_fault
 use Rattle.hsp_runs.specs.Dispatch.{EndsLog}
 use Rattle.hsp_runs.specs.Logs.{Ends}
-use Rattle.hsp_runs.specs.declared.fault.Fault.{Fault}
+use Rattle.hsp_inputs.specs.declared.fault.Fault.{Fault}
 
 module _ (one other : Desk) (run : Streams) (heads : one.header ≡ other.header)
     (goes : (form : _) (rows : List Fields) (lines : List (List ℕ)) (sums : FrontSums)

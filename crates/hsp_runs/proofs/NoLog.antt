@@ -3,16 +3,16 @@ use Rattle.std.proofs.Common.{◌≡◌, ◌≢◌, ℕ, List, Option, Some, Non
 use Rattle.hsp_text.specs.Answers.{Then, fault_as}
 use Rattle.hsp_instance.specs.Instance.{Instance}
 use Rattle.hsp_cert.specs.Certificate.{Claim}
-use Rattle.hsp_dispatch.specs.declared.fault.LogFault.{LogFault}
+use Rattle.hsp_log.specs.declared.fault.LogFault.{LogFault}
 use Rattle.hsp_runs.specs.Accepted.{IsAccepted, IsAcceptedOf}
 use Rattle.hsp_runs.specs.Check.{IsCertificate}
-use Rattle.hsp_runs.specs.Instance.{BuildsInstance, IsInstanceOf, ReadsCapacitiesOn, ReadsCostsOn, ReadsValuesOn}
-use Rattle.hsp_runs.specs.Instance.{ReadsDemandOn}
-use Rattle.hsp_runs.specs.Readings.{AreListed, ReadsValues}
-use Rattle.hsp_runs.specs.declared.fault.Fault.{Fault}
-use Rattle.hsp_runs.specs.declared.fault.Fault.TheVariants.{Build, Capacity, Cert, Costs, Demand, Log, Settings}
-use Rattle.hsp_runs.specs.declared.fault.Fault.TheVariants.{Values}
-use Rattle.hsp_runs.specs.declared.inputs.Inputs.{Inputs}
+use Rattle.hsp_inputs.specs.Instance.{BuildsInstance, IsInstanceOf, ReadsCapacitiesOn, ReadsCostsOn, ReadsValuesOn}
+use Rattle.hsp_inputs.specs.Instance.{ReadsDemand, ReadsDemandOn}
+use Rattle.hsp_inputs.specs.Readings.{AreListed, ReadsValues}
+use Rattle.hsp_inputs.specs.declared.fault.Fault.{Fault}
+use Rattle.hsp_inputs.specs.declared.fault.Fault.TheVariants.{Build, Capacity, Cert, Costs, Demand, Log, Settings}
+use Rattle.hsp_inputs.specs.declared.fault.Fault.TheVariants.{Values}
+use Rattle.hsp_inputs.specs.declared.inputs.Inputs.{Inputs}
 
 -- no fault that the relation has is the log's
 abbrev pub HasNoLog : {A : Type 0} → (Result A Fault → Type 0) → Type 0
@@ -43,14 +43,18 @@ values_none None fault of is e = cc (is)
 values_none (Some octets) fault of (Ok values, listed, same) e = cc (same)
 values_none (Some octets) fault of (Err own, listed, same) e = listed_none octets own of listed (cc (same, e))
 
+-- nor have rows that may be left out
+demand_none : (given : Option (List ℕ)) → HasNoLog (ReadsDemand given)
+demand_none None fault of is e = cc (is)
+demand_none (Some octets) fault of is e = no_log_fault Demand (λ own from same. cc (same)) _ fault of is e
+
 -- nor has an instance
 instance_none : (inputs : Inputs) → HasNoLog (IsInstanceOf inputs)
 instance_none inputs =
     then_none _ (ReadsValuesOn inputs)
     (λ fault of is e. no_log_fault Settings (λ own from same. cc (same)) _ fault of is e) (λ settings.
     then_none _ (ReadsDemandOn inputs settings) (values_none _) (λ values.
-    then_none _ (ReadsCostsOn inputs settings values)
-    (λ fault of is e. no_log_fault Demand (λ own from same. cc (same)) _ fault of is e) (λ demand.
+    then_none _ (ReadsCostsOn inputs settings values) (demand_none _) (λ demand.
     then_none _ (ReadsCapacitiesOn inputs settings values demand)
     (λ fault of is e. no_log_fault Costs (λ own from same. cc (same)) _ fault of is e) (λ costs.
     then_none _

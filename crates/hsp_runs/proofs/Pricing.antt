@@ -1,13 +1,18 @@
 -- Inputs that differ in counts, capacities and limits only have networks that do, and printed prices say of them what
 -- prices say.
 use Rattle.std.proofs.Common.{◌≡◌, ℕ, ◌+◌, ◌<◌, ◌≤◌, ◌∙◌, List, [], ◌∷◌, ◌++◌, length, map, Some, None, slice_index_or}
-use Rattle.std.proofs.Common.{refl, ap, ap₂, sym, subst, arith}
+use Rattle.std.proofs.Common.{Ok, refl, ap, ap₂, sym, subst, arith}
 use Rattle.std.specs.List.{position_from, slice_get}
 use Rattle.std.proofs.lemmas.List.{ext_get_or, get_or-map, length-map}
 use Rattle.std.proofs.lemmas.List.Elements.{All-from_recursion}
 use Rattle.std.proofs.lemmas.Option.{get_or_from_slice_get, slice_get-get_or}
 use Rattle.hsp_names.specs.Handle.{ReadingsAreHandles}
-use Rattle.hsp_tables.specs.Costs.{CostEntry}
+use Rattle.hsp_csv.specs.Records.{records_of}
+use Rattle.hsp_tables.specs.Costs.{CostEntry, cost_table}
+use Rattle.hsp_tables.specs.Table.{table_of}
+use Rattle.hsp_tables.specs.declared.limits.Limits.{Limits}
+use Rattle.hsp_tables.specs.declared.limits.Limits.TheVariants.{Logs}
+use Rattle.hsp_tables.proofs.TableRows as table_rows
 use Rattle.hsp_instance.specs.Building as building
 use Rattle.hsp_instance.specs.Building.{arc_to, arcs_from, cost_of, is_at}
 use Rattle.hsp_instance.specs.Instance.{Host, Instance, IsInstance, IsServer, Row, Server, Site, number_at}
@@ -21,8 +26,9 @@ use Rattle.hsp_check.specs.Uses.{table}
 use Rattle.hsp_transport.specs.Sums.{times}
 use Rattle.hsp_check.proofs.Changes.{one_change_is_priced, prices_bound_changes}
 use Rattle.hsp_check.proofs.InstanceNetwork.{is_network}
-use Rattle.hsp_runs.specs.declared.inputs.Inputs.{Inputs}
-use Rattle.hsp_runs.proofs.Page.{Holds, is_read, is_within}
+use Rattle.hsp_inputs.specs.declared.inputs.Inputs.{Inputs}
+use Rattle.hsp_inputs.specs.Limits.{limits_of}
+use Rattle.hsp_inputs.proofs.Page.{Holds, is_read, is_within}
 use Rattle.hsp_runs.specs.Pricing.{DifferInNumbers, PrintedPricesAnswer, without_count, without_limit}
 
 -- ---- arcs go by rows without their counts
@@ -107,12 +113,22 @@ module _ (read other-read : building.Inputs) (it other : Instance) (is : IsInsta
 
 -- ---- the networks, and what prices say
 
+-- costs that are read within any limits are read within those beside a log
+read_widely : (limits : Limits) (text : List ℕ) (rows : List CostEntry)
+    → table_of (cost_table limits) (records_of text) ≡ Ok rows → table_of (cost_table Logs) (records_of text) ≡ Ok rows
+read_widely limits text rows e =
+    let (is, are) = (table_rows.costs_are limits (records_of text) rows).0 e in
+    (table_rows.costs_are Logs (records_of text) rows).1 (is, table_rows.costs_fit limits rows are)
+
 module _ (inputs others : Inputs) (it other : Instance) (read other-read : building.Inputs) (holds : Holds inputs read)
     (other-holds : Holds others other-read)
     (of : BuiltOf read it) (other-of : BuiltOf other-read other) (differ : DifferInNumbers inputs others it other) where
   -- both have the same costs
   same_costs : read.costs ≡ other-read.costs
-  same_costs = let a = holds.costs in let b = rw (← differ.costs) at other-holds.costs in cc (a, b)
+  same_costs =
+      let a = read_widely (limits_of inputs) inputs.costs.items read.costs holds.costs in
+      let b = read_widely (limits_of others) others.costs.items other-read.costs other-holds.costs in
+      let c = rw (← differ.costs) at b in cc (a, c)
 
   -- both have the same arcs
   pub same_arcs : it.arcs ≡ other.arcs

@@ -8,8 +8,8 @@ use Rattle.hsp_record.specs.Values.{HandleValue}
 use Rattle.hsp_instance.specs.Instance.{Site}
 use Rattle.hsp_instance.proofs.Lists.{drop_at}
 use Rattle.hsp_runs.specs.Locate.{site_line, site_lines}
-use Rattle.hsp_runs.specs.declared.fault.Fault.{Fault}
-use Rattle.hsp_runs.specs.declared.fault.Fault.TheVariants as fault
+use Rattle.hsp_inputs.specs.declared.fault.Fault.{Fault}
+use Rattle.hsp_inputs.specs.declared.fault.Fault.TheVariants as fault
 use Rattle.hsp_runs.specs.SiteText.{server_line, server_lines, is_site_value, IsFound, IsRecordRun, IsValueRun}
 
 -- one server more is printed

@@ -16,27 +16,28 @@ use Rattle.hsp_check.specs.Uses.{table}
 use Rattle.hsp_names.specs.Handle.{ReadingsAreHandles}
 use Rattle.hsp_dispatch.specs.Desks.{AnswersEvents, answers_by, by_fronts}
 use Rattle.hsp_dispatch.specs.Dispatch.{IsSame}
-use Rattle.hsp_dispatch.specs.Fronts.{AreFrontsOf, Event, Tables, entries_at, event_answer, event_answers_after}
-use Rattle.hsp_dispatch.specs.Fronts.{front_answers, front_sums_of, left_at_front, share_of, shares_of}
+use Rattle.hsp_dispatch.specs.Fronts.{AreFrontsOf, Tables, event_answer, event_answers_after, front_answers}
+use Rattle.hsp_dispatch.specs.Fronts.{front_sums_of, left_at_front, share_of, shares_of}
+use Rattle.hsp_log.specs.Entries.{Event, entries_at}
 use Rattle.hsp_dispatch.specs.Lines.{front_line}
 use Rattle.hsp_dispatch.specs.Runs.{Streams}
 use Rattle.hsp_dispatch.specs.declared.answer.FrontAnswer.TheVariants.{Answered}
 use Rattle.hsp_dispatch.specs.declared.answer.FrontSums.{FrontSums}
-use Rattle.hsp_dispatch.specs.declared.fault.LogFault.{LogFault}
+use Rattle.hsp_log.specs.declared.fault.LogFault.{LogFault}
 use Rattle.hsp_dispatch.proofs.FrontCounts.{as_dispatchers}
 use Rattle.hsp_dispatch.proofs.FrontLaws.{never_exceeds_together}
 use Rattle.hsp_dispatch.proofs.Resting.{answer_same}
 use Rattle.hsp_runs.specs.Accepted.{IsAcceptedOf}
-use Rattle.hsp_runs.specs.Counts.{above_none}
+use Rattle.hsp_inputs.specs.Counts.{above_none}
 use Rattle.hsp_runs.specs.Dispatch.{AnswersBy, AreAnsweredBy, EndsLog, fronts_at, so_many}
-use Rattle.hsp_runs.specs.Headline.{Defines}
+use Rattle.hsp_inputs.specs.Headline.{Defines}
 use Rattle.hsp_runs.specs.Laws.{FrontsLogsShow}
 use Rattle.hsp_runs.specs.Logs.{AnswersByShares, IsLogAt, IsRefused, ShowsFrontsOf, ShowsPlanOf, by_shares}
 use Rattle.hsp_runs.specs.Shown.{Holds}
 use Rattle.hsp_runs.specs.declared.accepted.Accepted.{Accepted}
-use Rattle.hsp_runs.specs.declared.fault.Fault.{Fault}
-use Rattle.hsp_runs.specs.declared.fault.Fault.TheVariants.{BadFronts, Log}
-use Rattle.hsp_runs.specs.declared.inputs.Inputs.{Inputs}
+use Rattle.hsp_inputs.specs.declared.fault.Fault.{Fault}
+use Rattle.hsp_inputs.specs.declared.fault.Fault.TheVariants.{BadFronts, Log}
+use Rattle.hsp_inputs.specs.declared.inputs.Inputs.{Inputs}
 use Rattle.hsp_runs.proofs.ByHash.{logs_go_by_hash}
 use Rattle.hsp_runs.proofs.Ending.{ends}
 use Rattle.hsp_tables.proofs.TableRows.{whole_is}

@@ -13,25 +13,25 @@ use Rattle.hsp_dispatch.specs.Lines.{line_of}
 use Rattle.hsp_dispatch.specs.Runs.{Streams}
 use Rattle.hsp_dispatch.specs.Desks.{AnswersEntries, by_plan}
 use Rattle.hsp_dispatch.specs.declared.answer.FrontSums.{FrontSums}
-use Rattle.hsp_dispatch.specs.declared.fault.LogFault.{LogFault}
+use Rattle.hsp_log.specs.declared.fault.LogFault.{LogFault}
 use Rattle.hsp_dispatch.specs.declared.answer.LogSums.{LogSums}
 use Rattle.hsp_dispatch.proofs.Dispatching.{never_exceeds}
 use Rattle.hsp_dispatch.proofs.OverCalls.{same_answers}
 use Rattle.hsp_dispatch.proofs.Resting.{rest_same}
 use Rattle.hsp_runs.specs.Accepted.{IsAcceptedOf}
 use Rattle.hsp_runs.specs.Dispatch.{AnswersAs, AnswersBy, EndsLog, IsAnsweredBy, Refuses, Staff, a_dispatcher}
-use Rattle.hsp_runs.specs.Headline.{Defines}
+use Rattle.hsp_inputs.specs.Headline.{Defines}
 use Rattle.hsp_runs.specs.Logs.{IsLogOf, IsRefused, ShowsPlanOf, ShowsLogOf}
 use Rattle.hsp_runs.specs.Shown.{Holds}
 use Rattle.hsp_runs.specs.declared.accepted.Accepted.{Accepted}
-use Rattle.hsp_runs.specs.declared.fault.Fault.{Fault}
-use Rattle.hsp_runs.specs.declared.fault.Fault.TheVariants.{Log, OutOfMemory, WrongKind}
-use Rattle.hsp_runs.specs.declared.inputs.Inputs.{Inputs}
+use Rattle.hsp_inputs.specs.declared.fault.Fault.{Fault}
+use Rattle.hsp_inputs.specs.declared.fault.Fault.TheVariants.{Log, OutOfMemory, WrongKind}
+use Rattle.hsp_inputs.specs.declared.inputs.Inputs.{Inputs}
 use Rattle.hsp_runs.specs.Laws.{DispatchedLogsShow}
 use Rattle.hsp_runs.proofs.Dispatching.{is_fault}
 use Rattle.hsp_runs.proofs.Ending.{ends}
 use Rattle.hsp_runs.proofs.NoLog.{no_log}
-use Rattle.hsp_runs.proofs.PageRead.{gives_the_defined, is_instance}
+use Rattle.hsp_inputs.proofs.PageRead.{gives_the_defined, is_instance}
 use Rattle.hsp_runs.proofs.Showing.{valid_holds}
 use Rattle.hsp_names.specs.Handle.{ReadingsAreHandles}
 use Rattle.hsp_runs.proofs.ByHash.{accepted_of, certificate_is, logs_go_by_hash}

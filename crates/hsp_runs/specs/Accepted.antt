@@ -9,11 +9,11 @@ use Rattle.hsp_check.specs.Valid.{IsValid}
 use Rattle.hsp_check.specs.Verdict.{IsVerdict}
 use Rattle.hsp_check.specs.declared.verdict.Verdict.TheVariants.{No}
 use Rattle.hsp_runs.specs.Check.{IsCertificate}
-use Rattle.hsp_runs.specs.Instance.{IsInstanceOf}
+use Rattle.hsp_inputs.specs.Instance.{IsInstanceOf}
 use Rattle.hsp_runs.specs.declared.accepted.Accepted.{Accepted}
-use Rattle.hsp_runs.specs.declared.fault.Fault.{Fault}
-use Rattle.hsp_runs.specs.declared.fault.Fault.TheVariants.{Refused, WrongKind}
-use Rattle.hsp_runs.specs.declared.inputs.Inputs.{Inputs}
+use Rattle.hsp_inputs.specs.declared.fault.Fault.{Fault}
+use Rattle.hsp_inputs.specs.declared.fault.Fault.TheVariants.{Refused, WrongKind}
+use Rattle.hsp_inputs.specs.declared.inputs.Inputs.{Inputs}
 
 -- the instance with the claim, where that is valid for it, otherwise the first reason why it isn't
 abbrev pub IsAccepted : Instance → Claim → Result Accepted Fault → Type 0

@@ -4,17 +4,13 @@ use Rattle.hsp_instance.specs.Instance.{Instance}
 use Rattle.hsp_cert.specs.Certificate as certificates
 use Rattle.hsp_cert.specs.Certificate.{Claim}
 use Rattle.hsp_cert.specs.Text.{text_of}
-use Rattle.hsp_runs.specs.declared.fault.Fault.{Fault}
-use Rattle.hsp_runs.specs.declared.fault.Fault.TheVariants.{OutOfMemory}
-use Rattle.hsp_runs.specs.Headline.{Defines}
+use Rattle.hsp_inputs.specs.declared.fault.Fault.{Fault}
+use Rattle.hsp_inputs.specs.declared.fault.Fault.TheVariants.{OutOfMemory}
+use Rattle.hsp_inputs.specs.Headline.{Defines}
 use Rattle.hsp_runs.specs.Shown.{Spells}
-use Rattle.hsp_runs.specs.Memory.{IsOrNoMemory}
+use Rattle.hsp_inputs.specs.Memory.{IsOrNoMemory}
 use Rattle.hsp_runs.specs.declared.accepted.Accepted.{Accepted}
-use Rattle.hsp_runs.specs.declared.inputs.Inputs.{Inputs}
-
--- the instance that the inputs define, where they define one
-abbrev pub GivesTheDefinedAlways : Inputs → Result Instance Fault → Type 0
-GivesTheDefinedAlways inputs answer = (it : Instance) → Defines inputs it → IsOrNoMemory it answer
+use Rattle.hsp_inputs.specs.declared.inputs.Inputs.{Inputs}
 
 -- the certificate that the octets spell, where they spell one
 abbrev pub ReadsAlways : List ℕ → Result Claim Fault → Type 0

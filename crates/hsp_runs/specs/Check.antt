@@ -1,6 +1,5 @@
 -- What checking a certificate answers.
-pub use Rattle.hsp_runs.specs.Headline.{ShowsOf}
-pub use Rattle.hsp_runs.specs.Shown.{Holds, HoldsBest, HoldsShort, Shows}
+pub use Rattle.hsp_runs.specs.Shown.{Holds, HoldsBest, HoldsShort, Shows, ShowsOf}
 use Rattle.std.specs.Prelude.{◌≡◌, ◌≢◌, ◌↔◌, ℕ, List, Result, Ok, Err}
 use Rattle.hsp_instance.specs.Instance.{Instance}
 use Rattle.hsp_cert.specs.Certificate.{Claim}
@@ -12,10 +11,10 @@ use Rattle.hsp_check.specs.Valid.{IsValid}
 use Rattle.hsp_check.specs.Verdict as verdicts
 use Rattle.hsp_check.specs.declared.verdict.Verdict.{Verdict}
 use Rattle.hsp_check.specs.declared.verdict.Verdict.TheVariants.{Yes}
-use Rattle.hsp_runs.specs.declared.fault.Fault.{Fault}
-use Rattle.hsp_runs.specs.declared.fault.Fault.TheVariants.{Cert}
-use Rattle.hsp_runs.specs.declared.inputs.Inputs.{Inputs}
-use Rattle.hsp_runs.specs.Instance.{IsInstanceOf}
+use Rattle.hsp_inputs.specs.declared.fault.Fault.{Fault}
+use Rattle.hsp_inputs.specs.declared.fault.Fault.TheVariants.{Cert}
+use Rattle.hsp_inputs.specs.declared.inputs.Inputs.{Inputs}
+use Rattle.hsp_inputs.specs.Instance.{IsInstanceOf}
 use Rattle.hsp_text.specs.Answers.{Then, fault_as}
 
 -- the certificate that octets spell

@@ -12,15 +12,15 @@ use Rattle.hsp_dispatch.specs.Runs.{Desk, EndsWhole, Stops, Streams, streams}
 use Rattle.hsp_dispatch.specs.Shares.{plan_of}
 use Rattle.hsp_dispatch.specs.declared.answer.FrontSums.{FrontSums}
 use Rattle.hsp_dispatch.specs.declared.answer.LogSums.{LogSums}
-use Rattle.hsp_dispatch.specs.declared.fault.LogFault.{LogFault}
+use Rattle.hsp_log.specs.declared.fault.LogFault.{LogFault}
 use Rattle.hsp_text.specs.declared.limits.TheConstants.{MOST_FRONTS}
 use Rattle.hsp_runs.specs.Accepted.{IsAcceptedOf}
-use Rattle.hsp_runs.specs.Counts.{count_at}
+use Rattle.hsp_inputs.specs.Counts.{count_at}
 use Rattle.hsp_runs.specs.declared.accepted.Accepted.{Accepted}
-use Rattle.hsp_runs.specs.FaultText.{fault_of_log}
-use Rattle.hsp_runs.specs.declared.fault.Fault.{Fault}
-use Rattle.hsp_runs.specs.declared.fault.Fault.TheVariants.{BadFronts, Log, OutOfMemory, WrongKind}
-use Rattle.hsp_runs.specs.declared.inputs.Inputs.{Inputs}
+use Rattle.hsp_inputs.specs.FaultText.{fault_of_log}
+use Rattle.hsp_inputs.specs.declared.fault.Fault.{Fault}
+use Rattle.hsp_inputs.specs.declared.fault.Fault.TheVariants.{BadFronts, Log, OutOfMemory, WrongKind}
+use Rattle.hsp_inputs.specs.declared.inputs.Inputs.{Inputs}
 
 -- ---- who answers
 

@@ -3,7 +3,8 @@ use Rattle.std.specs.Prelude.{◌≡◌, ℕ, List, Result, Ok}
 use Rattle.hsp_cert.specs.Certificate.{Best}
 use Rattle.hsp_cert.specs.Certificate.Claim.{best}
 use Rattle.hsp_check.specs.Uses.{table}
-use Rattle.hsp_dispatch.specs.Dispatch.{Entry, answer_to}
+use Rattle.hsp_log.specs.Entries.{Entry}
+use Rattle.hsp_dispatch.specs.Dispatch.{answer_to}
 use Rattle.hsp_dispatch.specs.Fronts.{share_of}
 use Rattle.hsp_dispatch.specs.Laws.{IsByHash}
 use Rattle.hsp_runs.specs.Accepted.{IsAcceptedOf}
@@ -13,8 +14,8 @@ use Rattle.hsp_dispatch.specs.declared.answer.LogSums.{LogSums}
 use Rattle.hsp_runs.specs.Dispatch.{IsDispatched, IsDispatchedAt}
 use Rattle.hsp_runs.specs.Logs.{ShowsFrontsOf, ShowsLogOf}
 use Rattle.hsp_runs.specs.declared.accepted.Accepted.{Accepted}
-use Rattle.hsp_runs.specs.declared.fault.Fault.{Fault}
-use Rattle.hsp_runs.specs.declared.inputs.Inputs.{Inputs}
+use Rattle.hsp_inputs.specs.declared.fault.Fault.{Fault}
+use Rattle.hsp_inputs.specs.declared.inputs.Inputs.{Inputs}
 
 -- Where inputs and a certificate are accepted, each entry is answered by the server that is responsible for
 -- its handle by the hash option of the site: by the certificate's plan, and by any front's share of it.

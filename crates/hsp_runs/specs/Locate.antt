@@ -9,14 +9,14 @@ use Rattle.hsp_hash.specs.declared.option.HashOption.{HashOption}
 use Rattle.hsp_hash.specs.declared.option.HashOption.TheVariants.{ByNa, ByLocal, ByHandle}
 use Rattle.hsp_hash.specs.Place.{server_place}
 use Rattle.hsp_instance.specs.Instance.{Site, SiteServer}
-use Rattle.hsp_runs.specs.Counts.{count_at}
-use Rattle.hsp_runs.specs.declared.fault.Fault.{Fault}
-use Rattle.hsp_runs.specs.declared.fault.Fault.TheVariants.{BadOption, BadServers, Handle}
+use Rattle.hsp_inputs.specs.Counts.{count_at}
+use Rattle.hsp_inputs.specs.declared.fault.Fault.{Fault}
+use Rattle.hsp_inputs.specs.declared.fault.Fault.TheVariants.{BadOption, BadServers, Handle}
 use Rattle.hsp_runs.specs.declared.locate.Locate.{Locate}
 use Rattle.hsp_runs.specs.declared.locate.Locate.TheVariants.{Place, Sites}
 use Rattle.hsp_text.specs.Answers.{◌>>=◌, Then}
 use Rattle.hsp_text.specs.Writing.{numbered}
-use Rattle.hsp_runs.specs.Readings.{AreSitesIn}
+use Rattle.hsp_inputs.specs.Readings.{AreSitesIn}
 
 -- the hash option of a word
 abbrev pub option_at : List ℕ → Result HashOption Fault

@@ -7,24 +7,25 @@ use Rattle.hsp_instance.specs.Instance.{Instance}
 use Rattle.hsp_cert.specs.Certificate as certificates
 use Rattle.hsp_cert.specs.Certificate.Claim.{best}
 use Rattle.hsp_check.specs.Plan.{Plan}
-use Rattle.hsp_dispatch.specs.Desks.{RefusesEvent, by_plan}
-use Rattle.hsp_dispatch.specs.Dispatch.{Entry, all_of, answer_to, answers, assigned_in}
-use Rattle.hsp_dispatch.specs.Fronts.{Event, answers_at, assigned_by_all, entries_at, front_answers}
-use Rattle.hsp_dispatch.specs.Fronts.{front_sums_of, share_of}
+use Rattle.hsp_log.specs.RowChecks.{RefusesEvent}
+use Rattle.hsp_dispatch.specs.Desks.{by_plan}
+use Rattle.hsp_log.specs.Entries.{Entry, Event, entries_at}
+use Rattle.hsp_dispatch.specs.Dispatch.{all_of, answer_to, answers, assigned_in}
+use Rattle.hsp_dispatch.specs.Fronts.{answers_at, assigned_by_all, front_answers, front_sums_of, share_of}
 use Rattle.hsp_dispatch.specs.Laws.{IsByHash}
 use Rattle.hsp_dispatch.specs.Lines.{front_line}
-use Rattle.hsp_dispatch.specs.Log.{AreEvents, front_header}
+use Rattle.hsp_log.specs.Log.{AreEvents, front_header}
 use Rattle.hsp_dispatch.specs.Runs.{Desk, EndsWhole, StopsInLine, StopsSomewhere, Streams}
 use Rattle.hsp_dispatch.specs.declared.answer.FrontAnswer.TheVariants.{Answered}
 use Rattle.hsp_dispatch.specs.declared.answer.FrontSums.{FrontSums}
 use Rattle.hsp_dispatch.specs.declared.answer.LogSums.{LogSums}
-use Rattle.hsp_dispatch.specs.declared.fault.LogFault.{LogFault}
-use Rattle.hsp_runs.specs.Headline.{Defines}
+use Rattle.hsp_log.specs.declared.fault.LogFault.{LogFault}
+use Rattle.hsp_inputs.specs.Headline.{Defines}
 use Rattle.hsp_runs.specs.Shown.{ShowsPlan, Spells}
-use Rattle.hsp_runs.specs.FaultText.{fault_of_log}
-use Rattle.hsp_runs.specs.declared.fault.Fault.{Fault}
-use Rattle.hsp_runs.specs.declared.fault.Fault.TheVariants.{Log, OutOfMemory}
-use Rattle.hsp_runs.specs.declared.inputs.Inputs.{Inputs}
+use Rattle.hsp_inputs.specs.FaultText.{fault_of_log}
+use Rattle.hsp_inputs.specs.declared.fault.Fault.{Fault}
+use Rattle.hsp_inputs.specs.declared.fault.Fault.TheVariants.{Log, OutOfMemory}
+use Rattle.hsp_inputs.specs.declared.inputs.Inputs.{Inputs}
 
 -- A run answered the log to its end, and the sums count the answers; or it stopped at a fault, when it had
 -- answered rows from the log's beginning and written their lines, of the last one perhaps a part. The fault is

@@ -7,9 +7,9 @@ use Rattle.hsp_cert.specs.Text.{text_of}
 use Rattle.hsp_check.specs.Instance.{network_of}
 use Rattle.hsp_check.specs.Valid.{IsValid}
 use Rattle.hsp_flow.specs.Planning.{HasLimitedPrices}
-use Rattle.hsp_runs.specs.declared.fault.Fault.{Fault}
-use Rattle.hsp_runs.specs.declared.inputs.Inputs.{Inputs}
-use Rattle.hsp_runs.specs.Instance.{IsInstanceOf}
+use Rattle.hsp_inputs.specs.declared.fault.Fault.{Fault}
+use Rattle.hsp_inputs.specs.declared.inputs.Inputs.{Inputs}
+use Rattle.hsp_inputs.specs.Instance.{IsInstanceOf}
 use Rattle.hsp_text.specs.Answers.{Then}
 
 -- a certificate's text, and whether it is that of a shortage

@@ -9,9 +9,9 @@ use Rattle.hsp_check.specs.Claims.{OneChangeIsPriced, with_numbers}
 use Rattle.hsp_check.specs.Instance.{capacities_in, demands_in, limits_in, network_of}
 use Rattle.hsp_check.specs.Plan.{Feasible, Plan, total}
 use Rattle.hsp_check.specs.Uses.{table}
-use Rattle.hsp_runs.specs.Headline.{Defines}
+use Rattle.hsp_inputs.specs.Headline.{Defines}
 use Rattle.hsp_runs.specs.Shown.{Spells}
-use Rattle.hsp_runs.specs.declared.inputs.Inputs.{Inputs}
+use Rattle.hsp_inputs.specs.declared.inputs.Inputs.{Inputs}
 
 -- a row without its count, and a host without its limit
 abbrev pub without_count : Row → Row

@@ -8,8 +8,8 @@ use Rattle.hsp_report.specs.RegionReport.{region_report}
 use Rattle.hsp_report.specs.ShortageReport.{shortage_report}
 use Rattle.hsp_runs.specs.Accepted.{IsAcceptedOf, plan_in, shortage_in}
 use Rattle.hsp_runs.specs.declared.accepted.Accepted.{Accepted}
-use Rattle.hsp_runs.specs.declared.fault.Fault.{Fault}
-use Rattle.hsp_runs.specs.declared.inputs.Inputs.{Inputs}
+use Rattle.hsp_inputs.specs.declared.fault.Fault.{Fault}
+use Rattle.hsp_inputs.specs.declared.inputs.Inputs.{Inputs}
 use Rattle.hsp_report.specs.declared.kind.ReportKind.{ReportKind}
 use Rattle.hsp_report.specs.declared.kind.ReportKind.TheVariants.{Load, Region, Shortage}
 

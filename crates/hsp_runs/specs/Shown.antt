@@ -1,6 +1,6 @@
 -- What the text of a certificate shows of an instance: a transportation problem with limits of hosts (Network
 -- Flows, sections 1.2 and 9.1).
-use Rattle.std.specs.Prelude.{◌≡◌, ◌+◌, ◌<◌, true, ℕ, List, length, All}
+use Rattle.std.specs.Prelude.{◌≡◌, ◌+◌, ◌<◌, true, ℕ, List, length, All, Result, IsOkUnless}
 use Rattle.hsp_instance.specs.Instance.{Instance}
 use Rattle.hsp_cert.specs.Certificate as certificates
 use Rattle.hsp_cert.specs.Certificate.{Claim}
@@ -14,6 +14,13 @@ use Rattle.hsp_check.specs.Short.{capacity_of, demand_of}
 use Rattle.hsp_transport.specs.Sums.{times}
 use Rattle.hsp_check.specs.Uses.{table}
 use Rattle.hsp_check.specs.Verdict.{is_one_of}
+use Rattle.hsp_check.specs.declared.verdict.Verdict.{Verdict}
+use Rattle.hsp_check.specs.declared.verdict.Verdict.TheVariants.{Yes}
+use Rattle.hsp_inputs.specs.Headline.{Defines}
+use Rattle.hsp_inputs.specs.Memory.{IsOrNoMemory}
+use Rattle.hsp_inputs.specs.declared.fault.Fault.{Fault}
+use Rattle.hsp_inputs.specs.declared.fault.Fault.TheVariants.{OutOfMemory}
+use Rattle.hsp_inputs.specs.declared.inputs.Inputs.{Inputs}
 
 -- The plan is best: feasible, and no feasible plan costs less. It has the stated cost, no arc's reduced cost is
 -- negative, an arc in use has reduced cost 0, and servers and hosts with room left have price 0 (complementary
@@ -54,3 +61,21 @@ Shows octets it = (claim : Claim) × Spells octets it claim
 -- the octets spell a certificate of a plan that holds, and by the plan it is so
 abbrev pub ShowsPlan : List ℕ → Instance → (Plan → Type 0) → Type 0
 ShowsPlan octets it Is = (plan : certificates.Best) × Spells octets it (best plan) × Is (table plan.uses)
+
+-- ---- what runs show
+
+-- What `plan` prints, and what `check` says Yes to, is the text of a certificate that holds for the instance
+-- of the inputs: of a best plan with prices that show it, or of a short set, with which there is no plan.
+-- Logs.antt says what the logs that `dispatch` and `fronts` answer show.
+abbrev pub ShowsOf : Inputs → List ℕ → Type 0
+ShowsOf inputs octets = (instance : Instance) × Defines inputs instance × Shows octets instance
+
+-- ---- what runs always answer
+
+-- where the inputs define an instance `plan` prints a text, unless memory runs out
+abbrev pub PlansAlways : {X : Type 0} → Inputs → Result X Fault → Type 0
+PlansAlways inputs answer = (instance : Instance) → Defines inputs instance → IsOkUnless answer OutOfMemory
+
+-- where the octets are moreover the text of a certificate that holds for it `check` says Yes, unless memory runs out
+abbrev pub SaysYesAlways : Inputs → List ℕ → Result Verdict Fault → Type 0
+SaysYesAlways inputs octets answer = ShowsOf inputs octets → IsOrNoMemory Yes answer

@@ -11,8 +11,8 @@ use Rattle.hsp_record.specs.Site.{Server, Site, site_format}
 use Rattle.hsp_record.specs.Values.{HandleValue, values_format}
 use Rattle.hsp_record.specs.declared.fault.RecordFault.{RecordFault}
 use Rattle.hsp_record.specs.declared.fault.RecordFault.TheVariants as record_fault
-use Rattle.hsp_runs.specs.declared.fault.Fault.{Fault}
-use Rattle.hsp_runs.specs.declared.fault.Fault.TheVariants as fault
+use Rattle.hsp_inputs.specs.declared.fault.Fault.{Fault}
+use Rattle.hsp_inputs.specs.declared.fault.Fault.TheVariants as fault
 use Rattle.hsp_text.specs.Writing.{numbered, spaced}
 
 abbrev pub numbers_text : Site → List ℕ

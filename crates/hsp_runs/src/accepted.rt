@@ -6,16 +6,14 @@ ghost use Rattle.hsp_check.specs.Instance.{network_of};
 ghost use Rattle.hsp_check.specs.Valid.{IsValid};
 ghost use Rattle.hsp_runs.specs.Accepted.{IsAccepted, IsAcceptedOf, plan_in, shortage_in};
 ghost use Rattle.hsp_runs.specs.Always.{AcceptsAlways, AcceptsClaim};
-ghost use Rattle.hsp_runs.specs.Headline.{Defines};
+ghost use Rattle.hsp_inputs.specs.Headline.{Defines};
 ghost use Rattle.hsp_runs.specs.Shown.{Holds};
-ghost use Rattle.hsp_runs.specs.Memory.{OrNoMemory};
+ghost use Rattle.hsp_inputs.specs.Memory.{OrNoMemory};
 
 use crate::checking::{certificate_in, judged};
-use crate::fault::Fault;
-use crate::inputs::Inputs;
-use crate::instance::instance_in;
 use hsp_cert::{BestRef, Certificate, ShortRef};
 use hsp_check::Verdict;
+use hsp_inputs::{Fault, Inputs, instance_in};
 use hsp_instance::Instance;
 use std::alloc::Global;
 

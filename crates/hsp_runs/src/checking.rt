@@ -5,16 +5,12 @@ ghost use Rattle.hsp_check.specs.Instance.{network_of};
 ghost use Rattle.hsp_check.specs.declared.verdict.Verdict.TheVariants.{Yes};
 ghost use Rattle.hsp_runs.specs.Check.{IsCertificate, IsChecked, IsVerdict, IsVerdictOn};
 ghost use Rattle.hsp_runs.specs.Always.{ReadsAlways};
-ghost use Rattle.hsp_runs.specs.Headline.{SaysYesAlways, ShowsOf};
-ghost use Rattle.hsp_runs.specs.Shown.{Holds, Shows};
-ghost use Rattle.hsp_runs.specs.Memory.{IsOrNoMemory, OrNoMemory};
+ghost use Rattle.hsp_runs.specs.Shown.{SaysYesAlways, ShowsOf, Holds, Shows};
+ghost use Rattle.hsp_inputs.specs.Memory.{IsOrNoMemory, OrNoMemory};
 
-use crate::fault::Fault;
-use crate::inputs::Inputs;
-use crate::instance::instance_in;
-use crate::parts::named;
 use hsp_cert::{Certificate, read_cert};
 use hsp_check::{Verdict, check};
+use hsp_inputs::{Fault, Inputs, instance_in, named};
 use hsp_instance::Instance;
 use std::alloc::Global;
 

@@ -7,9 +7,8 @@ ghost use Rattle.hsp_runs.specs.Dispatch.{AnswersBy, IsBeforeLog, IsDispatched, 
 ghost use Rattle.hsp_runs.specs.Logs.{DispatchesAlways, ShowsLogOf};
 
 use crate::accepted::{Accepted, accepted_in};
-use crate::fault::Fault;
-use crate::inputs::Inputs;
 use hsp_dispatch::{Dispatcher, LogSums, run_log};
+use hsp_inputs::{Fault, Inputs};
 use std::alloc::Global;
 use std::io::{Read, Write};
 

@@ -9,10 +9,8 @@ ghost use Rattle.hsp_runs.specs.Dispatch.{AnswersBy, IsBeforeLog, IsDispatchedAt
 ghost use Rattle.hsp_runs.specs.Logs.{DispatchesAtAlways, ShowsFrontsOf};
 
 use crate::accepted::{Accepted, accepted_in};
-use crate::counts::count_at;
-use crate::fault::Fault;
-use crate::inputs::Inputs;
 use hsp_dispatch::{FrontSums, Fronts, run_fronts};
+use hsp_inputs::{Fault, Inputs, count_at};
 use hsp_text::limits::MOST_FRONTS;
 use std::alloc::Global;
 use std::io::{Read, Write};

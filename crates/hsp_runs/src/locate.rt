@@ -5,11 +5,9 @@ ghost use Rattle.hsp_text.specs.Answers.{Gives, GivesUnless, Stands};
 ghost use Rattle.hsp_names.specs.Lent.{octets_of};
 ghost use Rattle.hsp_runs.specs.Locate.{AreLocated, IsLocated, handle_at, option_at, placed, servers_at};
 
-use crate::counts::count_at;
-use crate::fault::Fault;
-use crate::readings::sites_in;
 use crate::site_lines::site_lines;
 use hsp_hash::{HashOption, server_number};
+use hsp_inputs::{Fault, count_at, sites_in};
 use hsp_names::HandleRef;
 use hsp_text::limits::MOST_SERVERS;
 use hsp_text::push_whole;

@@ -2,16 +2,13 @@
 
 ghost use Rattle.std.specs.Prelude.{◌≡◌, IfOk};
 ghost use Rattle.hsp_cert.specs.Certificate.{IsCertificate};
-ghost use Rattle.hsp_runs.specs.Headline.{PlansAlways, ShowsOf};
-ghost use Rattle.hsp_runs.specs.Shown.{Shows};
+ghost use Rattle.hsp_runs.specs.Shown.{PlansAlways, ShowsOf, Shows};
 ghost use Rattle.hsp_runs.specs.Plan.{IsPlanText, IsPlanned, printed};
-ghost use Rattle.hsp_runs.specs.Memory.{OrNoMemory};
+ghost use Rattle.hsp_inputs.specs.Memory.{OrNoMemory};
 
-use crate::fault::Fault;
-use crate::inputs::Inputs;
-use crate::instance::instance_in;
 use hsp_cert::{Certificate, write_cert};
 use hsp_flow::solve;
+use hsp_inputs::{Fault, Inputs, instance_in};
 use hsp_instance::Instance;
 use std::alloc::{AllocError, Global};
 use std::marker::Model;

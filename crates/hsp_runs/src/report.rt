@@ -6,8 +6,7 @@ ghost use Rattle.hsp_runs.specs.Report.{IsReport, IsReported};
 ghost use Rattle.hsp_text.specs.Answers.{Stands};
 
 use crate::accepted::{Accepted, accepted_in};
-use crate::fault::Fault;
-use crate::inputs::Inputs;
+use hsp_inputs::{Fault, Inputs};
 use hsp_report::{ReportKind, load_report, region_report, shortage_report};
 use std::alloc::Global;
 

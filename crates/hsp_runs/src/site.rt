@@ -1,14 +1,12 @@
 // The fields of a site record, as the program prints them.
 
 ghost use Rattle.std.specs.Prelude.{◌≡◌, ◌++◌, ◌∷◌, [], ◌<◌, length, OnOk, IfOk, option_map, codes};
-ghost use Rattle.hex.specs.Hex.{encode_lower};
 ghost use Rattle.hsp_record.specs.Site.{IsSite};
 ghost use Rattle.hsp_text.specs.Writing.{numbered};
 ghost use Rattle.hsp_runs.specs.SiteText.{IsRecordRun, IsSiteRun, IsValueRun, counts_text, numbers_text, server_line};
 ghost use Rattle.hsp_runs.specs.SiteText.{server_lines, site_text};
 
-use crate::fault::Fault;
-use crate::parts::named;
+use hsp_inputs::{Fault, named, push_address};
 use hsp_record::{ServerRecord, SiteRecord, decode_site, decode_values};
 use hsp_text::{push_line, push_whole, read_whole};
 use std::alloc::{AllocError, Global};
@@ -49,15 +47,6 @@ fn push_counts(out: &mut Vec<u8>, site: &SiteRecord) -> Result<(), AllocError>
     push_filter(out, site.filter())?;
     push_counted(out, b"attributes", site.attribute_count())?;
     push_counted(out, b"servers", site.server_count())
-}
-
-/// Appends the 16 octets of an address in 32 lower-case hexadecimal digits, most significant first.
-pub fn push_address(out: &mut Vec<u8>, address: [u8; 16]) -> Result<(), AllocError>
-    ensures { OnOk result (out.new.items ≡ out.old.items ++ encode_lower address) }
-{
-    let mut digits = [0u8; 32];
-    hex::encode_to_slice(address.as_slice(), &mut digits).unwrap();
-    out.extend_from_slice(&digits)
 }
 
 fn push_server(out: &mut Vec<u8>, place: u32, server: &ServerRecord) -> Result<(), AllocError>

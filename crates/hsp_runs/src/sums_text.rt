@@ -3,8 +3,8 @@
 ghost use Rattle.std.specs.Prelude.{◌≡◌, IfOk};
 ghost use Rattle.hsp_runs.specs.SumsText.{sums_text};
 
-use crate::fault_words::push_with;
 use hsp_dispatch::LogSums;
+use hsp_inputs::push_with;
 use std::alloc::{AllocError, Global};
 
 /// The line that says how many entries of a log were answered by each kind of answer: `assigned 3 spent 1 unknown 1`,

@@ -2,10 +2,10 @@
 
 ghost use Rattle.std.specs.Prelude.{◌≡◌, ◌++◌, IfOk, OnOk};
 ghost use Rattle.hsp_check.specs.Verdict.{number};
-ghost use Rattle.hsp_runs.specs.VerdictText.{reason_word, verdict_status, verdict_text, verdict_words};
+ghost use Rattle.hsp_runs.specs.VerdictText.{verdict_status, verdict_text, verdict_words};
 
-use crate::fault_words::push_with;
 use hsp_check::{Reason, Verdict};
+use hsp_inputs::{push_with, reason_word};
 use std::alloc::{AllocError, Global};
 
 // The number of a reason, in the order in which reasons are looked for.
@@ -24,25 +24,6 @@ fn reason_number(reason: Reason) -> u64
         Reason::DemandSum => 9,
         Reason::CapacitySum => 10,
         Reason::NotShort => 11,
-    }
-}
-
-/// The name of a reason.
-pub(crate) fn reason_word(reason: Reason) -> &'static [u8]
-    ensures { result.now ≡ reason_word reason }
-{
-    match reason {
-        Reason::Shape => b"Shape",
-        Reason::NoSuchUse => b"NoSuchUse",
-        Reason::RowSum => b"RowSum",
-        Reason::Load => b"Load",
-        Reason::Cost => b"Cost",
-        Reason::ArcPrice => b"ArcPrice",
-        Reason::UsedArcPrice => b"UsedArcPrice",
-        Reason::IdlePrice => b"IdlePrice",
-        Reason::DemandSum => b"DemandSum",
-        Reason::CapacitySum => b"CapacitySum",
-        Reason::NotShort => b"NotShort",
     }
 }
 

@@ -1,11 +1,10 @@
 -- Lists of faults as they are written.
 use Rattle.std.proofs.Common.{◌≡◌, ◌∙◌, ◌+◌, ℕ, zero, suc, Bool, true, false, List, [], ◌∷◌, ◌++◌, length, take, Option}
-use Rattle.std.proofs.Common.{Some, None}
-use Rattle.std.proofs.Common.{append_assoc, map, refl, sym, ap, arith, Result, Ok, Err, OnErr}
+use Rattle.std.proofs.Common.{Some, None, append_assoc, map, refl, sym, ap, arith, Result, Ok, Err, OnErr, IfErr, IfOk}
+use Rattle.std.proofs.Common.{IsErrAnd, OnOk, subst}
 use Rattle.std.specs.Prelude.{⊤}
 use Rattle.std.proofs.lemmas.List.{append-nil}
 use Rattle.std.specs.Io.KnownBytes.{Appends}
-use Rattle.std.proofs.Common.{IfErr, IfOk, IsErrAnd, OnOk, subst}
 use Rattle.hsp_csv.specs.Places.{Placed, TakesPlaced}
 use Rattle.hsp_csv.specs.declared.fault.RecordsFault.{RecordsFault}
 use Rattle.hsp_csv.specs.declared.fault.RecordsFault.TheVariants.{OutOfMemory, ReadFailed}
@@ -15,7 +14,7 @@ use Rattle.hsp_tables.specs.Faulty.{faulty_rows}
 use Rattle.hsp_tables.specs.TableChecks.{faulty_behind}
 use Rattle.hsp_tables.specs.declared.table_check.Held.{Held}
 use Rattle.hsp_tables.specs.declared.table_check.Held.TheVariants as held
-use Rattle.hsp_stream.specs.declared.fault.StreamFault.{StreamFault}
+use Rattle.hsp_inputs.specs.declared.stream_fault.StreamFault.{StreamFault}
 use Rattle.hsp_stream.specs.Checkers.{Lists, LooksAt}
 use Rattle.hsp_stream.specs.Faulty.{named}
 use Rattle.hsp_stream.specs.FaultLines.{line_of, lines_of}

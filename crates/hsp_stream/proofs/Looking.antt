@@ -7,16 +7,16 @@ use Rattle.hsp_csv.specs.Records.{Fields}
 use Rattle.hsp_csv.specs.declared.found.Checked.{Checked}
 use Rattle.hsp_csv.specs.declared.found.Checked.TheVariants.{Faulty, Good, Last}
 use Rattle.hsp_csv.specs.declared.found.Found.{Found}
-use Rattle.hsp_dispatch.specs.declared.row_check.LogForm.{LogForm}
+use Rattle.hsp_log.specs.declared.form.LogForm.{LogForm}
 use Rattle.hsp_tables.specs.TableChecks.{faulty_from}
 use Rattle.hsp_tables.specs.declared.fault.TableFault.{TableFault}
 use Rattle.hsp_tables.specs.declared.table_check.TableCheck.{TableCheck}
 use Rattle.hsp_tables.specs.declared.table_check.TableKind.{TableKind}
-use Rattle.hsp_stream.specs.RowChecks.{count_fault}
-use Rattle.hsp_stream.specs.declared.fault.StreamFault.{StreamFault}
+use Rattle.hsp_log.specs.RowFaults.{count_fault}
+use Rattle.hsp_inputs.specs.declared.stream_fault.StreamFault.{StreamFault}
 use Rattle.hsp_stream.specs.Checkers.{LooksAt, checked_named}
-use Rattle.hsp_stream.specs.Faulty.{Continues, IsDispatched, counted, handled, named, next_of_32, next_of_64}
-use Rattle.hsp_stream.specs.Faulty.{region_in, regions_behind}
+use Rattle.hsp_stream.specs.Faulty.{Continues, IsDispatched, counted, handled, named, next_of_32, next_of_64, region_in}
+use Rattle.hsp_stream.specs.Faulty.{regions_behind}
 use Rattle.hsp_stream.specs.declared.checker.Checker.TheVariants as checker
 
 -- what goes on with known faults is a list of them

@@ -7,8 +7,8 @@ use Rattle.hsp_talk.specs.declared.stop.Stop.{Stop}
 use Rattle.hsp_talk.specs.declared.stop.Stop.TheVariants as stop
 use Rattle.hsp_stream.specs.Places.{PlacesState, RefusesHandle, TakesHandle, at_start}
 use Rattle.hsp_stream.specs.PlacesRun.{AreAnswered, HasStopped, IsStoppedBy}
-use Rattle.hsp_stream.specs.declared.fault.RowFault.{RowFault}
-use Rattle.hsp_stream.specs.declared.fault.RowFault.TheVariants as row
+use Rattle.hsp_log.specs.declared.fault.RowFault.{RowFault}
+use Rattle.hsp_log.specs.declared.fault.RowFault.TheVariants as row
 
 module _ (sites : List Site) (first last : PlacesState) (start : first ≡ at_start sites) where
   -- all rows were answered after a header

@@ -17,7 +17,7 @@ use Rattle.hsp_stream.specs.Places.{handle_field, handle_in_row, header_by, head
 use Rattle.hsp_stream.specs.PlacesLaws.{GivesHandle, HandlesIn, HandlesOf, HasHandle, PlacesArePrinted, header_of}
 use Rattle.hsp_stream.specs.declared.handle_rows.HandleForm.{HandleForm}
 use Rattle.hsp_stream.specs.declared.handle_rows.HandleForm.TheVariants.{Handle, RegionAndHandle}
-use Rattle.hsp_stream.proofs.LogRows.{handle_own}
+use Rattle.hsp_log.proofs.LogRows.{handle_own}
 use Rattle.hsp_text.specs.Answers.{◌>>=◌}
 use Rattle.hsp_text.proofs.Steps.{first_step}
 

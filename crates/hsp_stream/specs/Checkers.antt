@@ -7,7 +7,7 @@ use Rattle.hsp_csv.specs.declared.found.Found.{Found}
 use Rattle.hsp_tables.specs.TableChecks.{AreKept, faulty_from}
 use Rattle.hsp_tables.specs.declared.fault.TableFault.{TableFault}
 use Rattle.hsp_tables.specs.declared.table_check.TableKind.{TableKind}
-use Rattle.hsp_stream.specs.declared.fault.StreamFault.{StreamFault}
+use Rattle.hsp_inputs.specs.declared.stream_fault.StreamFault.{StreamFault}
 use Rattle.hsp_stream.specs.Faulty.{Continues, ListsDispatched, counted_from, faults_by, handled, named}
 use Rattle.hsp_stream.specs.declared.checker.Checker.{Checker}
 use Rattle.hsp_stream.specs.declared.checker.Checker.TheVariants as checker

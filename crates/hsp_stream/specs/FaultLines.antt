@@ -1,8 +1,8 @@
 -- Faulty rows as lines.
 use Rattle.std.specs.Prelude.{◌++◌, ◌∷◌, [], ℕ, List, Option, Some, None, codes, decimal}
 use Rattle.hsp_csv.specs.declared.found.Found.{Found}
-use Rattle.hsp_stream.specs.Lines.{fault_words}
-use Rattle.hsp_stream.specs.declared.fault.StreamFault.{StreamFault}
+use Rattle.hsp_inputs.specs.StreamFaultText.{fault_words}
+use Rattle.hsp_inputs.specs.declared.stream_fault.StreamFault.{StreamFault}
 
 -- the first line
 abbrev pub header_line : List ℕ

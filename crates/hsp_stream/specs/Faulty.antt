@@ -9,21 +9,21 @@ use Rattle.hsp_csv.specs.declared.found.Checked.{Checked}
 use Rattle.hsp_csv.specs.declared.found.Checked.TheVariants.{Faulty, Good, Last}
 use Rattle.hsp_csv.specs.declared.found.Found.{Found}
 use Rattle.hsp_text.specs.declared.limits.TheConstants.{MOST_LOG_ROWS}
-use Rattle.hsp_dispatch.specs.RowChecks.{IsRowRefused, IsSpelled, field_at_fault, log_header}
-use Rattle.hsp_dispatch.specs.declared.fault.LogFault.{LogFault}
-use Rattle.hsp_dispatch.specs.declared.fault.LogFault.TheVariants.{Header as LogHeader, LogTooLong}
-use Rattle.hsp_dispatch.specs.declared.row_check.LogForm.{LogForm}
-use Rattle.hsp_runs.specs.declared.fault.Fault.TheVariants as input
+use Rattle.hsp_log.specs.RowChecks.{IsRowRefused, IsSpelled, field_at_fault, log_header}
+use Rattle.hsp_log.specs.declared.fault.LogFault.{LogFault}
+use Rattle.hsp_log.specs.declared.fault.LogFault.TheVariants.{Header as LogHeader, LogTooLong}
+use Rattle.hsp_log.specs.declared.form.LogForm.{LogForm}
+use Rattle.hsp_inputs.specs.declared.fault.Fault.TheVariants as input
 use Rattle.hsp_tables.specs.TableChecks.{faulty_at_start, header_of}
 use Rattle.hsp_tables.specs.declared.fault.TableFault.{TableFault}
 use Rattle.hsp_tables.specs.declared.fault.TableFault.TheVariants.{Header}
 use Rattle.hsp_tables.specs.declared.table_check.TableKind.{TableKind}
 use Rattle.hsp_tables.specs.declared.table_check.TableKind.TheVariants as kind
-use Rattle.hsp_stream.specs.RowChecks.{count_fault, handle_fault, is_count_header, is_handle_header}
-use Rattle.hsp_stream.specs.declared.fault.RowFault.{RowFault}
-use Rattle.hsp_stream.specs.declared.fault.RowFault.TheVariants.{BadHandle, BadName, BadNumber, TooManyRegions}
-use Rattle.hsp_stream.specs.declared.fault.StreamFault.{StreamFault}
-use Rattle.hsp_stream.specs.declared.fault.StreamFault.TheVariants.{Input, Log}
+use Rattle.hsp_log.specs.RowFaults.{count_fault, handle_fault, is_count_header, is_handle_header}
+use Rattle.hsp_log.specs.declared.fault.RowFault.{RowFault}
+use Rattle.hsp_log.specs.declared.fault.RowFault.TheVariants.{BadHandle, BadName, BadNumber, TooManyRegions}
+use Rattle.hsp_inputs.specs.declared.stream_fault.StreamFault.{StreamFault}
+use Rattle.hsp_inputs.specs.declared.stream_fault.StreamFault.TheVariants.{Input, Log}
 use Rattle.hsp_stream.specs.Regions.{has_room, with_region}
 use Rattle.hsp_stream.specs.declared.checker.Asked.{Asked}
 use Rattle.hsp_stream.specs.declared.checker.Asked.TheVariants as asked

@@ -13,8 +13,8 @@ use Rattle.hsp_talk.specs.declared.stop.Refusal.TheVariants as refusal
 use Rattle.hsp_csv.specs.Row.{Shape, row_of}
 use Rattle.hsp_csv.specs.Row.Shape.{blank, one, other, two}
 use Rattle.hsp_stream.specs.PlaceLines.{header_line, place_lines}
-use Rattle.hsp_stream.specs.declared.fault.RowFault.{RowFault}
-use Rattle.hsp_stream.specs.declared.fault.RowFault.TheVariants.{BadHandle, Fields, Header}
+use Rattle.hsp_log.specs.declared.fault.RowFault.{RowFault}
+use Rattle.hsp_log.specs.declared.fault.RowFault.TheVariants.{BadHandle, Fields, Header}
 use Rattle.hsp_stream.specs.declared.handle_rows.HandleForm.{HandleForm}
 use Rattle.hsp_stream.specs.declared.handle_rows.HandleForm.TheVariants.{Handle, RegionAndHandle}
 

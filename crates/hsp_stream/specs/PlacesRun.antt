@@ -1,16 +1,16 @@
 -- A run that states the servers of the handles of a log.
 use Rattle.std.specs.Prelude.{◌≡◌, ◌⊎◌, true, false, ℕ, List, is_some, Option, Ok, Err}
 use Rattle.hsp_instance.specs.Instance.{Site}
-use Rattle.hsp_runs.specs.Readings.{AreSitesIn}
+use Rattle.hsp_inputs.specs.Readings.{AreSitesIn}
 use Rattle.hsp_talk.specs.Known.{Known, Went}
 use Rattle.hsp_talk.specs.Talk.{Event, HeldToTheEnd, StoppedBy}
 use Rattle.hsp_talk.specs.declared.stop.Stop.{Stop}
 use Rattle.hsp_talk.specs.declared.stop.Stop.TheVariants as stop
 use Rattle.hsp_stream.specs.Places.{PlacesState, RefusesHandle, TakesHandle, at_start}
-use Rattle.hsp_stream.specs.declared.fault.RowFault.{RowFault}
-use Rattle.hsp_stream.specs.declared.fault.RowFault.TheVariants as row
-use Rattle.hsp_stream.specs.declared.fault.StreamFault.{StreamFault}
-use Rattle.hsp_stream.specs.declared.fault.StreamFault.TheVariants as fault
+use Rattle.hsp_log.specs.declared.fault.RowFault.{RowFault}
+use Rattle.hsp_log.specs.declared.fault.RowFault.TheVariants as row
+use Rattle.hsp_inputs.specs.declared.stream_fault.StreamFault.{StreamFault}
+use Rattle.hsp_inputs.specs.declared.stream_fault.StreamFault.TheVariants as fault
 
 -- the responder took all rows until the end, from its start
 abbrev pub AreTakenAll : List Site → PlacesState → List Event → Type 0

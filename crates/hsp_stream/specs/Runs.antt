@@ -5,7 +5,7 @@ use Rattle.hsp_csv.specs.Places.{Placed}
 use Rattle.hsp_csv.specs.declared.fault.RecordsFault.{RecordsFault}
 use Rattle.hsp_csv.specs.declared.fault.RecordsFault.TheVariants as records
 use Rattle.hsp_csv.specs.declared.found.Found.{Found}
-use Rattle.hsp_stream.specs.declared.fault.StreamFault.{StreamFault}
+use Rattle.hsp_inputs.specs.declared.stream_fault.StreamFault.{StreamFault}
 use Rattle.hsp_stream.specs.Checkers.{Lists}
 use Rattle.hsp_stream.specs.Faulty.{AreFaultsOf, ListsBelow}
 use Rattle.hsp_stream.specs.FaultLines.{lines_of, text_of}

@@ -6,24 +6,25 @@ ghost use Rattle.hsp_csv.specs.Places.{Placed};
 ghost use Rattle.hsp_csv.specs.Walks.{shown};
 ghost use Rattle.hsp_csv.specs.declared.found.Checked.TheVariants.{Faulty, Last};
 ghost use Rattle.hsp_csv.specs.declared.found.Found.{Found as FoundFault};
-ghost use Rattle.hsp_dispatch.specs.RowChecks.{field_at_fault};
-ghost use Rattle.hsp_runs.specs.declared.fault.Fault.TheVariants.{Log};
-ghost use Rattle.hsp_stream.specs.declared.fault.StreamFault.{StreamFault};
-ghost use Rattle.hsp_stream.specs.declared.fault.StreamFault.TheVariants.{Input};
+ghost use Rattle.hsp_log.specs.RowChecks.{field_at_fault};
+ghost use Rattle.hsp_inputs.specs.declared.fault.Fault.TheVariants.{Log};
+ghost use Rattle.hsp_inputs.specs.declared.stream_fault.StreamFault.{StreamFault};
+ghost use Rattle.hsp_inputs.specs.declared.stream_fault.StreamFault.TheVariants.{Input};
 ghost use Rattle.hsp_stream.specs.Checkers.{IsReady, Lists, LooksAt, checked_named};
 ghost use Rattle.hsp_stream.specs.Faulty.{IsDispatched, IsHeadedBy, IsUnheaded, ListsBelow, counted, counted_field};
 ghost use Rattle.hsp_stream.specs.Faulty.{fault_behind, fault_of_table, found_at, found_beyond, handle_field, handled};
 ghost use Rattle.hsp_stream.specs.Faulty.{header_fault, named, region_in, regions_behind};
-ghost use Rattle.hsp_stream.specs.RowChecks.{count_fault};
+ghost use Rattle.hsp_log.specs.RowFaults.{count_fault};
 
-use crate::fault::{RowFault, StreamFault};
-use crate::regions::Regions;
-use crate::row_check::{count_fault, handle_fault, is_count_header, is_handle_header};
+use crate::regions::see_region;
 use csv::ByteRecord;
 use hsp_csv::{Checked, Found, PlacedRecord};
-use hsp_dispatch::{LogFault, LogForm, check_row, field_at_fault, log_form_of};
-use hsp_runs::Fault;
-use hsp_tables::{TableCheck, TableFault, TableKind, is_table_header};
+use hsp_inputs::{Fault, StreamFault};
+use hsp_log::{
+    LogFault, LogForm, RowFault, check_row, count_fault, field_at_fault, handle_fault,
+    is_count_header, is_handle_header, log_form_of,
+};
+use hsp_tables::{Regions, TableCheck, TableFault, TableKind, is_table_header};
 use hsp_text::limits::MOST_LOG_ROWS;
 use std::alloc::{AllocError, Global};
 
@@ -241,7 +242,7 @@ fn fault_behind(
     if let Some(fault) = count_fault(row, fields) {
         return Ok(Some(fault));
     }
-    if regions.see(alloc, region_in(fields))? {
+    if see_region(alloc, regions, region_in(fields))? {
         return Ok(None);
     }
     Ok(Some(RowFault::TooManyRegions { row }))

@@ -12,12 +12,12 @@ ghost use Rattle.hsp_stream.specs.Runs.{LinesAreListed, MayStop, RowsAreBegun, R
 ghost use Rattle.hsp_stream.specs.declared.faulty_rows.FaultsStop.TheVariants.{OutOfMemory};
 
 use crate::checker::{Asked, Checker, Headed, headed_by, header_fault};
-use crate::fault::StreamFault;
 use crate::lines::{HEADER_LINE, push_found};
-use crate::watched::{Watch, Watched};
 use hsp_csv::{
     Checked, Found, Place, PlacedReader, PlacedRecord, RecordsFault, read_placed, take_placed,
 };
+use hsp_inputs::StreamFault;
+use hsp_log::{Watch, Watched};
 use hsp_talk::{Sink, Source};
 use std::alloc::{AllocError, Global};
 use std::io::Read;

@@ -5,8 +5,8 @@ ghost use Rattle.hsp_names.specs.Lent.{octets_of};
 ghost use Rattle.hsp_csv.specs.Row.{row_shown};
 ghost use Rattle.hsp_stream.specs.Places.{GivesOrRefuses, form_of, handle_field, handle_in_row, header_in};
 
-use crate::fault::RowFault;
 use hsp_csv::{RowFields, RowReader, without_mark};
+use hsp_log::RowFault;
 use hsp_names::{HandleFault, HandleRef};
 use hsp_talk::{LONGEST_ROW, Refusal};
 use std::alloc::Global;

@@ -3,9 +3,8 @@
 ghost use Rattle.std.specs.Prelude.{◌≡◌, ◌++◌, OnOk};
 ghost use Rattle.hsp_stream.specs.FaultLines.{line_of, number_text};
 
-use crate::fault::StreamFault;
-use crate::fault_text::push_fault_words;
 use hsp_csv::Found;
+use hsp_inputs::{StreamFault, push_fault_words};
 use hsp_text::push_whole;
 use std::alloc::AllocError;
 

@@ -3,11 +3,11 @@
 ghost use Rattle.std.specs.Prelude.{◌⊎◌, IfErr, OnOk, option_map};
 ghost use Rattle.hsp_talk.specs.Known.{IsHandedOn};
 ghost use Rattle.hsp_stream.specs.PlacesRun.{ArePlaced, ArePlacedUntil};
-ghost use Rattle.hsp_stream.specs.TalkFaults.{IsFailedWrite, MayStopBy};
+ghost use Rattle.hsp_inputs.specs.Stopping.{IsFailedWrite, MayStopBy};
 
-use crate::fault::{RowFault, StreamFault};
 use crate::places_responder::PlacesResponder;
-use hsp_runs::sites_in;
+use hsp_inputs::{StreamFault, sites_in};
+use hsp_log::RowFault;
 use hsp_talk::{Peer, Stop, talk};
 use std::alloc::Global;
 

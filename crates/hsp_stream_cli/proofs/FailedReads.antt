@@ -1,7 +1,7 @@
 -- A reader may fail only where its file may.
 use Rattle.std.proofs.Common.{◌≡◌, ◌⊎◌, inl, inr, List, ℕ, Option}
-use Rattle.hsp_stream.specs.Watching.{MayStopReading}
-use Rattle.hsp_stream.specs.declared.fault.StreamFault.{StreamFault}
+use Rattle.hsp_inputs.specs.Stopping.{MayStopReading}
+use Rattle.hsp_inputs.specs.declared.stream_fault.StreamFault.{StreamFault}
 
 -- so it is where a run stopped by a read
 stops_weaker : (MayReadFail DiskFails Other : Type 0) (fault : StreamFault) → (MayReadFail → DiskFails)

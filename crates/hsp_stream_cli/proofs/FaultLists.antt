@@ -1,6 +1,6 @@
 -- Lists of faulty rows that are handed on.
-use Rattle.std.proofs.Common.{◌≡◌, ◌≢◌, ◌⊎◌, ◌∙◌, inl, inr, ℕ, Bool, List, []}
-use Rattle.std.proofs.Common.{Option, Some, None, Ok, Err, option_map, refl, sym, take}
+use Rattle.std.proofs.Common.{◌≡◌, ◌≢◌, ◌⊎◌, ◌∙◌, inl, inr, ℕ, Bool, List, [], Option, Some, None, Ok, Err, option_map}
+use Rattle.std.proofs.Common.{refl, sym, take}
 use Rattle.std.proofs.lemmas.List.{append-nil}
 use Rattle.std.specs.Prelude.{⊤}
 use Rattle.std.specs.Io.KnownBytes.{Appends, Keeps}
@@ -18,8 +18,8 @@ use Rattle.hsp_stream.specs.declared.faulty_rows.FaultsStop.TheVariants as stop
 use Rattle.hsp_stream.proofs.Listing.{begun_whole}
 use Rattle.hsp_stream_cli.specs.Faults.{EndsList, HoldsText, ReadsMayFail, ended_with, stopped_by}
 use Rattle.hsp_stream_cli.specs.Printing.{Ended}
-use Rattle.hsp_stream.specs.declared.fault.RowFault.TheVariants as row
-use Rattle.hsp_stream.specs.declared.fault.StreamFault.TheVariants as fault
+use Rattle.hsp_log.specs.declared.fault.RowFault.TheVariants as row
+use Rattle.hsp_inputs.specs.declared.stream_fault.StreamFault.TheVariants as fault
 
 -- what was written is kept
 appends_kept : (old middle new : Option (List ℕ)) (text : List ℕ) → Appends old middle text → Keeps middle new

@@ -3,24 +3,23 @@ use Rattle.std.proofs.Common.{◌≡◌, ◌⊎◌, inl, inr, ℕ, List, Option,
 use Rattle.std.specs.Borrow.{GName}
 use Rattle.hsp_cli.specs.declared.failure.Failure.TheVariants.{Refused}
 use Rattle.hsp_instance.specs.Instance.{Instance}
-use Rattle.hsp_runs.specs.declared.fault.Fault.{Fault}
-use Rattle.hsp_runs.specs.declared.inputs.Inputs.{Inputs}
-use Rattle.hsp_talk.specs.Known.{Known}
-use Rattle.hsp_talk.specs.Known.{IsHandedOn as IsKnownHanded}
+use Rattle.hsp_inputs.specs.declared.fault.Fault.{Fault}
+use Rattle.hsp_inputs.specs.declared.inputs.Inputs.{Inputs}
+use Rattle.hsp_talk.specs.Known.{Known, IsHandedOn as IsKnownHanded}
 use Rattle.hsp_prices.specs.Rows.{Service}
-use Rattle.hsp_dispatch.specs.declared.front_share.Front.{Front}
+use Rattle.hsp_log.specs.declared.front_share.Front.{Front}
 use Rattle.hsp_price_text.specs.declared.certificate.PriceCertificate.{PriceCertificate}
 use Rattle.hsp_price_text.specs.declared.certificate.PriceCertificate.TheVariants as prices
 use Rattle.hsp_price_answers.specs.FrontWords.{front_spelled}
 use Rattle.hsp_price_answers.specs.PriceAnswerRun.{AnswersClaim, AnswersFront, AnswersInstance, AnswersReading}
 use Rattle.hsp_price_answers.specs.PriceAnswerRun.{AnswersText, IsPriceAnswered, PriceRun}
 use Rattle.hsp_price_answers.specs.declared.front_words.FrontChoice.{FrontChoice}
-use Rattle.hsp_stream.specs.Answering.{AnswersRows}
-use Rattle.hsp_stream.specs.AnswerRun.{EndsTalk, Refuses, RunOf}
+use Rattle.hsp_price_answers.specs.Answering.{AnswersRows}
+use Rattle.hsp_price_answers.specs.AnswerRun.{EndsTalk, Refuses, RunOf}
 use Rattle.hsp_stream.specs.PlacesRun.{ArePlaced, ArePlacedUntil}
-use Rattle.hsp_stream.specs.declared.fault.RowFault.TheVariants as row
-use Rattle.hsp_stream.specs.declared.fault.StreamFault.{StreamFault}
-use Rattle.hsp_stream.specs.declared.fault.StreamFault.TheVariants as fault
+use Rattle.hsp_log.specs.declared.fault.RowFault.TheVariants as row
+use Rattle.hsp_inputs.specs.declared.stream_fault.StreamFault.{StreamFault}
+use Rattle.hsp_inputs.specs.declared.stream_fault.StreamFault.TheVariants as fault
 use Rattle.hsp_stream_cli.specs.Printing.{Ended, IsFailedWrite, IsHandedOn}
 use Rattle.hsp_stream_cli.specs.Talking.{MayEnd, TalksOver}
 

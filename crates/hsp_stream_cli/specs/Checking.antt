@@ -6,9 +6,9 @@ use Rattle.hsp_cli.specs.declared.failure.Failure.TheVariants.{Memory, Refused}
 use Rattle.hsp_price_runs.specs.PriceRun.{IsPriceVerdict}
 use Rattle.hsp_price_runs.specs.PricesShown.{ShowsLog}
 use Rattle.hsp_price_runs.specs.PriceVerdictText.{verdict_status, verdict_text}
-use Rattle.hsp_stream.specs.LogRows.{OfLog}
-use Rattle.hsp_stream.specs.Watching.{MayStopReading}
-use Rattle.hsp_stream.specs.declared.fault.StreamFault.{StreamFault}
+use Rattle.hsp_log.specs.LogRows.{OfLog}
+use Rattle.hsp_inputs.specs.Stopping.{MayStopReading}
+use Rattle.hsp_inputs.specs.declared.stream_fault.StreamFault.{StreamFault}
 use Rattle.hsp_stream_cli.specs.Printing.{Ended, PrintsWith}
 use Rattle.hsp_stream_cli.specs.declared.files.Priced.{Priced}
 

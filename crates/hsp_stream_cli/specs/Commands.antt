@@ -15,12 +15,12 @@ use Rattle.hsp_cli.specs.Failing as failing
 use Rattle.hsp_cli.specs.Failing.{failure_of}
 use Rattle.hsp_cli.specs.Files.{Disk, HoldsRest}
 use Rattle.hsp_cli.specs.declared.failure.Failure.TheVariants.{Memory}
-use Rattle.hsp_runs.specs.declared.inputs.Inputs.{Inputs}
+use Rattle.hsp_inputs.specs.declared.inputs.Inputs.{Inputs}
 use Rattle.hsp_price_answers.specs.declared.front_words.FrontChoice.{FrontChoice}
 use Rattle.hsp_stream_cli.specs.Checking.{PrintsVerdict}
 use Rattle.hsp_stream_cli.specs.Faults.{EndsList, HoldsText, ReadsMayFail, asked_for}
-use Rattle.hsp_stream_cli.specs.Files.{ArePricesHeld, AreServiceHeld, AreSourcesHeld}
-use Rattle.hsp_stream_cli.specs.Files.{PricesFail, ServiceFails, SourcesFail}
+use Rattle.hsp_stream_cli.specs.Files.{ArePricesHeld, AreServiceHeld, AreSourcesHeld, PricesFail, ServiceFails}
+use Rattle.hsp_stream_cli.specs.Files.{SourcesFail}
 use Rattle.hsp_stream_cli.specs.Listing.{PrintsInterfaces}
 use Rattle.hsp_stream_cli.specs.Planning.{PrintsPlan}
 use Rattle.hsp_stream_cli.specs.Printing.{Ended, PrintsText}

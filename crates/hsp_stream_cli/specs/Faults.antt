@@ -7,9 +7,9 @@ use Rattle.hsp_cli.specs.declared.failure.Failure.{Failure}
 use Rattle.hsp_cli.specs.declared.failure.Failure.TheVariants.{Memory, Refused, Write}
 use Rattle.hsp_cli_orders.specs.declared.stream_order.FaultsOf.{FaultsOf}
 use Rattle.hsp_cli_orders.specs.declared.stream_order.FaultsOf.TheVariants as of
-use Rattle.hsp_stream.specs.declared.fault.RowFault.TheVariants.{ReadFailed}
-use Rattle.hsp_stream.specs.declared.fault.StreamFault.{StreamFault}
-use Rattle.hsp_stream.specs.declared.fault.StreamFault.TheVariants.{Log}
+use Rattle.hsp_log.specs.declared.fault.RowFault.TheVariants.{ReadFailed}
+use Rattle.hsp_inputs.specs.declared.stream_fault.StreamFault.{StreamFault}
+use Rattle.hsp_inputs.specs.declared.stream_fault.StreamFault.TheVariants.{Log}
 use Rattle.hsp_stream.specs.Runs.{IsListBegun, IsListed}
 use Rattle.hsp_stream.specs.declared.checker.Asked.{Asked}
 use Rattle.hsp_stream.specs.declared.checker.Asked.TheVariants as asked

@@ -1,25 +1,24 @@
 -- The files of commands.
-use Rattle.std.specs.Prelude.{◌≡◌, ◌⊎◌, option_map}
+use Rattle.std.specs.Prelude.{◌≡◌, ◌⊎◌, None, option_map}
 use Rattle.hsp_cli.specs.Commands.{FailsNamed, HoldsNamed}
 use Rattle.hsp_cli.specs.Files.{Disk}
 use Rattle.hsp_cli_orders.specs.declared.stream_order.PriceFiles.{PriceFiles}
 use Rattle.hsp_cli_orders.specs.declared.stream_order.ServiceFiles.{ServiceFiles}
 use Rattle.hsp_cli_orders.specs.declared.stream_order.SiteFiles.{SiteFiles}
-use Rattle.hsp_runs.specs.declared.inputs.Inputs.{Inputs}
+use Rattle.hsp_inputs.specs.declared.inputs.Inputs.{Inputs}
 use Rattle.hsp_stream_cli.specs.declared.files.Priced.{Priced}
 use Rattle.hsp_stream_cli.specs.declared.files.Sources.{Sources}
-use Rattle.hsp_stream_cli.specs.declared.files.TheConstants.{NO_ROWS}
 
 -- each source is what its own file holds
 pub record AreSourcesHeld (disk : Disk) (files : SiteFiles) (sources : Sources) : Type 0 where
   pub settings_held : disk.holds files.settings sources.settings.items
   pub values_held : HoldsNamed disk files.values (option_map (λ v. v.items) sources.values)
 
--- the same of the inputs of a service, whose table of demand has no row
+-- the same of the inputs of a service, whose rows are those of a log
 pub record AreServiceHeld (disk : Disk) (files : ServiceFiles) (inputs : Inputs) : Type 0 where
   pub settings_held : disk.holds files.settings inputs.settings.items
   pub values_held : HoldsNamed disk files.values (option_map (λ v. v.items) inputs.values)
-  pub demand_is : inputs.demand.items ≡ NO_ROWS.now
+  pub no_demand : inputs.demand ≡ None
   pub costs_held : disk.holds files.costs inputs.costs.items
   pub capacity_held : disk.holds files.capacity inputs.capacity.items
 

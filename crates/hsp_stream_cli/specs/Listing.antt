@@ -1,10 +1,10 @@
 -- Tables of service interfaces.
 use Rattle.std.specs.Prelude.{◌≡◌, ◌⊎◌, ℕ, List, Option, option_map, Result, Ok, Err}
 use Rattle.hsp_cli.specs.declared.failure.Failure.TheVariants.{Refused}
-use Rattle.hsp_runs.specs.declared.fault.Fault.{Fault}
-use Rattle.hsp_runs.specs.declared.fault.Fault.TheVariants.{OutOfMemory}
-use Rattle.hsp_interfaces.specs.Interfaces.{AreInterfacesIn}
-use Rattle.hsp_stream.specs.Faults.{fault_of_input}
+use Rattle.hsp_inputs.specs.declared.fault.Fault.{Fault}
+use Rattle.hsp_inputs.specs.declared.fault.Fault.TheVariants.{OutOfMemory}
+use Rattle.hsp_stream.specs.Interfaces.{AreInterfacesIn}
+use Rattle.hsp_inputs.specs.Faults.{fault_of_input}
 use Rattle.hsp_stream_cli.specs.Printing.{Ended, PrintsText}
 use Rattle.hsp_stream_cli.specs.declared.files.Sources.{Sources}
 

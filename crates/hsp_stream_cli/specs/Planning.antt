@@ -1,14 +1,14 @@
 -- Plans of logs by prices.
 use Rattle.std.specs.Prelude.{◌≡◌, ◌⊎◌, ℕ, List, Option, Err}
 use Rattle.hsp_cli.specs.declared.failure.Failure.TheVariants.{Refused}
-use Rattle.hsp_runs.specs.declared.inputs.Inputs.{Inputs}
-use Rattle.hsp_plan_runs.specs.PlanRun.{IsPlannedLog, IsShownPlan}
-use Rattle.hsp_plan_runs.specs.PricesText.{octets_of}
-use Rattle.hsp_plan_runs.specs.declared.text.PricesText.{PricesText}
-use Rattle.hsp_plan_runs.specs.declared.text.PricesText.TheVariants as text
-use Rattle.hsp_stream.specs.LogRows.{OfLog}
-use Rattle.hsp_stream.specs.Watching.{MayStopReading}
-use Rattle.hsp_stream.specs.declared.fault.StreamFault.{StreamFault}
+use Rattle.hsp_inputs.specs.declared.inputs.Inputs.{Inputs}
+use Rattle.hsp_price_runs.specs.PlanRun.{IsPlannedLog, IsShownPlan}
+use Rattle.hsp_price_runs.specs.PricesText.{octets_of}
+use Rattle.hsp_price_runs.specs.declared.prices_text.PricesText.{PricesText}
+use Rattle.hsp_price_runs.specs.declared.prices_text.PricesText.TheVariants as text
+use Rattle.hsp_log.specs.LogRows.{OfLog}
+use Rattle.hsp_inputs.specs.Stopping.{MayStopReading}
+use Rattle.hsp_inputs.specs.declared.stream_fault.StreamFault.{StreamFault}
 use Rattle.hsp_stream_cli.specs.Printing.{Ended, PrintsWith}
 
 -- 0 for a plan, 3 for a shortage

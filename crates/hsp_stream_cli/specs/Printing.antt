@@ -6,9 +6,9 @@ use Rattle.hsp_cli.specs.declared.failure.Failure.{Failure}
 use Rattle.hsp_cli.specs.declared.failure.Failure.TheVariants.{Refused, Write}
 use Rattle.hsp_talk.specs.Writing.{IsBegun}
 use Rattle.hsp_price_answers.specs.declared.sums.PriceSums.{PriceSums}
-use Rattle.hsp_stream.specs.declared.fault.RowFault.TheVariants.{WriteFailed}
-use Rattle.hsp_stream.specs.declared.fault.StreamFault.{StreamFault}
-use Rattle.hsp_stream.specs.declared.fault.StreamFault.TheVariants.{Log}
+use Rattle.hsp_log.specs.declared.fault.RowFault.TheVariants.{WriteFailed}
+use Rattle.hsp_inputs.specs.declared.stream_fault.StreamFault.{StreamFault}
+use Rattle.hsp_inputs.specs.declared.stream_fault.StreamFault.TheVariants.{Log}
 
 -- how a command ended: as it was carried out, or by a failure
 abbrev pub Ended : Type 0

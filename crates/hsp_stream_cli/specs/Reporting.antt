@@ -6,9 +6,9 @@ use Rattle.hsp_price_report.specs.declared.kind.PriceReportKind.{PriceReportKind
 use Rattle.hsp_price_runs.specs.PriceReport.{IsPriceReport}
 use Rattle.hsp_price_runs.specs.declared.report.PriceReport.{PriceReport}
 use Rattle.hsp_price_runs.specs.declared.report.PriceReport.TheVariants as report
-use Rattle.hsp_stream.specs.LogRows.{OfLog}
-use Rattle.hsp_stream.specs.Watching.{MayStopReading}
-use Rattle.hsp_stream.specs.declared.fault.StreamFault.{StreamFault}
+use Rattle.hsp_log.specs.LogRows.{OfLog}
+use Rattle.hsp_inputs.specs.Stopping.{MayStopReading}
+use Rattle.hsp_inputs.specs.declared.stream_fault.StreamFault.{StreamFault}
 use Rattle.hsp_stream_cli.specs.Checking.{PrintsLine}
 use Rattle.hsp_stream_cli.specs.Printing.{Ended, PrintsText}
 use Rattle.hsp_stream_cli.specs.declared.files.Priced.{Priced}

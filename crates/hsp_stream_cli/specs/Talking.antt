@@ -6,9 +6,9 @@ use Rattle.hsp_talk.specs.Known.{Known}
 use Rattle.hsp_price_answers.specs.PriceAnswerRun.{IsPriceAnswered}
 use Rattle.hsp_price_answers.specs.declared.front_words.FrontChoice.{FrontChoice}
 use Rattle.hsp_price_answers.specs.declared.sums.PriceSums.{PriceSums}
-use Rattle.hsp_stream.specs.AnswerRun.{run_of}
+use Rattle.hsp_price_answers.specs.AnswerRun.{run_of}
 use Rattle.hsp_stream.specs.PlacesRun.{ArePlaced, ArePlacedUntil}
-use Rattle.hsp_stream.specs.TalkFaults.{MayStopBy}
+use Rattle.hsp_inputs.specs.Stopping.{MayStopBy}
 use Rattle.hsp_stream_cli.specs.Printing.{Ended}
 use Rattle.hsp_stream_cli.specs.declared.files.Priced.{Priced}
 use Rattle.hsp_stream_cli.specs.declared.files.Sources.{Sources}

@@ -2,12 +2,12 @@
 
 ghost use Rattle.std.specs.Prelude.{IfErr, IfOk};
 ghost use Rattle.hsp_cli.specs.Failing.{IsUnread};
-ghost use Rattle.hsp_stream_cli.specs.Files.{ArePricesHeld, AreSourcesHeld, PricesFail};
-ghost use Rattle.hsp_stream_cli.specs.Files.{AreServiceHeld, ServiceFails, SourcesFail};
+ghost use Rattle.hsp_stream_cli.specs.Files.{ArePricesHeld, AreSourcesHeld, PricesFail, AreServiceHeld, ServiceFails};
+ghost use Rattle.hsp_stream_cli.specs.Files.{SourcesFail};
 
 use hsp_cli::{FileSource, Unread, read_named, read_whole};
 use hsp_cli_orders::{PriceFiles, ServiceFiles, SiteFiles};
-use hsp_runs::Inputs;
+use hsp_inputs::Inputs;
 use std::alloc::Global;
 
 /// The octets that define sites: settings, and the value list that they may refer to.
@@ -20,13 +20,9 @@ pub(crate) struct Sources {
 /// A certificate by prices, and the inputs that it is checked by, but for the log.
 #[derive(Drop)]
 pub(crate) struct Priced {
-    /// Their table of demand has no row.
     pub(crate) inputs: Inputs,
     pub(crate) prices: Vec<u8>,
 }
-
-/// A table of demand without a row.
-pub(crate) const NO_ROWS: &[u8] = b"region,handle,count\n";
 
 /// The files that define sites.
 pub(crate) fn read_sources<S: FileSource>(
@@ -44,7 +40,7 @@ pub(crate) fn read_sources<S: FileSource>(
     })
 }
 
-/// The files of a service, but for the log of its queries. Their table of demand has no row.
+/// The files of a service, but for the log of its queries.
 pub(crate) fn read_service<S: FileSource>(
     alloc: Global,
     files: &S,
@@ -56,7 +52,7 @@ pub(crate) fn read_service<S: FileSource>(
     Ok(Inputs {
         settings: read_whole(alloc, files, &named.settings)?,
         values: read_named(alloc, files, &named.values)?,
-        demand: Vec::from_slice(alloc, NO_ROWS)?,
+        demand: None,
         costs: read_whole(alloc, files, &named.costs)?,
         capacity: read_whole(alloc, files, &named.capacity)?,
     })

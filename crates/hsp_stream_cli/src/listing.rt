@@ -9,8 +9,8 @@ use crate::printing::print;
 use crate::program::Ended;
 use hsp_cli::{Failure, FileSource, Output};
 use hsp_cli_orders::SiteFiles;
-use hsp_interfaces::interfaces_run;
-use hsp_stream::StreamFault;
+use hsp_inputs::StreamFault;
+use hsp_stream::interfaces_run;
 use std::alloc::Global;
 
 // Prints the table of the sites that settings and values define.

@@ -3,16 +3,16 @@
 ghost use Rattle.hsp_stream_cli.specs.Commands.{PlansLog};
 ghost use Rattle.hsp_stream_cli.specs.Planning.{PrintsPlan, status_of};
 ghost use Rattle.hsp_stream_cli.specs.Printing.{IsHandedOn, PrintsWith};
-ghost use Rattle.hsp_plan_runs.specs.PricesText.{octets_of};
+ghost use Rattle.hsp_price_runs.specs.PricesText.{octets_of};
 
 use crate::files::read_service;
 use crate::printing::print_with;
 use crate::program::Ended;
 use hsp_cli::{Failure, FileSource, OpenFile, Output};
 use hsp_cli_orders::ServiceFiles;
-use hsp_plan_runs::{PricesText, price_plan_run};
+use hsp_inputs::Inputs;
 use hsp_price_plan::Progress;
-use hsp_runs::Inputs;
+use hsp_price_runs::{PricesText, price_plan_run};
 use std::alloc::Global;
 
 // Prints the text of a certificate. That of a shortage has status 3.

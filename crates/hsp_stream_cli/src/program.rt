@@ -1,12 +1,12 @@
 // What `hsplan-stream` prints where it ends.
 
 ghost use Rattle.std.specs.Prelude.{codes};
-ghost use Rattle.hsp_stream.specs.Lines as lines;
+ghost use Rattle.hsp_inputs.specs.StreamFaultText as lines;
 ghost use Rattle.hsp_price_answers.specs.Lines.{price_sums_text};
 
 use hsp_cli::{Completed, Failure, Program};
+use hsp_inputs::{StreamFault, stream_fault_line, stream_status};
 use hsp_price_answers::{PriceSums, price_sums_line};
-use hsp_stream::{StreamFault, stream_fault_line, stream_status};
 use std::alloc::{AllocError, Global};
 
 /// The program `hsplan-stream`.

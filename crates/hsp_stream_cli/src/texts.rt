@@ -43,4 +43,4 @@ A file may be a pipe or /dev/stdin. The manual page has more: man hsplan-stream.
 ";
 
 /// What `--version` prints.
-pub const VERSION: &[u8] = b"hsplan-stream 2.0.0\n";
+pub const VERSION: &[u8] = b"hsplan-stream 2.1.0\n";

@@ -74,33 +74,6 @@ fn faulty_rows_of_a_table_are_listed(rt: HostRuntime) {
     }
 }
 
-#[test]
-fn faulty_rows_of_a_log_are_listed(rt: HostRuntime) {
-    const CASES: [(&[u8], &[u8]); 3] = [
-        (
-            b"region,handle\nr1,10/1\nr1\n",
-            b"row,line,field,octet,fault\n1,3,,22,log: Fields row 1\n",
-        ),
-        (
-            b"region,handle,count\nr1,10/1,x\n",
-            b"row,line,field,octet,fault\n0,2,2,28,log: BadNumber row 0\n",
-        ),
-        (
-            b"handle\n10\n",
-            b"row,line,field,octet,fault\n0,2,0,7,log: BadHandle row 0 NoSlash\n",
-        ),
-    ];
-    for (text, listed) in CASES {
-        has_faults(
-            &rt,
-            rt.alloc(),
-            Asked::Log,
-            Rows::only(text),
-            (Ok(true), listed),
-        );
-    }
-}
-
 // A log of counts whose rows name so many regions.
 fn log_of_regions(alloc: Global, regions: u64) -> Result<Vec<u8>, AllocError> {
     let mut text = Vec::from_slice(alloc, b"region,handle,count\n")?;
@@ -112,15 +85,16 @@ fn log_of_regions(alloc: Global, regions: u64) -> Result<Vec<u8>, AllocError> {
     Ok(text)
 }
 
-// The 65th and the 66th region are too many, each in a row of its own.
+// The 4,097th and the 4,098th region are too many, each in a row of its own.
 #[test]
 fn rows_of_further_regions_are_listed(rt: HostRuntime) {
-    let text = match log_of_regions(rt.alloc(), 66) {
+    let text = match log_of_regions(rt.alloc(), 4098) {
         Ok(text) => text,
-        Err(AllocError) => log_of_regions(rt.alloc(), 66).expect(&rt, "there is memory"),
+        Err(AllocError) => log_of_regions(rt.alloc(), 4098).expect(&rt, "there is memory"),
     };
     let listed: &[u8] =
-        b"row,line,field,octet,fault\n64,66,0,714,log: TooManyRegions row 64\n65,67,0,725,log: TooManyRegions row 65\n";
+        b"row,line,field,octet,fault\n4096,4098,0,52158,log: TooManyRegions row 4096\n\
+        4097,4099,0,52171,log: TooManyRegions row 4097\n";
     has_faults(
         &rt,
         rt.alloc(),

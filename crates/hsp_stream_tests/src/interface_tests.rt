@@ -1,11 +1,8 @@
 // The run that lists service interfaces, from the octets of its files to what it prints.
 
 use crate::same::is_same;
-use crate::worked::BY_INDEX;
-use hsp_instance::BuildFault;
-use hsp_interfaces::interfaces_run;
-use hsp_runs::Fault;
-use hsp_tables::TableFault;
+use hsp_inputs::Fault;
+use hsp_stream::interfaces_run;
 use hsp_test_support::service::SETTINGS;
 use std::alloc::Global;
 use std::process::Abort;
@@ -18,30 +15,16 @@ const TWO: &[u8] = b"[[site]]\nname = \"X\"\n\
 const HEADER: &[u8] = b"site,place,server_id,address,type,protocol,port\n";
 
 // The run, once more where memory ran out.
-fn interfaces_of(alloc: Global, settings: &[u8], values: Option<&[u8]>) -> Result<Vec<u8>, Fault> {
-    match interfaces_run(alloc, settings, values) {
-        Err(Fault::OutOfMemory) => interfaces_run(alloc, settings, values),
+fn interfaces_of(alloc: Global, settings: &[u8]) -> Result<Vec<u8>, Fault> {
+    match interfaces_run(alloc, settings, None) {
+        Err(Fault::OutOfMemory) => interfaces_run(alloc, settings, None),
         answer => answer,
     }
 }
 
 fn has_table(rt: &impl Abort, alloc: Global, settings: &[u8], wanted: &[u8]) {
-    let table = interfaces_of(alloc, settings, None).expect(rt, "a table");
+    let table = interfaces_of(alloc, settings).expect(rt, "a table");
     is_same(rt, table.as_slice(), wanted);
-}
-
-fn has_fault(
-    rt: &impl Abort,
-    alloc: Global,
-    settings: &[u8],
-    values: Option<&[u8]>,
-    wanted: Fault,
-) {
-    is_same(
-        rt,
-        interfaces_of(alloc, settings, values).err(),
-        Some(wanted),
-    );
 }
 
 #[test]
@@ -55,23 +38,5 @@ fn interfaces_are_listed(rt: HostRuntime) {
         b"site,place,server_id,address,type,protocol,port\n\
           X,0,9,000000000000000000000000c0000201,3,0,2641\n\
           X,0,9,000000000000000000000000c0000201,2,2,8000\n",
-    );
-}
-
-#[test]
-fn interfaces_have_the_faults_of_sites(rt: HostRuntime) {
-    has_fault(
-        &rt,
-        rt.alloc(),
-        b"=",
-        None,
-        Fault::Settings(TableFault::NotToml),
-    );
-    has_fault(
-        &rt,
-        rt.alloc(),
-        BY_INDEX,
-        None,
-        Fault::Build(BuildFault::NoValue { site: 0 }),
     );
 }

@@ -1,12 +1,10 @@
 // The lines of faults, and the statuses.
 
 use crate::same::is_same;
-use hsp_check::Reason;
+use hsp_inputs::{Fault, StreamFault, stream_fault_line, stream_status};
+use hsp_log::RowFault;
 use hsp_names::HandleFault;
 use hsp_prices::PriceReason;
-use hsp_runs::Fault;
-use hsp_stream::{RowFault, StreamFault, stream_fault_line, stream_status};
-use hsp_tables::TableFault;
 use std::alloc::{AllocError, Global};
 use std::process::Abort;
 
@@ -27,36 +25,6 @@ fn all_have_lines(rt: &impl Abort, alloc: Global, cases: &[(StreamFault, &[u8], 
             Err(_) => is_same(rt, true, false),
         }
     }
-}
-
-#[test]
-fn faults_of_words_and_files_have_their_lines(rt: HostRuntime) {
-    const CASES: [(StreamFault, &[u8], u8); 7] = [
-        (StreamFault::BadFront, b"hsplan-stream: BadFront\n", 1),
-        (
-            StreamFault::Refused(PriceReason::NoSuchServer),
-            b"hsplan-stream: check: NoSuchServer\n",
-            3,
-        ),
-        (
-            StreamFault::Input(Fault::BadFronts),
-            b"hsplan-stream: BadFronts\n",
-            1,
-        ),
-        (
-            StreamFault::Input(Fault::Costs(TableFault::BadNumber { row: 3 })),
-            b"hsplan-stream: costs: BadNumber row 3\n",
-            1,
-        ),
-        (
-            StreamFault::Input(Fault::Refused(Reason::Cost)),
-            b"hsplan-stream: check: Cost\n",
-            3,
-        ),
-        (StreamFault::TooLarge, b"hsplan-stream: plan: TooLarge\n", 1),
-        (StreamFault::OutOfMemory, b"hsplan-stream: OutOfMemory\n", 4),
-    ];
-    all_have_lines(&rt, rt.alloc(), &CASES);
 }
 
 #[test]
@@ -88,28 +56,6 @@ fn faults_of_logs_have_their_lines(rt: HostRuntime) {
                 fault: HandleFault::NoSlash,
             }),
             b"hsplan-stream: log: BadHandle row 7 NoSlash\n",
-            1,
-        ),
-    ];
-    all_have_lines(&rt, rt.alloc(), &CASES);
-}
-
-#[test]
-fn greatest_rows_have_their_lines(rt: HostRuntime) {
-    const CASES: [(StreamFault, &[u8], u8); 3] = [
-        (
-            StreamFault::Log(RowFault::BadName { row: u64::MAX }),
-            b"hsplan-stream: log: BadName row 18446744073709551615\n",
-            1,
-        ),
-        (
-            StreamFault::Log(RowFault::BadNumber { row: u64::MAX }),
-            b"hsplan-stream: log: BadNumber row 18446744073709551615\n",
-            1,
-        ),
-        (
-            StreamFault::Log(RowFault::TooManyRegions { row: u64::MAX }),
-            b"hsplan-stream: log: TooManyRegions row 18446744073709551615\n",
             1,
         ),
     ];

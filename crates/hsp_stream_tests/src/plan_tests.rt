@@ -4,10 +4,11 @@
 use crate::fakes::Rows;
 use crate::price_tests::{held_inputs, judged};
 use crate::same::is_same;
-use hsp_plan_runs::{PricesText, price_plan_run};
+use hsp_inputs::StreamFault;
+use hsp_log::RowFault;
 use hsp_price_plan::{Progress, Silent};
+use hsp_price_runs::{PricesText, price_plan_run};
 use hsp_prices::PriceVerdict;
-use hsp_stream::{RowFault, StreamFault};
 use hsp_test_support::service::DEMAND;
 use std::alloc::Global;
 use std::io::Read;
@@ -98,20 +99,6 @@ fn nothing_is_shown_of_few_rows(rt: HostRuntime) {
 }
 
 #[test]
-fn rows_without_a_count_ask_once_and_no_rows_for_nothing(rt: HostRuntime) {
-    let alloc = rt.alloc();
-    // r1 pays 1 at E, and r2 pays 2 there.
-    let log = b"region,handle\nr1,10/1\nr2,10/3\nr1,10/1\n";
-    has_plan(&rt, alloc, log, b"HSPLAN PRICES 1\nPLAN\ncost 4\n");
-    has_plan(
-        &rt,
-        alloc,
-        b"region,handle\n",
-        b"HSPLAN PRICES 1\nPLAN\ncost 0\n",
-    );
-}
-
-#[test]
 fn a_row_that_its_servers_lack_room_for_is_a_shortage(rt: HostRuntime) {
     // 10/3 may go to the server 1, which takes 6, and to the server 2, which takes 2.
     let log = b"region,handle,count\nr1,10/1,5\nr2,10/3,9\n";
@@ -136,20 +123,4 @@ fn faults_of_the_log_are_the_first(rt: HostRuntime) {
     };
     let failed = Err(StreamFault::Log(RowFault::ReadFailed));
     is_same(&rt, planned(&rt, alloc, failing), failed);
-}
-
-#[test]
-fn a_demand_above_the_limit_of_a_text_is_too_large(rt: HostRuntime) {
-    let most = Rows {
-        head: b"region,handle,count\n",
-        row: b"nowhere,10/1,1000000000000\n",
-        times: 10_001,
-        end: b"",
-        fails: false,
-    };
-    is_same(
-        &rt,
-        planned(&rt, rt.alloc(), most),
-        Err(StreamFault::TooLarge),
-    );
 }

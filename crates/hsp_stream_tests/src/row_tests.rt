@@ -78,27 +78,6 @@ fn a_carriage_return_ends_a_record(rt: HostRuntime) {
     }
 }
 
-// A reader keeps nothing of an earlier line.
-#[test]
-fn a_reader_reads_line_after_line(rt: HostRuntime) {
-    const CASES: [(&[u8], Shown<'_>); 4] = [
-        (b"\"a,b\",c", (2, b"a,b", b"c")),
-        (b"d", (1, b"d", b"")),
-        (b"\"e\"", (1, b"e", b"")),
-        (b"\r", (0, b"", b"")),
-    ];
-    let mut reader = RowReader::new(rt.alloc());
-    for (line, wanted) in CASES {
-        // Where memory ran out once, it is there again.
-        if reader.read(rt.alloc(), line).is_err() {
-            is_same(&rt, reader.read(rt.alloc(), line).is_ok(), true);
-        }
-        if let Ok(fields) = reader.read(rt.alloc(), line) {
-            is_same(&rt, shown(fields), wanted);
-        }
-    }
-}
-
 #[test]
 fn a_mark_at_the_start_is_passed_over_once(rt: HostRuntime) {
     const CASES: [(&[u8], &[u8]); 5] = [

@@ -3,10 +3,10 @@
 use crate::fakes::Rows;
 use crate::same::is_same;
 use crate::worked::{BY_INDEX, VALUES};
+use hsp_inputs::StreamFault;
+use hsp_log::RowFault;
 use hsp_names::HandleFault;
-use hsp_runs::Fault;
-use hsp_stream::{RowFault, StreamFault, places_run};
-use hsp_tables::TableFault;
+use hsp_stream::places_run;
 use hsp_talk::Joined;
 use hsp_test_support::service::SETTINGS;
 use std::alloc::Global;
@@ -100,26 +100,6 @@ fn handles_have_places(rt: HostRuntime) {
     ];
     for (sites, log, ended, sent) in CASES {
         has_places(&rt, rt.alloc(), sites, Rows::only(log), (ended, sent));
-    }
-}
-
-#[test]
-fn places_have_their_first_fault(rt: HostRuntime) {
-    const NO_SETTINGS: Sites<'static> = Sites {
-        settings: b"=",
-        values: None,
-    };
-    const CASES: [(Sites<'_>, &[u8], StreamFault); 3] = [
-        (
-            NO_SETTINGS,
-            b"x",
-            StreamFault::Input(Fault::Settings(TableFault::NotToml)),
-        ),
-        (SITES, b"x\n", StreamFault::Log(RowFault::Header)),
-        (SITES, b"", StreamFault::Log(RowFault::Header)),
-    ];
-    for (sites, log, fault) in CASES {
-        has_places(&rt, rt.alloc(), sites, Rows::only(log), (Err(fault), b""));
     }
 }
 

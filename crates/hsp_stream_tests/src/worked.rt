@@ -15,14 +15,3 @@ pub(crate) const VALUES: &[u8] = b"\0\0\0\x01\0\0\0\x01\0\0\0\x07HS_SITE\0\0\0\x
 pub(crate) fn owned(alloc: Global, octets: &[u8]) -> Result<Vec<u8>, AllocError> {
     Vec::from_slice(alloc, octets)
 }
-
-/// The octets, owned, if there are any.
-pub(crate) fn owned_word(
-    alloc: Global,
-    octets: Option<&[u8]>,
-) -> Result<Option<Vec<u8>>, AllocError> {
-    match octets {
-        Some(octets) => Ok(Some(owned(alloc, octets)?)),
-        None => Ok(None),
-    }
-}

@@ -14,7 +14,9 @@ use Rattle.hsp_tables.specs.declared.fault.TableFault.{TableFault}
 use Rattle.hsp_tables.specs.declared.fault.TableFault.TheVariants as fault_of
 use Rattle.hsp_tables.specs.declared.fault.TableFault.TheVariants.{Header, TooManyRows}
 use Rattle.hsp_tables.specs.Capacities.{capacity_of, capacity_table, is_capacity_field}
-use Rattle.hsp_tables.specs.Costs.{cost_of, cost_table, is_cost_field}
+use Rattle.hsp_tables.specs.Costs.{cost_of, cost_table, is_cost_field, most_cost_rows}
+use Rattle.hsp_tables.specs.declared.limits.Limits.{Limits}
+use Rattle.hsp_tables.specs.declared.limits.Limits.TheVariants.{Logs, Tables}
 use Rattle.hsp_tables.specs.Demand.{demand_of, demand_table, is_demand_field}
 use Rattle.hsp_tables.specs.Faulty.{BeginsWithTheFault, HasItsField, checked_as, fault_in, faulty_rows, found_header}
 use Rattle.hsp_tables.specs.Faulty.{next_row}
@@ -77,8 +79,12 @@ pub demand_begins : BeginsWithTheFault demand_table
 demand_begins = begins_with_fault demand_table (omega arith)
 
 -- so it does for costs
-pub costs_begin : BeginsWithTheFault cost_table
-costs_begin = begins_with_fault cost_table (omega arith)
+pub costs_begin : (limits : Limits) → BeginsWithTheFault (cost_table limits)
+costs_begin limits = begins_with_fault (cost_table limits) (few_costs limits)
+  where
+    few_costs : (limits : Limits) → most_cost_rows limits ≤ 2 ^ 32 - 1
+    few_costs Tables = omega arith
+    few_costs Logs = omega arith
 
 -- so it does for capacities
 pub capacities_begin : BeginsWithTheFault capacity_table
@@ -133,8 +139,8 @@ pub demand_has_its_field : HasItsField demand_table
 demand_has_its_field = has_its_field demand_table demand_of (λ number fields. refl) demand_is_bad
 
 -- so it has in costs
-pub costs_have_their_field : HasItsField cost_table
-costs_have_their_field = has_its_field cost_table cost_of (λ number fields. refl) costs_are_bad
+pub costs_have_their_field : (limits : Limits) → HasItsField (cost_table limits)
+costs_have_their_field limits = has_its_field (cost_table limits) cost_of (λ number fields. refl) costs_are_bad
 
 -- so it has in capacities
 pub capacities_have_their_field : HasItsField capacity_table

@@ -8,7 +8,6 @@ use Rattle.std.specs.Map.{keys_of, lookup}
 use Rattle.indexmap.specs.IndexMap.{IndexMap, insert_entry}
 use Rattle.indexmap.proofs.CallerLemmas.{insert_entry-new}
 use Rattle.hsp_csv.specs.Records.{Fields}
-use Rattle.hsp_text.specs.declared.limits.TheConstants.{MOST_REGIONS}
 use Rattle.hsp_text.proofs.Steps.{le_false}
 use Rattle.hsp_tables.specs.declared.fault.TableFault.TheVariants.{RowTwice, TooManyRegions}
 use Rattle.hsp_tables.specs.InTurn.{with_row}
@@ -59,7 +58,7 @@ module _ {K Row S : Type 0} (table : Table Row) (entry : K × ℕ → Row) (eq :
 
     module _ (new : there ≡ false) where
       -- its region is one too many
-      pub kept_too_many : nat_lt MOST_REGIONS (length seen_then) ≡ true
+      pub kept_too_many : nat_lt table.most_regions (length seen_then) ≡ true
           → with_row (row_at table number) rows fields ≡ Err TooManyRegions
       kept_too_many many =
           rw (first_tests.0, first_tests.1, first_tests.2, new, regions_of-append table rows (entry e), many) refl
@@ -73,7 +72,7 @@ module _ {K Row S : Type 0} (table : Table Row) (entry : K × ℕ → Row) (eq :
             ∙ map-append entry m.entries (e ∷ [])
 
         -- the rows with it are those that are read
-        pub kept_next : nat_lt MOST_REGIONS (length seen_then) ≡ false
+        pub kept_next : nat_lt table.most_regions (length seen_then) ≡ false
             → with_row (row_at table number) rows fields ≡ Ok (map entry entries)
         kept_next few =
             rw (

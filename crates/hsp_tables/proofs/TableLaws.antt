@@ -10,7 +10,6 @@ use Rattle.std.specs.Str.{bytes_eq}
 use Rattle.indexmap.specs.IndexSet.{insert_key}
 use Rattle.hsp_csv.specs.Header.{IsHeaded, IsHeadless}
 use Rattle.hsp_csv.specs.Records.{Fields}
-use Rattle.hsp_text.specs.declared.limits.TheConstants.{MOST_REGIONS}
 use Rattle.hsp_tables.specs.declared.fault.TableFault.TheVariants.{Header, RowTwice, TooManyRegions, TooManyRows}
 use Rattle.hsp_tables.specs.InTurn.{Reading, SpellKeyed, keyed_after, rows_after}
 use Rattle.hsp_tables.specs.Table.{Table, first_seen, regions_of, row_after, seen_with, table_of}
@@ -50,7 +49,7 @@ module _ {Row : Type 0} (table : Table Row) where
 -- ---- rows
 
 abbrev too_many : {Row : Type 0} → Table Row → List Row → Bool
-too_many table rows = nat_lt MOST_REGIONS (length (regions_of table rows))
+too_many table rows = nat_lt table.most_regions (length (regions_of table rows))
 
 -- a number is not below one that is no greater
 pub nat_lt-upto : (m n : ℕ) → n ≤ m → nat_lt m n ≡ false
@@ -63,22 +62,23 @@ module _ {Row : Type 0} (table : Table Row) (keys : IsEquivalence table.same_key
   -- records are read as the rows that they spell, where these are of few regions
   pub body_reads : (body : List Fields) (rows : List Row) → (rows_after (row_after table) [] body ≡ Ok rows)
       ↔ (SpellKeyed table.most_rows table.row_in table.same_key body rows
-      × (length (regions_of table rows) ≤ MOST_REGIONS))
+      × (length (regions_of table rows) ≤ table.most_regions))
   body_reads body rows =
       let spelled =
       reads_as_spelled Fields Row table.most_rows TooManyRows table.row_in table.same_key RowTwice keys body rows in
-      let none : too_many table [] ≡ false = rw (regions_of-none table) refl in
+      let none : too_many table [] ≡ false =
+      rw (regions_of-none table) (nat_lt-upto table.most_regions 0 (omega arith)) in
       let fewer = λ (a b : List Row) (e : too_many table (a ++ b) ≡ false).
-      let few = ltb-false MOST_REGIONS (length (regions_of table (a ++ b))) e in
-      nat_lt-upto MOST_REGIONS (length (regions_of table a)) (omega (arith, few, regions_of-grow table a b)) in (
+      let few = ltb-false table.most_regions (length (regions_of table (a ++ b))) e in
+      nat_lt-upto table.most_regions (length (regions_of table a)) (omega (arith, few, regions_of-grow table a b)) in (
         λ e. (
           spelled.0 (passed_are_read keyed (too_many table) TooManyRegions body [] rows e),
-          ltb-false MOST_REGIONS (length (regions_of table rows))
+          ltb-false table.most_regions (length (regions_of table rows))
               (passed_are_good keyed (too_many table) TooManyRegions body rows none e),
         ),
         λ is.
             good_are_passed keyed (too_many table) TooManyRegions fewer body [] rows (spelled.1 is.0)
-            (nat_lt-upto MOST_REGIONS (length (regions_of table rows)) is.1),
+            (nat_lt-upto table.most_regions (length (regions_of table rows)) is.1),
       )
 
 -- ---- headers

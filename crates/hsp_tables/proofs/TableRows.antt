@@ -7,7 +7,7 @@ use Rattle.std.proofs.lemmas.List.Elements.{All-from_recursion}
 use Rattle.std.proofs.lemmas.Option.{get_or_from_slice_get, slice_get_within}
 use Rattle.std.specs.Cmp.{IsEquivalence}
 use Rattle.std.specs.Cmp.Rules.{comparing}
-use Rattle.std.specs.List.{slice_get}
+use Rattle.std.specs.List.{IsDistinct, slice_get}
 use Rattle.std.specs.Str.Parse.{digits_value}
 use Rattle.hsp_csv.specs.Records.{Fields}
 use Rattle.hsp_names.specs.Handle as names
@@ -19,7 +19,10 @@ use Rattle.hsp_text.proofs.Numerals.{digits_spell_their_number}
 use Rattle.hsp_tables.specs.declared.fault.TableFault.{TableFault}
 use Rattle.hsp_tables.specs.Capacities.{AreCapacities, CapacityEntry, IsCapacityEntry, capacity_in, capacity_of}
 use Rattle.hsp_tables.specs.Capacities.{capacity_table, same_capacity}
-use Rattle.hsp_tables.specs.Costs.{AreCosts, CostEntry, IsCostEntry, cost_in, cost_of, cost_table, same_cost}
+use Rattle.hsp_tables.specs.Costs.{AreCosts, AreCostsWithin, CostEntry, IsCostEntry, cost_in, cost_of, cost_table}
+use Rattle.hsp_tables.specs.Costs.{most_cost_regions, most_cost_rows, same_cost}
+use Rattle.hsp_tables.specs.declared.limits.Limits.{Limits}
+use Rattle.hsp_tables.specs.declared.limits.Limits.TheVariants.{Logs, Tables}
 use Rattle.hsp_tables.specs.Demand.{AreDemand, DemandEntry, IsDemandEntry, demand_in, demand_of, demand_table}
 use Rattle.hsp_tables.specs.Demand.{same_demand}
 use Rattle.hsp_tables.specs.Fields.{greatest_of_32_bits, name_in, number_in, of_three}
@@ -148,10 +151,36 @@ pub demand_is_read : (records : List Fields) (rows : List DemandEntry)
     ↔ ((records ≡ demand_table.header ∷ map demand_fields rows) × AreDemand rows)
 demand_is_read = reads_rows demand_table demand_keys demand_fields IsDemandEntry demand_is
 
+-- no rows are rows of demand
+pub no_demand : AreDemand []
+unfolding IsDistinct
+no_demand = record {
+  keyed = record { few = omega arith; each = tt; apart = tt };
+  regions = omega arith;
+}
+
 -- records are read as costs just where they are a header and the fields of such rows
-pub costs_are : (records : List Fields) (rows : List CostEntry)
-    → (table_of cost_table records ≡ Ok rows) ↔ ((records ≡ cost_table.header ∷ map cost_fields rows) × AreCosts rows)
-costs_are = reads_rows cost_table cost_keys cost_fields IsCostEntry cost_is
+pub costs_are : (limits : Limits) (records : List Fields) (rows : List CostEntry)
+    → (table_of (cost_table limits) records ≡ Ok rows)
+    ↔ ((records ≡ (cost_table limits).header ∷ map cost_fields rows) × AreCostsWithin limits rows)
+costs_are limits = reads_rows (cost_table limits) cost_keys cost_fields IsCostEntry cost_is
+
+-- the limits beside a log are the wider ones
+wider : (limits : Limits)
+    → (most_cost_rows limits ≤ most_cost_rows Logs) × (most_cost_regions limits ≤ most_cost_regions Logs)
+wider Tables = (omega arith, omega arith)
+wider Logs = (omega arith, omega arith)
+
+-- costs within limits are costs
+pub costs_fit : (limits : Limits) (rows : List CostEntry) → AreCostsWithin limits rows → AreCosts rows
+costs_fit limits rows are = record {
+  keyed = record {
+    few = omega (arith, are.keyed.few, (wider limits).0);
+    each = are.keyed.each;
+    apart = are.keyed.apart;
+  };
+  regions = omega (arith, are.regions, (wider limits).1);
+}
 
 -- records are read as capacities just where they are a header and the fields of such rows
 pub capacities_are : (records : List Fields) (rows : List CapacityEntry)

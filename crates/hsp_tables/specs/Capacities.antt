@@ -4,7 +4,7 @@ use Rattle.std.specs.Prelude.{if◌then◌else◌}
 use Rattle.std.specs.Str.{bytes_eq}
 use Rattle.hsp_csv.specs.Records.{Fields}
 use Rattle.hsp_text.specs.Name.{is_name}
-use Rattle.hsp_text.specs.declared.limits.TheConstants.{GREATEST_CAPACITY, MOST_CAPACITY_ROWS}
+use Rattle.hsp_text.specs.declared.limits.TheConstants.{GREATEST_CAPACITY, MOST_CAPACITY_ROWS, MOST_REGIONS}
 use Rattle.hsp_tables.specs.declared.fault.TableFault.{TableFault}
 use Rattle.hsp_text.specs.Answers.{◌>>=◌}
 use Rattle.hsp_tables.specs.Fields.{greatest_of_32_bits, name_in, number_in, of_three}
@@ -41,6 +41,7 @@ abbrev pub capacity_table : Table CapacityEntry
 capacity_table = record {
   header = codes "site" ∷ codes "server_id" ∷ codes "capacity" ∷ [];
   most_rows = MOST_CAPACITY_ROWS;
+  most_regions = MOST_REGIONS;
   row_in = capacity_in;
   is_good = is_capacity_field;
   same_key = same_capacity;

@@ -5,7 +5,7 @@ use Rattle.std.specs.Str.{bytes_eq}
 use Rattle.hsp_csv.specs.Records.{Fields}
 use Rattle.hsp_names.specs.Handle as names
 use Rattle.hsp_text.specs.Name.{is_name}
-use Rattle.hsp_text.specs.declared.limits.TheConstants.{GREATEST_COUNT, MOST_DEMAND_ROWS}
+use Rattle.hsp_text.specs.declared.limits.TheConstants.{GREATEST_COUNT, MOST_DEMAND_ROWS, MOST_REGIONS}
 use Rattle.hsp_tables.specs.declared.fault.TableFault.{TableFault}
 use Rattle.hsp_text.specs.Answers.{◌>>=◌}
 use Rattle.hsp_tables.specs.Fields.{handle_in, name_in, number_in, of_three}
@@ -44,6 +44,7 @@ abbrev pub demand_table : Table DemandEntry
 demand_table = record {
   header = codes "region" ∷ codes "handle" ∷ codes "count" ∷ [];
   most_rows = MOST_DEMAND_ROWS;
+  most_regions = MOST_REGIONS;
   row_in = demand_in;
   is_good = is_demand_field;
   same_key = same_demand;

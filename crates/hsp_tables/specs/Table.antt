@@ -9,16 +9,16 @@ use Rattle.hsp_csv.specs.Header.{same_fields}
 use Rattle.hsp_csv.specs.Records.{Fields}
 use Rattle.hsp_tables.specs.declared.fault.TableFault.{TableFault}
 use Rattle.hsp_tables.specs.declared.fault.TableFault.TheVariants.{Header, RowTwice, TooManyRows, TooManyRegions}
-use Rattle.hsp_text.specs.declared.limits.TheConstants.{MOST_REGIONS}
 use Rattle.hsp_text.specs.Answers.{◌>>=◌}
 use Rattle.hsp_tables.specs.InTurn.{AreKeyed, Reading, SpellInTurn, keyed_after, rows_after}
 
--- a kind of table: its header, the limit of its rows, the row that the fields of a record spell by its number, which
--- octets the field of a number may be, when two rows have one key, whether its rows are of regions, and the region of a
--- row
+-- a kind of table: its header, the limits of its rows and its regions, the row that the fields of a record spell by its
+-- number, which octets the field of a number may be, when two rows have one key, whether its rows are of regions, and
+-- the region of a row
 pub record Table (Row : Type 0) : Type 0 where
   pub header : Fields
   pub most_rows : ℕ
+  pub most_regions : ℕ
   pub row_in : ℕ → Fields → Result Row TableFault
   pub is_good : ℕ → List ℕ → Bool
   pub same_key : Row → Row → Bool
@@ -40,7 +40,8 @@ seen_with table seen row = if table.has_regions then insert_key bytes_eq seen (t
 -- a row whose region is not one too many
 abbrev pub of_few_regions : {Row : Type 0} → Table Row → List Row → Row → Result Row TableFault
 of_few_regions table earlier row =
-    if nat_lt MOST_REGIONS (length (regions_of table (earlier ++ row ∷ []))) then Err TooManyRegions else Ok row
+    if nat_lt table.most_regions (length (regions_of table (earlier ++ row ∷ []))) then Err TooManyRegions
+    else Ok row
 
 -- the row of a record after the rows before it, or its first fault
 abbrev pub row_after : {Row : Type 0} → Table Row → Reading Fields Row
@@ -65,7 +66,7 @@ table_of table (first ∷ body) =
 -- what the rows of a table are: within its limits, each as it should be, and no two with one key
 pub record AreRows {Row : Type 0} (table : Table Row) (Is : Row → Type 0) (rows : List Row) : Type 0 where
   pub keyed : AreKeyed table.most_rows Is table.same_key rows
-  pub regions : length (regions_of table rows) ≤ MOST_REGIONS
+  pub regions : length (regions_of table rows) ≤ table.most_regions
 
 -- records under the header spell rows, each by its number
 abbrev pub SpellRows : {Row : Type 0} → Table Row → ℕ → List Fields → List Row → Type 0
@@ -79,7 +80,7 @@ pub record IsTable {Row : Type 0} (table : Table Row) (records : List Fields) (r
   pub spelled : SpellRows table 0 body rows
   pub few : length rows ≤ table.most_rows
   pub apart : IsDistinct table.same_key rows
-  pub regions : length (regions_of table rows) ≤ MOST_REGIONS
+  pub regions : length (regions_of table rows) ≤ table.most_regions
 
 -- the first record is not the header, or there is none
 abbrev pub LacksHeader : {Row : Type 0} → Table Row → List Fields → Type 0

@@ -15,7 +15,7 @@ use crate::fields::{name_in, number_in};
 use crate::keyed::{LentServer, ServerKey};
 use crate::table::{Kind, Three, read_table};
 use crate::text_hash::KeyedRows;
-use hsp_text::limits::{GREATEST_CAPACITY, MOST_CAPACITY_ROWS};
+use hsp_text::limits::{GREATEST_CAPACITY, MOST_CAPACITY_ROWS, MOST_REGIONS};
 use std::alloc::Global;
 use std::marker::Model;
 
@@ -103,6 +103,11 @@ impl Kind for Capacities {
         MOST_CAPACITY_ROWS as u32
     }
 
+    /// The limit of the regions.
+    fn most_regions() -> u32 {
+        MOST_REGIONS as u32
+    }
+
     /// The key and the number of the row that a site, an identifier and a capacity spell.
     fn row_of(alloc: Global, row: u32, fields: Three<'_>) -> Result<(ServerKey, u64), TableFault> {
         let (site, server_id, capacity) = fields;
@@ -130,10 +135,20 @@ impl Kind for Capacities {
     ghost same = { λ _ _. refl };
 }
 
-/// The capacities that a text of comma-separated values spells, or its first fault.
+/// The capacities that a text of comma-separated values spells.
 ///
-/// The header is `site,server_id,capacity`. The order of faults is: Header; then record by record TooManyRows (this
-/// record is one too many), Fields, BadName, BadNumber, RowTwice.
+/// The header is `site,server_id,capacity`.
+///
+/// ```
+/// let capacities = read_capacity(alloc, b"site,server_id,capacity\nE,7,10\nE,3,6\n")?;
+/// assert!(rt; capacities.find(b"E", 3) == Some(6));
+/// assert!(rt; capacities.find(b"E", 1) == None);
+/// ```
+///
+/// # Errors
+///
+/// The first in this order: `Header`; then record by record `TooManyRows` (this record is one too many), `Fields`,
+/// `BadName`, `BadNumber`, `RowTwice`. `OutOfMemory` where memory runs out.
 pub fn read_capacity(alloc: Global, text: &[u8]) -> Result<Capacities, TableFault>
     ensures { GivesUnless OutOfMemory (λ x. x) result (
         table_of capacity_table (records_of text.now)) }

@@ -1,23 +1,23 @@
 // The table of demand: how many queries for a handle come from a region.
 
-ghost use Rattle.std.specs.Prelude.{◌≡◌, ◌≤◌, ◌<◌, IfOk, Ok, Some, length, map, position, refl, slice_get};
+ghost use Rattle.std.specs.Prelude.{◌≡◌, ◌≤◌, ◌<◌, [], IfOk, Ok, Some, length, map, position, refl, slice_get};
 ghost use Rattle.hsp_csv.specs.Records.{records_of};
 ghost use Rattle.hsp_names.specs.Handle.{handle_in};
 ghost use Rattle.hsp_tables.specs.declared.fault.TableFault.TheVariants.{OutOfMemory};
 ghost use Rattle.hsp_text.specs.Answers.{GivesUnless};
 ghost use Rattle.hsp_tables.specs.Table.{table_of};
 ghost use Rattle.hsp_tables.specs.Demand.{AreDemand, demand_table, is_demand};
-ghost use Rattle.hsp_tables.specs.Keyed.{pair_of};
+ghost use Rattle.hsp_tables.specs.Keyed.{demand_entry, pair_of};
 ghost use Rattle.hsp_tables.specs.Rows.{demand_shown};
 
 use crate::fault::TableFault;
 use crate::fields::{handle_in, name_in, number_in};
 use crate::keyed::PairKey;
 use crate::table::{Kind, Three, read_table};
-use crate::text_hash::KeyedRows;
+use crate::text_hash::{KeyedRows, TextHash};
 use hsp_names::HandleRef;
 use hsp_pair_map::PairMap;
-use hsp_text::limits::{GREATEST_COUNT, MOST_DEMAND_ROWS};
+use hsp_text::limits::{GREATEST_COUNT, MOST_DEMAND_ROWS, MOST_REGIONS};
 use std::alloc::{AllocError, Global};
 use std::marker::Model;
 use std::rc::Rc;
@@ -66,6 +66,17 @@ pub struct DemandRow<'a> {
 }
 
 impl Demand {
+    /// No rows.
+    ///
+    /// # Errors
+    ///
+    /// An `AllocError` where memory runs out.
+    pub fn none(alloc: Global) -> Result<Demand, AllocError>
+        ensures { IfOk result (λ demand. demand ≡ []) }
+    {
+        demand_of(alloc, KeyedRows::with_hasher(alloc, TextHash::of(b"")))
+    }
+
     /// How many rows there are.
     pub fn len(&self) -> u32
         ensures count { result ≡ length self.now }
@@ -125,6 +136,11 @@ impl Kind for Demand {
         MOST_DEMAND_ROWS as u32
     }
 
+    /// The limit of the regions.
+    fn most_regions() -> u32 {
+        MOST_REGIONS as u32
+    }
+
     /// The key and the number of the row that a region, a handle and a count spell.
     fn row_of(alloc: Global, row: u32, fields: Three<'_>) -> Result<(PairKey, u64), TableFault> {
         let (region, handle, count) = fields;
@@ -164,16 +180,35 @@ fn numbers_of(alloc: Global, rows: &KeyedRows<PairKey>) -> Result<PairMap, Alloc
     Ok(numbers)
 }
 
-/// The demand that a text of comma-separated values spells, or its first fault.
+// The demand of these rows.
+fn demand_of(alloc: Global, rows: KeyedRows<PairKey>) -> Result<Demand, AllocError>
+    requires { AreDemand (map demand_entry rows.entries) }
+    ensures { IfOk result (λ demand. demand ≡ map demand_entry rows.entries) }
+{
+    let numbers = Rc::new(alloc, numbers_of(alloc, &rows)?)?;
+    let rows = Rc::new(alloc, rows)?;
+    Ok(Demand { rows, numbers })
+}
+
+/// The demand that a text of comma-separated values spells.
 ///
-/// The header is `region,handle,count`. The order of faults is: Header; then record by record TooManyRows (this record
-/// is one too many), Fields, BadName, BadHandle, BadNumber, RowTwice, TooManyRegions.
+/// The header is `region,handle,count`.
+///
+/// ```
+/// let demand = read_demand(alloc, b"region,handle,count\nr1,10/1,5\nr1,10/2,4\n")?;
+/// let row = demand.row(1);
+/// assert!(rt; row.region == b"r1".as_slice() && row.handle.bytes() == b"10/2".as_slice());
+/// assert!(rt; row.count == 4);
+/// ```
+///
+/// # Errors
+///
+/// The first in this order: `Header`; then record by record `TooManyRows` (this record is one too many), `Fields`,
+/// `BadName`, `BadHandle`, `BadNumber`, `RowTwice`, `TooManyRegions`. `OutOfMemory` where memory runs out.
 pub fn read_demand(alloc: Global, text: &[u8]) -> Result<Demand, TableFault>
     ensures { GivesUnless OutOfMemory (λ x. x) result (
         table_of demand_table (records_of text.now)) }
 {
     let rows = read_table::<Demand>(alloc, text, &[b"region", b"handle", b"count"])?;
-    let numbers = Rc::new(alloc, numbers_of(alloc, &rows)?)?;
-    let rows = Rc::new(alloc, rows)?;
-    Ok(Demand { rows, numbers })
+    Ok(demand_of(alloc, rows)?)
 }

@@ -1,16 +1,14 @@
 // Keys by which rows are found, and the regions that were seen.
 
-ghost use Rattle.std.specs.Prelude.{◌≡◌, ◌++◌, [], length, OnOk, IfOk, IfErr};
+ghost use Rattle.std.specs.Prelude.{◌≡◌, ◌++◌, [], length, OnOk, IfOk};
 ghost use Rattle.std.specs.Cmp.Rules.{comparing, hashing};
 ghost use Rattle.std.specs.Hash as fed;
 ghost use Rattle.std.specs.List.{list_any};
 ghost use Rattle.std.specs.Str.{bytes_eq};
 ghost use Rattle.std.proofs.Common.{rules};
 ghost use Rattle.indexmap.specs.IndexSet.{insert_key};
-ghost use Rattle.hsp_tables.specs.declared.fault.TableFault.TheVariants.{OutOfMemory};
 ghost use Rattle.hsp_tables.specs.KeyedRows.{names_in};
 
-use crate::fault::TableFault;
 use indexmap::{Equivalent, IndexSet};
 use std::alloc::{AllocError, Global};
 use std::hash::{Hash, Hasher};
@@ -143,9 +141,9 @@ impl Equivalent<ServerKey> for LentServer<'_> {
     }
 }
 
-// The regions that were seen, in first-seen order.
+/// The regions that were seen, in first-seen order.
 #[derive(Drop)]
-pub(crate) struct Regions {
+pub struct Regions {
     names: IndexSet<Vec<u8>>,
 }
 
@@ -159,10 +157,9 @@ impl Model for Regions {
 }
 
 // Adds a name to those that were seen.
-fn insert_name(alloc: Global, names: &mut IndexSet<Vec<u8>>, name: &[u8]) -> Result<(), TableFault>
-    ensures ok { OnOk result (
+fn insert_name(alloc: Global, names: &mut IndexSet<Vec<u8>>, name: &[u8]) -> Result<(), AllocError>
+    ensures { OnOk result (
         names_in names.new.keys ≡ insert_key bytes_eq (names_in names.old.keys) name.now) }
-    ensures err { IfErr result (λ e. e ≡ OutOfMemory) }
 {
     if !names.contains(name) {
         names.insert(Vec::from_slice(alloc, name)?)?;
@@ -171,7 +168,8 @@ fn insert_name(alloc: Global, names: &mut IndexSet<Vec<u8>>, name: &[u8]) -> Res
 }
 
 impl Regions {
-    pub(crate) fn new(alloc: Global) -> Regions
+    /// No regions.
+    pub fn new(alloc: Global) -> Regions
         ensures { result ≡ [] }
     {
         Regions {
@@ -179,23 +177,27 @@ impl Regions {
         }
     }
 
-    pub(crate) fn len(&self) -> usize
+    /// How many regions were seen.
+    pub fn len(&self) -> usize
         ensures { result ≡ length self.now }
     {
         self.names.len()
     }
 
-    // Whether a region was seen.
-    pub(crate) fn has(&self, region: &[u8]) -> bool
+    /// Whether a region was seen.
+    pub fn has(&self, region: &[u8]) -> bool
         ensures { result ≡ list_any (bytes_eq region.now) self.now }
     {
         self.names.contains(region)
     }
 
-    // Adds a region to those that were seen.
-    pub(crate) fn see(&mut self, alloc: Global, region: &[u8]) -> Result<(), TableFault>
-        ensures ok { OnOk result (self.new ≡ insert_key bytes_eq self.old region.now) }
-        ensures err { IfErr result (λ e. e ≡ OutOfMemory) }
+    /// Adds a region to those that were seen.
+    ///
+    /// # Errors
+    ///
+    /// An `AllocError` where memory runs out.
+    pub fn see(&mut self, alloc: Global, region: &[u8]) -> Result<(), AllocError>
+        ensures { OnOk result (self.new ≡ insert_key bytes_eq self.old region.now) }
     {
         insert_name(alloc, &mut self.names, region)
     }

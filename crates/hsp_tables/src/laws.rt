@@ -3,6 +3,7 @@
 ghost use Rattle.hsp_text.specs.declared.limits.TheConstants.{MOST_HOSTS, MOST_SITES};
 ghost use Rattle.hsp_tables.specs.Capacities.{capacity_table};
 ghost use Rattle.hsp_tables.specs.Costs.{cost_table};
+ghost use Rattle.hsp_tables.specs.declared.limits.Limits.{Limits};
 ghost use Rattle.hsp_tables.specs.Demand.{demand_table};
 ghost use Rattle.hsp_tables.specs.Faulty.{BeginsWithTheFault, HasItsField};
 ghost use Rattle.hsp_tables.specs.InTurn.{FaultStays, ReadsAsSpelled};
@@ -13,7 +14,7 @@ ghost use Rattle.hsp_tables.specs.Table.{KeepsFirstFault, ReadsAsItsRelation};
 /// the limits and no two have the same key; otherwise exactly its first fault.
 pub fn reading_is_the_relation()
     ensures demand { ReadsAsItsRelation demand_table }
-    ensures costs { ReadsAsItsRelation cost_table }
+    ensures costs { (limits : Limits) → ReadsAsItsRelation (cost_table limits) }
     ensures capacity { ReadsAsItsRelation capacity_table }
 {}
 
@@ -21,7 +22,7 @@ pub fn reading_is_the_relation()
 #[tactic(auto, using(crate::proofs::TableReading::keeps_first_fault))]
 pub fn fault_is_first()
     ensures demand { KeepsFirstFault demand_table }
-    ensures costs { KeepsFirstFault cost_table }
+    ensures costs { (limits : Limits) → KeepsFirstFault (cost_table limits) }
     ensures capacity { KeepsFirstFault capacity_table }
 {}
 
@@ -44,13 +45,13 @@ pub fn fault_of_settings_is_first()
 /// table is read.
 pub fn faults_begin_with_the_first()
     ensures demand { BeginsWithTheFault demand_table }
-    ensures costs { BeginsWithTheFault cost_table }
+    ensures costs { (limits : Limits) → BeginsWithTheFault (cost_table limits) }
     ensures capacity { BeginsWithTheFault capacity_table }
 {}
 
 /// A fault of one field has a field: the first one that is not as it should be.
 pub fn faults_have_their_field()
     ensures demand { HasItsField demand_table }
-    ensures costs { HasItsField cost_table }
+    ensures costs { (limits : Limits) → HasItsField (cost_table limits) }
     ensures capacity { HasItsField capacity_table }
 {}

@@ -122,15 +122,23 @@ fn listed_hosts(alloc: Global, table: &Table) -> Result<Vec<Host>, TableFault>
     }
 }
 
-/// The settings that a TOML document lists, or its first fault.
+/// The settings that a TOML document lists.
 ///
 /// Each element of `site` has a `name` and exactly one of `record`, in hexadecimal digits, and `index`, from 0 to
 /// 4,294,967,295. Each element of `host` has an `address` of 32 hexadecimal digits and a `limit` from 0 to
 /// 1,000,000,000,000.
 ///
-/// The order of faults is: NotToml; UnknownKey of the document; BadSite of site 0 where `site` is not an array; then
-/// site by site TooManySites (this element is one too many), BadSite where it is not a table, UnknownKey, BadSite,
-/// SiteTwice; then the same for the hosts.
+/// ```
+/// let settings = read_settings(alloc, b"[[site]]\nname = \"E\"\nindex = 1\n")?;
+/// assert!(rt; settings.len() == 1 && settings.name(0) == b"E".as_slice());
+/// assert!(rt; matches!(settings.source(0), Source::Index(1)));
+/// ```
+///
+/// # Errors
+///
+/// The first in this order: `NotToml`; `UnknownKey` of the document; `BadSite` of site 0 where `site` is not an array;
+/// then site by site `TooManySites` (this element is one too many), `BadSite` where it is not a table, `UnknownKey`,
+/// `BadSite`, `SiteTwice`; then the same for the hosts. `OutOfMemory` where memory runs out.
 pub fn read_settings(alloc: Global, octets: &[u8]) -> Result<Settings, TableFault>
     ensures { GivesUnless OutOfMemory (λ x. x) result (settings_of octets.now) }
 {

@@ -18,7 +18,6 @@ use crate::keyed::Regions;
 use crate::text_hash::{KeyedRows, TextHash};
 use csv::{ByteRecord, Reader};
 use hsp_csv::{read_records, take_header, take_record, three_fields};
-use hsp_text::limits::MOST_REGIONS;
 use std::alloc::Global;
 use std::hash::Hash;
 
@@ -42,6 +41,10 @@ pub(crate) trait Kind {
     /// The limit of the rows.
     fn most_rows() -> u32
         ensures { result ≡ table.most_rows };
+
+    /// The limit of the regions.
+    fn most_regions() -> u32
+        ensures { result ≡ table.most_regions };
 
     /// The key and the number of the row that three fields spell.
     fn row_of(alloc: Global, row: u32, fields: Three<'_>) -> Result<(Self::Key, u64), TableFault>
@@ -73,19 +76,20 @@ fn see_region<K: Kind>(alloc: Global, regions: &mut Regions, key: &K::Key) -> Re
     ensures err { IfErr result (λ e. e ≡ OutOfMemory) }
 {
     match K::region_of(key) {
-        Some(region) => regions.see(alloc, region),
+        Some(region) => Ok(regions.see(alloc, region)?),
         None => Ok(()),
     }
 }
 
 // Whether the region of the row of a key is one too many, where rows are of regions.
 fn is_one_too_many<K: Kind>(regions: &Regions, key: &K::Key) -> bool
-    requires { length regions.now ≤ MOST_REGIONS }
+    requires { length regions.now ≤ K.table.most_regions }
     ensures { (number : ℕ) → result
-        ≡ nat_lt MOST_REGIONS (length (seen_with K.table regions.now (K.entry (key.now, number)))) }
+        ≡ nat_lt K.table.most_regions
+        (length (seen_with K.table regions.now (K.entry (key.now, number)))) }
 {
     match K::region_of(key) {
-        Some(region) => regions.len() == MOST_REGIONS && !regions.has(region),
+        Some(region) => regions.len() == K::most_regions() as usize && !regions.has(region),
         None => false,
     }
 }
@@ -100,12 +104,12 @@ pub(crate) fn add_record<K: Kind>(
     fields: &ByteRecord,
 ) -> Result<(), TableFault>
     requires regions { regions.old ≡ regions_of K.table (map K.entry rows.old.entries) }
-    requires few { length regions.old ≤ MOST_REGIONS }
+    requires few { length regions.old ≤ K.table.most_regions }
     ensures ok { OnOk result (with_row (row_at K.table row)
         (map K.entry rows.old.entries) (fields_of fields.now) ≡ Ok (map K.entry rows.new.entries)) }
     ensures regions { OnOk result (
         regions.new ≡ regions_of K.table (map K.entry rows.new.entries)) }
-    ensures few { OnOk result (length regions.new ≤ MOST_REGIONS) }
+    ensures few { OnOk result (length regions.new ≤ K.table.most_regions) }
     ensures numbered { OnOk result (length rows.new.entries < 2 ^ 32) }
     ensures err { IfErr result (λ e. (e ≡ OutOfMemory) ⊎ (with_row (row_at K.table row)
         (map K.entry rows.old.entries) (fields_of fields.now) ≡ Err e)) }
@@ -138,13 +142,13 @@ fn add_next<K: Kind>(
     fields: &ByteRecord,
 ) -> Result<(), TableFault>
     requires regions { regions.old ≡ regions_of K.table (map K.entry rows.old.entries) }
-    requires few { length regions.old ≤ MOST_REGIONS }
+    requires few { length regions.old ≤ K.table.most_regions }
     requires numbered { length rows.old.entries < 2 ^ 32 }
     ensures ok { OnOk result (with_row (row_after K.table)
         (map K.entry rows.old.entries) (fields_of fields.now) ≡ Ok (map K.entry rows.new.entries)) }
     ensures regions { OnOk result (
         regions.new ≡ regions_of K.table (map K.entry rows.new.entries)) }
-    ensures few { OnOk result (length regions.new ≤ MOST_REGIONS) }
+    ensures few { OnOk result (length regions.new ≤ K.table.most_regions) }
     ensures numbered { OnOk result (length rows.new.entries < 2 ^ 32) }
     ensures err { IfErr result (λ e. (e ≡ OutOfMemory) ⊎ (with_row (row_after K.table)
         (map K.entry rows.old.entries) (fields_of fields.now) ≡ Err e)) }

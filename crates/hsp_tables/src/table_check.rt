@@ -8,7 +8,7 @@ ghost use Rattle.hsp_csv.specs.Walks.{shown};
 ghost use Rattle.hsp_tables.specs.TableChecks.{AreKept, IsChecked, faulty_from, faulty_at_start, header_of};
 
 use crate::capacity::Capacities;
-use crate::costs::Costs;
+use crate::costs::LogCosts;
 use crate::demand::Demand;
 use crate::fault::TableFault;
 use crate::faulty::Kept;
@@ -16,7 +16,7 @@ use csv::ByteRecord;
 use hsp_csv::{Checked, PlacedRecord, is_header};
 use std::alloc::{AllocError, Global};
 
-/// One of the three tables.
+/// One of the three tables. Costs are those beside a log.
 #[derive(Clone, Copy)]
 pub enum TableKind {
     Demand,
@@ -39,7 +39,7 @@ pub fn is_table_header(kind: TableKind, record: &ByteRecord) -> bool
 #[derive(Drop)]
 enum Held {
     Demand(Kept<Demand>),
-    Costs(Kept<Costs>),
+    Costs(Kept<LogCosts>),
     Capacity(Kept<Capacities>),
 }
 
@@ -66,6 +66,10 @@ impl TableCheck {
     /// Looks at the next record below the header. Its row is kept where it has no fault.
     ///
     /// The order of faults is that of the table's reader. A row that is one too many is the last one that is looked at.
+    ///
+    /// # Errors
+    ///
+    /// An `AllocError` where memory runs out. Nothing is said of the rows that are kept then.
     pub fn check(
         &mut self,
         alloc: Global,

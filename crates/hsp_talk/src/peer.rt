@@ -20,8 +20,12 @@ pub trait Peer {
     /// Whether a send may fail.
     ghost may_send_fail: { Type 0 } = { ⊤ };
 
-    /// Waits for octets, and takes as many as there are, up to the length of the piece; none where no more come. Fails
-    /// where the piece has no room. It reads once, and writes nothing.
+    /// Waits for octets, and takes as many as there are, up to the length of the piece; none where no more come. It
+    /// reads once, and writes nothing.
+    ///
+    /// # Errors
+    ///
+    /// `Failed` where the piece has no room, or where the read fails. Nothing was received then.
     fn receive(&mut self, piece: &mut [u8]) -> Result<usize, Failed>
         ensures within { IfOk result (λ count. count ≤ length piece.new) }
         ensures long { length piece.new ≡ length piece.old }
@@ -34,6 +38,10 @@ pub trait Peer {
         ensures lasts { may_read_fail self.new → may_read_fail self.old };
 
     /// Writes all octets, and hands them on.
+    ///
+    /// # Errors
+    ///
+    /// `Failed` where a write fails, or where the octets can't be handed on. A beginning of them may have been sent.
     fn send(&mut self, octets: &[u8]) -> Result<(), Failed>
         ensures sends { OnOk result
             (GoesOn (known self.old) (known self.new) (sent octets.now ∷ [])) }

@@ -19,8 +19,12 @@ pub trait Responder {
     /// Takes a row, and writes its answer: any number of lines, also none.
     ///
     /// A row is a line without its line feed, and is never empty. A carriage return before the line feed belongs to the
-    /// row. A longer line than [`LONGEST_ROW`](crate::LONGEST_ROW) comes cut to one octet more than that. What stands
-    /// in `answer` after a refusal is never sent.
+    /// row. A longer line than [`LONGEST_ROW`](crate::LONGEST_ROW) comes cut to one octet more than that.
+    ///
+    /// # Errors
+    ///
+    /// `Fault` where the row is refused, `OutOfMemory` where memory runs out. What stands in `answer` then is never
+    /// sent.
     fn take(&mut self, row: &[u8], answer: &mut Vec<u8>) -> Result<(), Refusal<Self::Fault>>
         requires { answer.old.items ≡ [] }
         ensures takes { OnOk result (Takes self.old row.now self.new answer.new.items) }

@@ -15,18 +15,29 @@ pub trait Sink: Write {
     /// The octets that have left it, where they are known: no buffer of its own still holds one of them.
     ghost handed: { Self → Option (List ℕ) };
 
-    /// Writes the whole text. A write that a signal interrupts is made again. Where a write fails or takes no octet, a
-    /// beginning of the text was written.
+    /// Writes the whole text. A write that a signal interrupts is made again.
+    ///
+    /// # Errors
+    ///
+    /// `Failed` where a write fails or takes no octet. A beginning of the text was then written.
     fn write_text(&mut self, text: &[u8]) -> Result<(), Failed>
         ensures { Puts may_fail text.now (Self.contents self.old) (Self.contents self.new) result };
 
     /// Hands on what was written.
+    ///
+    /// # Errors
+    ///
+    /// `Failed` where what was written can't be handed on.
     fn hand_on(&mut self) -> Result<(), Failed>
         ensures kept { Keeps (Self.contents self.old) (Self.contents self.new) }
         ensures fails { OnErr result may_fail }
         ensures handed { OnOk result (handed self.new ≡ Self.contents self.new) };
 
     /// Writes the whole text, and hands it on.
+    ///
+    /// # Errors
+    ///
+    /// `Failed` as by [`write_text`](Sink::write_text), or else as by [`hand_on`](Sink::hand_on).
     fn deliver(&mut self, text: &[u8]) -> Result<(), Failed>
         ensures puts { Puts may_fail text.now (Self.contents self.old) (Self.contents self.new)
             result }

@@ -16,6 +16,10 @@ pub trait Source: Read {
     ghost reads: { Self → Option (List (List ℕ)) };
 
     /// Reads once, and again where a signal interrupts it.
+    ///
+    /// # Errors
+    ///
+    /// `Failed` where the read fails. Nothing was read then.
     fn read_piece(&mut self, piece: &mut [u8]) -> Result<usize, Failed>
         ensures within { IfOk result (λ count. count ≤ length piece.new) }
         ensures long { length piece.new ≡ length piece.old }

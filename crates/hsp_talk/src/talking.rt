@@ -145,8 +145,11 @@ fn send_owed<P: Peer>(peer: &mut P, owed: &mut Vec<u8>) -> Result<(), Failed>
 /// Of a line with more than [`LONGEST_ROW`] octets, the first [`LONGEST_ROW`] and one more are the row, and the rest is
 /// passed over. So memory is bounded whatever comes, and the responder sees that the row is too long.
 ///
-/// Where the responder refuses a row, the answers to the rows before it are sent first. The same holds where memory
-/// runs out. There are at most 2^64 - 1 reads: where octets come even then, a failed read is reported.
+/// # Errors
+///
+/// Read by read, in this order: `ReadFailed` where the read fails; `WriteFailed` where the answers can't be sent;
+/// `Fault` where the responder refused a row, or `OutOfMemory` where memory ran out. The answers to the rows before
+/// that are sent first. There are at most 2^64 - 1 reads: where octets come even then, `ReadFailed` is returned.
 pub fn talk<P: Peer, D: Responder>(
     alloc: Global,
     responder: &mut D,

@@ -8,6 +8,10 @@ use std::alloc::{AllocError, Global};
 use std::io::Read;
 
 /// Every octet of the reader, or None where a read failed or where there are more than 67,108,864 octets.
+///
+/// # Errors
+///
+/// An `AllocError` where memory runs out.
 pub fn read_file<R: Read + Drop>(alloc: Global, reader: R) -> Result<Option<Vec<u8>>, AllocError>
     ensures octets { IfOk result (λ found. IfSome found (λ whole.
         IfSome (R.remaining reader) (λ text. whole.items ≡ text))) }
@@ -33,6 +37,10 @@ pub fn read_file<R: Read + Drop>(alloc: Global, reader: R) -> Result<Option<Vec<
 
 /// The octets of the reader before its first LF or, without one, before its end. It is None where a read failed, or
 /// where they are more than 65,536.
+///
+/// # Errors
+///
+/// An `AllocError` where memory runs out.
 pub fn first_line<R: Read + Drop>(alloc: Global, reader: R) -> Result<Option<Vec<u8>>, AllocError>
     ensures line { IfOk result (λ found. IfSome found (λ line.
         IfSome (R.remaining reader) (λ text. line.items ≡ first_line_of text))) }

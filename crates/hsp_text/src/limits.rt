@@ -12,11 +12,17 @@ pub const MOST_HOSTS: usize = 1024;
 /// The greatest number of regions that the rows of one table may name.
 pub const MOST_REGIONS: usize = 64;
 
+/// The greatest number of regions that the rows of a log may name, and a table of costs beside a log.
+pub const MOST_LOG_REGIONS: usize = 4096;
+
 /// The greatest number of rows in the table of demand.
 pub const MOST_DEMAND_ROWS: usize = 8192;
 
 /// The greatest number of rows in the table of costs.
 pub const MOST_COST_ROWS: usize = 2048;
+
+/// The greatest number of rows in a table of costs beside a log.
+pub const MOST_LOG_COST_ROWS: usize = 131_072;
 
 /// The greatest number of rows in the table of capacities.
 pub const MOST_CAPACITY_ROWS: usize = 1024;

@@ -10,8 +10,12 @@ use std::io::Write;
 #[derive(Clone, Copy, Debug, PartialEq, Eq)]
 pub struct WriteFailed;
 
-/// Writes the whole text. Where a `write` fails or takes no octet, nothing is tried again: the writer has then taken a
-/// beginning of the text that lacks at least one octet.
+/// Writes the whole text.
+///
+/// # Errors
+///
+/// `WriteFailed` where a `write` fails or takes no octet. Nothing is tried again: the writer has then taken a beginning
+/// of the text that lacks at least one octet.
 pub fn put_all<W: Write>(writer: &mut W, text: &[u8]) -> Result<(), WriteFailed>
     ensures whole { OnOk result (Appends (W.contents writer.old) (W.contents writer.new) text.now) }
     ensures cut { OnErr result (IsCut (W.contents writer.old) (W.contents writer.new) text.now) }

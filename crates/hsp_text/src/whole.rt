@@ -38,7 +38,17 @@ fn is_whole(text: &[u8]) -> bool
 /// The number that the text spells in decimal digits, without a sign and without a leading zero, if it is at most
 /// `max`.
 ///
-/// Digits of any length are read. `NotWhole` comes before `TooLarge`.
+/// Digits of any length are read.
+///
+/// ```
+/// assert!(rt; read_whole(b"1000000", 1_000_000) == Ok(1_000_000));
+/// assert!(rt; read_whole(b"01", 1_000_000) == Err(WholeFault::NotWhole));
+/// assert!(rt; read_whole(b"1000001", 1_000_000) == Err(WholeFault::TooLarge));
+/// ```
+///
+/// # Errors
+///
+/// In this order: `NotWhole` where the text is not such digits, `TooLarge` where its number is above `max`.
 pub fn read_whole(text: &[u8], max: u64) -> Result<u64, WholeFault>
     ensures { result ≡ whole_within max text.now }
 {
@@ -72,8 +82,12 @@ pub fn push_digits(out: &mut Vec<u8>, number: u64)
     out.push(b'0' + (number % 10) as u8).unwrap();
 }
 
-/// Appends the decimal digits of a number, at most 20. It can't fail where `out` has room for 20 octets. If memory runs
-/// out, `out` stays as it was.
+/// Appends the decimal digits of a number, at most 20.
+///
+/// # Errors
+///
+/// An `AllocError` where memory runs out. Then `out` stays as it was. It never comes where `out` has room for 20
+/// octets.
 pub fn push_whole(out: &mut Vec<u8>, number: u64) -> Result<(), AllocError>
     ensures digits { OnOk result (out.new.items ≡ out.old.items ++ decimal number) }
     ensures len { OnOk result (vec_len out.new ≤ vec_len out.old + 20) }

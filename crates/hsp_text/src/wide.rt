@@ -23,7 +23,11 @@ fn push_wide_number(out: &mut Vec<u8>, number: u128)
     out.push(b'0' + (number % 10) as u8).unwrap();
 }
 
-/// Appends the decimal digits of a 128-bit number, at most 39. If memory runs out, `out` stays as it was.
+/// Appends the decimal digits of a 128-bit number, at most 39.
+///
+/// # Errors
+///
+/// An `AllocError` where memory runs out. Then `out` stays as it was.
 pub fn push_wide(out: &mut Vec<u8>, number: u128) -> Result<(), AllocError>
     ensures digits { OnOk result (out.new.items ≡ out.old.items ++ decimal number) }
     ensures err { OnErr result (out.new.items ≡ out.old.items) }

@@ -31,7 +31,11 @@ fn push_line_part(out: &mut Vec<u8>, word: &[u8], numbers: &[u64]) -> Result<(),
     Ok(())
 }
 
-/// Appends a space and the digits of a number. If memory runs out, `out` stays as it was.
+/// Appends a space and the digits of a number.
+///
+/// # Errors
+///
+/// An `AllocError` where memory runs out. Then `out` stays as it was.
 pub fn push_number(out: &mut Vec<u8>, number: u64) -> Result<(), AllocError>
     ensures number { OnOk result (out.new.items ≡ out.old.items ++ 32 ∷ decimal number) }
     ensures err { OnErr result (out.new.items ≡ out.old.items) }
@@ -44,8 +48,11 @@ pub fn push_number(out: &mut Vec<u8>, number: u64) -> Result<(), AllocError>
     pushed
 }
 
-/// Appends a line: a word, the numbers behind it with a space before each, and LF. If memory runs out, `out` stays as
-/// it was.
+/// Appends a line: a word, the numbers behind it with a space before each, and LF.
+///
+/// # Errors
+///
+/// An `AllocError` where memory runs out. Then `out` stays as it was.
 pub fn push_line(out: &mut Vec<u8>, word: &[u8], numbers: &[u64]) -> Result<(), AllocError>
     ensures line { OnOk result (out.new.items ≡ out.old.items ++ numbered word.now numbers.now) }
     ensures err { OnErr result (out.new.items ≡ out.old.items) }
@@ -81,8 +88,11 @@ fn digit_count(number: u128) -> usize
     digit_count(number / 10) + 1
 }
 
-/// Appends the digits of a number, right-aligned in `width` places. A longer number is written whole. If memory runs
-/// out, `out` stays as it was.
+/// Appends the digits of a number, right-aligned in `width` places. A longer number is written whole.
+///
+/// # Errors
+///
+/// An `AllocError` where memory runs out. Then `out` stays as it was.
 pub fn push_aligned(out: &mut Vec<u8>, number: u128, width: usize) -> Result<(), AllocError>
     ensures aligned { OnOk result
         (out.new.items ≡ out.old.items ++ right_aligned width (decimal number)) }

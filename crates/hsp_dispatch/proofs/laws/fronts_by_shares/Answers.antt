@@ -1,6 +1,6 @@
 use Rattle.hsp_dispatch.proofs.FrontCounts.{as_dispatchers}
 use Rattle.hsp_dispatch.proofs.FrontLaws as lemmas
-use Rattle.hsp_dispatch.proofs.FrontShares.{shares_add_up}
+use Rattle.hsp_log.proofs.FrontShares.{shares_add_up}
 use Rattle.hsp_dispatch.proofs.laws.fronts_by_shares.Goals as goal
 
 pub returns-clause-shares : goal.returns-clause-shares

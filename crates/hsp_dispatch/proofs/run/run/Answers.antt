@@ -3,7 +3,7 @@ use Rattle.std.proofs.lemmas.Result.{err_from_is_err_and}
 use Rattle.hsp_dispatch.specs.Runs.{desk_of}
 use Rattle.hsp_dispatch.proofs.InTurn.{all_left}
 use Rattle.hsp_dispatch.proofs.Running.{memory_stops}
-use Rattle.hsp_dispatch.specs.declared.form.Form.TheVariants.{Handles}
+use Rattle.hsp_log.specs.declared.form.Form.TheVariants.{Handles}
 use Rattle.hsp_dispatch.proofs.run.run.Goals as goal
 
 pub returns-in_err-of-clause-stops : goal.returns-in_err-of-clause-stops

@@ -2,11 +2,12 @@ use Rattle.std.proofs.Common.{[], ◌<◌, ◌∙◌, inr, refl, sym, ap, arith,
 use Rattle.std.proofs.KnownBytes.{Appends-nil}
 use Rattle.std.proofs.lemmas.Result.{err_from_is_err_and}
 use Rattle.csv.specs.Records.{fields_of}
-use Rattle.hsp_dispatch.specs.Lines.{line_by, lines_of}
+use Rattle.hsp_dispatch.specs.Lines.{line_by}
+use Rattle.hsp_log.specs.Lines.{lines_of}
 use Rattle.hsp_dispatch.specs.Runs.{desk_of}
 use Rattle.hsp_dispatch.proofs.InTurn.{all_read, header_read, row_read}
 use Rattle.hsp_dispatch.proofs.Running.{ends, header_stops, line_stops, read_stops, refused_stops, row_more, too_long}
-use Rattle.hsp_dispatch.specs.declared.form.Form.TheVariants.{Handles}
+use Rattle.hsp_log.specs.declared.form.Form.TheVariants.{Handles}
 use Rattle.hsp_dispatch.proofs.run.run_rows.Goals as goal
 
 pub returns-in_err-form-clause-stops : goal.returns-in_err-form-clause-stops

@@ -9,7 +9,7 @@ pub minimum_cost_flow-requires : goal.minimum_cost_flow-requires
 minimum_cost_flow-requires g c = record {
   small = rw c.row_network-network.ensures (small_is c.args.instance.now c.requires.within);
   nodes = λ n l. c.requires.nodes n
-      (few_nodes c.args.instance.now (length c.args.instance.now.rows) _ _ _
+      (few_nodes c.args.instance.now _ _ _
       (ap (λ (n : Transport). length n.demands) c.row_network-network.ensures
       ∙ length-map c.args.instance.now.rows (λ (r : Row). r.count))
       (ap (λ (n : Transport). n.capacities) c.row_network-network.ensures)

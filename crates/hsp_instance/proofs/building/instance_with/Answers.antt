@@ -36,7 +36,7 @@ invariant_of-result c =
       capacities = c.args.tables.capacity.now;
     }) c.args.sites
     c.in_ok-servers.servers.items
-    c.in_ok-hosts.ensures.within c.in_ok-arcs.ensures.within c.in_ok-check_cost_rows.ensures.within
+    c.in_ok-hosts.ensures.within c.in_ok-arcs.ensures.within c.in_ok-check_costs.ensures.within
     c.in_ok-check_capacities.ensures.within (rw c.sites.view_is at c.sites.invariant) built)
 
 pub returns : goal.returns
@@ -45,7 +45,7 @@ returns c values =
     let hosts : c.as_slice.result.now ≡ map host_of_entry c.args.settings.now.hosts =
     c.as_slice.ensures.value ∙ c.in_ok-hosts.ensures.hosts in
     let no_cost_fault : unless (cost_fault c.args.sites 0 c.args.tables.costs.now)
-    ≡ Ok c.in_ok-check_cost_rows.field-0 = rw (← same) c.in_ok-check_cost_rows.ensures.fault in
+    ≡ Ok c.in_ok-check_costs.field-0 = rw (← same) c.in_ok-check_costs.ensures.fault in
     let no_capacity_fault : unless (capacity_fault c.args.sites 0 c.args.tables.capacity.now)
     ≡ Ok c.in_ok-check_capacities.field-0 = rw (← same) c.in_ok-check_capacities.ensures.fault in
     let built : servers_from c.args.tables.capacity.now (map host_of_entry c.args.settings.now.hosts) 0 [] c.args.sites

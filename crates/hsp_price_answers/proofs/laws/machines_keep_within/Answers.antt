@@ -1,5 +1,5 @@
 use Rattle.hsp_price_dispatch.proofs.Fronts.{never_exceeds_together}
-use Rattle.hsp_stream.specs.Asking.{queries_in}
+use Rattle.hsp_price_answers.specs.Asking.{queries_in}
 use Rattle.hsp_price_answers.proofs.laws.machines_keep_within.Goals as goal
 
 pub returns : goal.returns

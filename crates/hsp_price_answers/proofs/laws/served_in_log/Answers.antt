@@ -1,5 +1,5 @@
 use Rattle.hsp_price_dispatch.proofs.Planned.{served_by_plan}
-use Rattle.hsp_stream.specs.Asking.{queries_in}
+use Rattle.hsp_price_answers.specs.Asking.{queries_in}
 use Rattle.hsp_price_answers.proofs.laws.served_in_log.Goals as goal
 
 pub returns : goal.returns

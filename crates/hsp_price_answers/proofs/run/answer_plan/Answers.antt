@@ -1,5 +1,5 @@
 use Rattle.std.proofs.Common.{inl, inr, refl, ap, Err}
-use Rattle.hsp_stream.proofs.TalkEnds.{talk_same, untouched_so}
+use Rattle.hsp_price_answers.proofs.TalkEnds.{talk_same, untouched_so}
 use Rattle.hsp_price_answers.proofs.PriceTurns.{turn_is_prices}
 use Rattle.hsp_price_answers.proofs.run.answer_plan.Goals as goal
 

@@ -1,5 +1,5 @@
 use Rattle.std.proofs.Common.{◌∙◌, ap, inl, inr, refl, Ok, Err}
-use Rattle.hsp_stream.specs.Faults.{fault_of_input}
+use Rattle.hsp_inputs.specs.Faults.{fault_of_input}
 use Rattle.hsp_price_answers.proofs.run.answer_text.Goals as goal
 
 pub returns-in-Ok-clause-answered : goal.returns-in-Ok-clause-answered

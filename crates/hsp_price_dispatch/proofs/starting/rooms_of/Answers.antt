@@ -1,6 +1,6 @@
 use Rattle.std.proofs.Common.{◌<◌, ◌-◌, arith, length, slice_index}
 use Rattle.std.proofs.lemmas.List.{get_or_read}
-use Rattle.hsp_dispatch.proofs.FrontShares.{share_le}
+use Rattle.hsp_log.proofs.FrontShares.{share_le}
 use Rattle.hsp_price_dispatch.proofs.starting.rooms_of.Goals as goal
 
 pub overflow_add-share : goal.overflow_add-share

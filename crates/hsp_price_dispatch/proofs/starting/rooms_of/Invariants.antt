@@ -1,5 +1,5 @@
 use Rattle.std.proofs.Common.{◌≡◌, ◌<◌, ◌+◌, ◌-◌, ℕ, length, slice_index}
-use Rattle.hsp_dispatch.specs.Fronts.{share}
+use Rattle.hsp_log.specs.FrontShares.{share}
 use Rattle.hsp_price_dispatch.proofs.starting.rooms_of.Given as goal
 
 abbrev pub invariant-loop-place : goal.invariant-loop-place

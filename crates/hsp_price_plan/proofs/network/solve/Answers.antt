@@ -4,8 +4,8 @@ use Rattle.hsp_price_plan.specs.Pressing.{CanPress}
 use Rattle.hsp_price_plan.proofs.GroupNetwork.{can_press, is_small}
 use Rattle.hsp_price_plan.proofs.network.solve.Goals as goal
 
-pub outcome_of-requires : goal.outcome_of-requires
-outcome_of-requires c =
+pub solve-requires : goal.solve-requires
+solve-requires c =
     rw c.group_network-network.ensures
     (is_small c.args.numbers.now c.args.groups.now c.requires.arcs (omega arith) c.requires.few_arcs
     c.requires.demands)

@@ -1,6 +1,6 @@
 use Rattle.std.proofs.lemmas.Result.{on_ok_weaker}
 use Rattle.csv.specs.Records.{fields_of}
-use Rattle.hsp_stream.specs.RowsShown.{parts_shown, row_shown}
+use Rattle.hsp_log.specs.RowsShown.{parts_shown, row_shown}
 use Rattle.hsp_price_runs.specs.Passing.{Takes}
 use Rattle.hsp_price_runs.proofs.RowsTaken.{good_row}
 use Rattle.hsp_price_runs.proofs.log_pass.pass_record.Goals as goal

@@ -1,4 +1,4 @@
-use Rattle.hsp_stream.specs.RowsShown.{row_shown}
+use Rattle.hsp_log.specs.RowsShown.{row_shown}
 use Rattle.hsp_price_runs.proofs.RowsTaken.{taking_stops}
 use Rattle.hsp_price_runs.proofs.log_pass.pass_row.Goals as goal
 

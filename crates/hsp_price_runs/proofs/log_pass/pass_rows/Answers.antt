@@ -1,7 +1,7 @@
 use Rattle.std.proofs.Common.{inl, inr}
 use Rattle.std.proofs.lemmas.Result.{err_from_is_err_and}
 use Rattle.csv.specs.Records.{fields_of}
-use Rattle.hsp_stream.specs.Watching.{watched_left}
+use Rattle.hsp_log.specs.Watching.{watched_left}
 use Rattle.hsp_price_runs.proofs.LogReading.{none_taken, one_bad, one_taken, some_taken}
 use Rattle.hsp_price_runs.proofs.log_pass.pass_rows.Goals as goal
 

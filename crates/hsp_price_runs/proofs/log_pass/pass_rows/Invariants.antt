@@ -1,6 +1,6 @@
 use Rattle.std.proofs.Common.{◌-◌, ◌^◌}
 use Rattle.hsp_csv.specs.Records.{IsReading}
-use Rattle.hsp_stream.specs.Watching.{watched_left}
+use Rattle.hsp_log.specs.Watching.{watched_left}
 use Rattle.hsp_price_runs.proofs.LogReading.{TakenSoFar}
 use Rattle.hsp_price_runs.proofs.log_pass.pass_rows.Given as goal
 

@@ -1,7 +1,7 @@
 use Rattle.std.proofs.Common.{Ok}
 use Rattle.std.proofs.lemmas.Result.{IfOk-weaker}
-use Rattle.hsp_stream.specs.LogRows.{OfLog}
-use Rattle.hsp_stream.proofs.LogReading.{log_more}
+use Rattle.hsp_log.specs.LogRows.{OfLog}
+use Rattle.hsp_log.proofs.LogReading.{log_more}
 use Rattle.hsp_price_runs.specs.PriceReport.{IsPriceReport, IsReportBy}
 use Rattle.hsp_price_runs.specs.PriceRun.{AnswersByPrices, AnswersRead}
 use Rattle.hsp_price_runs.specs.declared.report.PriceReport.{PriceReport}

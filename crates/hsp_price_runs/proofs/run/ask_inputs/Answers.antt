@@ -1,11 +1,11 @@
 use Rattle.std.proofs.Common.{◌⊎◌, inl, inr, Ok, Err, ap}
 use Rattle.std.proofs.lemmas.Result.{IfErr-weaker, IfOk-weaker, err_from_is_err_and}
 use Rattle.hsp_price_check.specs.Classes.{service_of}
-use Rattle.hsp_stream.specs.Faults.{fault_of_input}
-use Rattle.hsp_stream.specs.LogRows.{OfLog}
-use Rattle.hsp_stream.specs.Watching.{MayStopReading}
-use Rattle.hsp_stream.specs.declared.fault.StreamFault.{StreamFault}
-use Rattle.hsp_stream.proofs.LogReading.{log_all, log_more}
+use Rattle.hsp_inputs.specs.Faults.{fault_of_input}
+use Rattle.hsp_log.specs.LogRows.{OfLog}
+use Rattle.hsp_inputs.specs.Stopping.{MayStopReading}
+use Rattle.hsp_inputs.specs.declared.stream_fault.StreamFault.{StreamFault}
+use Rattle.hsp_log.proofs.LogReading.{log_all, log_more}
 use Rattle.hsp_price_runs.specs.PriceRun.{AnswersByPrices, AnswersInputs, AnswersRead, AnswersText, IsReadFrom}
 use Rattle.hsp_price_runs.proofs.Judged.{inputs_are, inputs_stop}
 use Rattle.hsp_price_runs.proofs.run.ask_inputs.Goals as goal
@@ -43,7 +43,8 @@ returns-in-Ok-clause-answer g c =
     (λ answer.
     log_more (AnswersText (Is it (service_of costs it)) octets (Ok answer))
     (AnswersRead Is inputs octets (Ok answer)) log
-    (λ records is. (it, read, (costs, rw c.deref.ensures.value at c.in-Ok.ensures, is)))) c.ask_text.ensures.answer
+    (λ records is. (it, read, (costs, rw (c.limits.ensures, c.deref.ensures.value) at c.in-Ok.ensures, is))))
+    c.ask_text.ensures.answer
 
 pub returns-in-Ok-clause-fault : goal.returns-in-Ok-clause-fault
 returns-in-Ok-clause-fault g c =
@@ -66,5 +67,5 @@ returns-in-Ok-clause-fault g c =
           (AnswersInputs Is inputs octets (Err fault)) log
           (λ records is.
           inputs_are (AnswersByPrices Is octets) inputs records it (Err fault) c.in_ok-instance.ensures.instance
-          (costs, rw c.deref.ensures.value at c.in-Ok.ensures, is)) known)
+          (costs, rw (c.limits.ensures, c.deref.ensures.value) at c.in-Ok.ensures, is)) known)
     ]) c.ask_text.ensures.fault

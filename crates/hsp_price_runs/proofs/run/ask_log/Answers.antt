@@ -1,14 +1,13 @@
-use Rattle.std.proofs.Common.{◌⊎◌, inl, inr, List, Ok, Err}
+use Rattle.std.proofs.Common.{◌⊎◌, inl, inr, List, Ok, Err, ◌≡◌}
 use Rattle.std.proofs.lemmas.Result.{IfErr-weaker, IfOk-weaker}
 use Rattle.hsp_tables.specs.Costs.{CostEntry}
 use Rattle.hsp_instance.specs.Instance.{Row}
 use Rattle.hsp_price_check.specs.Checking.{IsPassed}
 use Rattle.hsp_price_check.specs.Classes.{service_of}
-use Rattle.hsp_stream.specs.LogRows.{OfLog}
-use Rattle.hsp_stream.specs.Watching.{MayStopReading}
-use Rattle.hsp_stream.specs.declared.fault.StreamFault.{StreamFault}
-use Rattle.hsp_stream.specs.declared.fault.StreamFault.TheVariants.{OutOfMemory}
-use Rattle.std.proofs.Common.{◌≡◌}
+use Rattle.hsp_log.specs.LogRows.{OfLog}
+use Rattle.hsp_inputs.specs.Stopping.{MayStopReading}
+use Rattle.hsp_inputs.specs.declared.stream_fault.StreamFault.{StreamFault}
+use Rattle.hsp_inputs.specs.declared.stream_fault.StreamFault.TheVariants.{OutOfMemory}
 use Rattle.hsp_price_runs.specs.PriceRun.{AnswersRecords}
 use Rattle.hsp_price_runs.proofs.Judged.{answered_log, some_rows}
 use Rattle.hsp_price_runs.proofs.run.ask_log.Goals as goal

@@ -1,11 +1,11 @@
 use Rattle.std.proofs.Common.{◌⊎◌, inl, inr, Ok, Err, ap}
 use Rattle.std.proofs.lemmas.Result.{IfErr-weaker, IfOk-weaker, err_from_is_err_and}
 use Rattle.hsp_price_check.specs.Classes.{service_of}
-use Rattle.hsp_stream.specs.Faults.{fault_of_input}
-use Rattle.hsp_stream.specs.LogRows.{OfLog}
-use Rattle.hsp_stream.specs.Watching.{MayStopReading}
-use Rattle.hsp_stream.specs.declared.fault.StreamFault.{StreamFault}
-use Rattle.hsp_stream.proofs.LogReading.{log_all, log_more}
+use Rattle.hsp_inputs.specs.Faults.{fault_of_input}
+use Rattle.hsp_log.specs.LogRows.{OfLog}
+use Rattle.hsp_inputs.specs.Stopping.{MayStopReading}
+use Rattle.hsp_inputs.specs.declared.stream_fault.StreamFault.{StreamFault}
+use Rattle.hsp_log.proofs.LogReading.{log_all, log_more}
 use Rattle.hsp_price_runs.specs.PriceRun.{AnswersRecords, AnswersText}
 use Rattle.hsp_price_runs.proofs.Judged.{certificate_stops, text_is}
 use Rattle.hsp_price_runs.proofs.run.ask_text.Goals as goal

@@ -2,8 +2,8 @@ use Rattle.std.proofs.Common.{◌≡◌, Ok, subst}
 use Rattle.std.proofs.lemmas.Result.{IfOk-weaker}
 use Rattle.hsp_prices.specs.declared.verdict.PriceVerdict.{PriceVerdict}
 use Rattle.hsp_prices.specs.declared.verdict.PriceVerdict.TheVariants.{Yes}
-use Rattle.hsp_stream.specs.LogRows.{OfLog}
-use Rattle.hsp_stream.proofs.LogReading.{log_more}
+use Rattle.hsp_log.specs.LogRows.{OfLog}
+use Rattle.hsp_log.proofs.LogReading.{log_more}
 use Rattle.hsp_price_runs.specs.PriceRun.{AnswersByPrices, AnswersRead, IsPriceVerdict, IsVerdictBy}
 use Rattle.hsp_price_runs.specs.PricesShown.{ShowsLog}
 use Rattle.hsp_price_runs.proofs.Judged.{read_is}

@@ -1,6 +1,6 @@
 use Rattle.std.proofs.Common.{refl, subst, sym}
 use Rattle.hsp_check.specs.declared.verdict.Verdict.TheVariants.{Yes}
-use Rattle.hsp_runs.specs.Memory.{IsOrNoMemory}
+use Rattle.hsp_inputs.specs.Memory.{IsOrNoMemory}
 use Rattle.hsp_runs.specs.Shown.{Shows}
 use Rattle.hsp_runs.proofs.Always.{checked_shows, handed}
 use Rattle.hsp_runs.proofs.Reporting.{stands_then}

@@ -1,6 +1,6 @@
 use Rattle.std.proofs.Common.{refl}
 use Rattle.hsp_check.specs.declared.verdict.Verdict.TheVariants.{Yes}
-use Rattle.hsp_runs.specs.Memory.{IsOrNoMemory}
+use Rattle.hsp_inputs.specs.Memory.{IsOrNoMemory}
 use Rattle.hsp_runs.proofs.Always.{handed, held_read}
 use Rattle.hsp_runs.proofs.checking.judged_text.Goals as goal
 

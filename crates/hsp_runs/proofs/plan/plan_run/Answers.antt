@@ -1,5 +1,5 @@
 use Rattle.std.proofs.Common.{IsOkUnless, refl}
-use Rattle.hsp_runs.specs.declared.fault.Fault.TheVariants.{OutOfMemory}
+use Rattle.hsp_inputs.specs.declared.fault.Fault.TheVariants.{OutOfMemory}
 use Rattle.hsp_runs.proofs.Always.{handed, planned_always}
 use Rattle.hsp_runs.proofs.plan.plan_run.Goals as goal
 

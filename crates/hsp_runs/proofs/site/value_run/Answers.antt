@@ -1,6 +1,6 @@
 use Rattle.std.proofs.Common.{◌≡◌, rules, true}
 use Rattle.hsp_runs.specs.SiteText.{is_site_value}
-use Rattle.hsp_runs.proofs.Naming.{same_value}
+use Rattle.hsp_inputs.proofs.Naming.{same_value}
 use Rattle.hsp_runs.proofs.Printing.{in_value}
 use Rattle.hsp_runs.proofs.site.value_run.Goals as goal
 

@@ -1,7 +1,6 @@
 use Rattle.std.proofs.Common.{◌≡◌, ◌∙◌, ap, arith, inr, length, nat_lt, sym, false}
 use Rattle.std.proofs.lemmas.Bool.{ltb-false}
 use Rattle.csv.specs.Records.{fields_of}
-use Rattle.hsp_text.specs.declared.limits.TheConstants.{MOST_REGIONS}
 use Rattle.hsp_tables.specs.Table.{regions_of, seen_with}
 use Rattle.hsp_tables.proofs.KeptRows.{Spells, kept_next, kept_regions, kept_too_many, kept_twice}
 use Rattle.hsp_tables.proofs.table.add_record.Goals as goal
@@ -78,4 +77,4 @@ returns-clause-regions g c =
 pub returns-clause-few : goal.returns-clause-few
 returns-clause-few g c =
     let few = sym (c.is_one_too_many.ensures c.in_ok-key.number) ∙ c.if-is_one_too_many.false in
-    rw (c.in_ok-see_region.ensures.ok c.in_ok-key.number) (ltb-false MOST_REGIONS _ few)
+    rw (c.in_ok-see_region.ensures.ok c.in_ok-key.number) (ltb-false g.K.Kind.table.most_regions _ few)

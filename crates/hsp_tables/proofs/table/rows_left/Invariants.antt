@@ -1,6 +1,5 @@
 use Rattle.std.proofs.Common.{◌≡◌, ◌<◌, ◌≤◌, ◌^◌, [], length, map}
 use Rattle.hsp_csv.specs.Records.{IsKnown, IsReading, records_left}
-use Rattle.hsp_text.specs.declared.limits.TheConstants.{MOST_REGIONS}
 use Rattle.hsp_tables.specs.Fields.{lent}
 use Rattle.hsp_tables.specs.InTurn.{rows_after}
 use Rattle.hsp_tables.specs.Table.{regions_of, row_after}
@@ -14,7 +13,7 @@ invariant-rows g l =
       reading : IsReading l.records;
       known : IsKnown lent l.records;
       regions : l.regions ≡ regions_of table rows;
-      few : length l.regions ≤ MOST_REGIONS;
+      few : length l.regions ≤ table.most_regions;
       numbered : length l.rows.entries < 2 ^ 32;
       so_far : rows_after (row_after table) rows (records_left lent l.records)
           ≡ rows_after (row_after table) [] (records_left lent l.fn.records);

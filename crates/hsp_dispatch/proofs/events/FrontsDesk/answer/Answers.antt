@@ -1,6 +1,7 @@
 use Rattle.std.proofs.Common.{◌∙◌, sym, refl}
 use Rattle.csv.specs.Records.{fields_of}
-use Rattle.hsp_dispatch.proofs.Desks.{event_more, if_both, spells_event}
+use Rattle.hsp_dispatch.proofs.Desks.{event_more, if_both}
+use Rattle.hsp_log.proofs.RowFields.{spells_event}
 use Rattle.hsp_dispatch.proofs.events.FrontsDesk.answer.Goals as goal
 
 pub returns-clause-answers : goal.returns-clause-answers

@@ -1,7 +1,7 @@
 use Rattle.std.proofs.Common.{◌≡◌, ◌<◌, ◌∙◌, Some, arith, refl, sym}
 use Rattle.hsp_dispatch.specs.Dispatch.{row_of}
 use Rattle.hsp_dispatch.specs.Fronts.{fronts_of}
-use Rattle.hsp_dispatch.specs.Shares.{query}
+use Rattle.hsp_log.specs.Entries.{query}
 use Rattle.hsp_dispatch.proofs.FrontsHeld.{answered_at}
 use Rattle.hsp_dispatch.proofs.fronts.Fronts.assign.Goals as goal
 

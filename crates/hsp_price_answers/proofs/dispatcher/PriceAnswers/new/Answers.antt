@@ -1,7 +1,7 @@
 use Rattle.std.proofs.Common.{◌≡◌, ◌∙◌, List, ap, length, sym}
 use Rattle.std.proofs.lemmas.List.{length-map}
 use Rattle.hsp_instance.specs.Instance.{Server}
-use Rattle.hsp_dispatch.specs.Lines.{lines_of, server_line}
+use Rattle.hsp_log.specs.Lines.{lines_of, server_line}
 use Rattle.hsp_price_answers.proofs.Lines.{all_long}
 use Rattle.hsp_price_answers.proofs.dispatcher.PriceAnswers.new.Goals as goal
 

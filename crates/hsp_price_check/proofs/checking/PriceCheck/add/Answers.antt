@@ -3,7 +3,7 @@ use Rattle.std.specs.List.{AllByRecursion, list_any}
 use Rattle.std.specs.Str.{bytes_eq}
 use Rattle.hsp_names.specs.Lent.{octets_of}
 use Rattle.hsp_tables.specs.Costs.{CostEntry}
-use Rattle.hsp_text.specs.declared.limits.TheConstants.{MOST_REGIONS}
+use Rattle.hsp_text.specs.declared.limits.TheConstants.{MOST_LOG_REGIONS}
 use Rattle.hsp_instance.specs.Building.{arcs_from}
 use Rattle.hsp_instance.specs.Instance.{Row, Site, regions_of}
 use Rattle.hsp_instance.specs.RowArcs.{IsWithin, row_named, with_region}
@@ -56,7 +56,7 @@ pub returns-clause-passed : goal.returns-clause-passed
 returns-clause-passed c at certificate rows passed =
     let row = row_named c.args.region.now (octets_of c.args.handle) c.args.count in
     let known : (list_any (bytes_eq c.args.region.now) (regions_of rows) ≡ true)
-    ⊎ (length (regions_of rows) < MOST_REGIONS) =
+    ⊎ (length (regions_of rows) < MOST_LOG_REGIONS) =
     rw (← passed.regions_are) (c.has_no_room.ensures.room c.if-has_no_room.false) in
     let regions =
     c.in_ok-number.ensures.regions ∙ ap (λ list. with_region list c.args.region.now) passed.regions_are

@@ -5,7 +5,7 @@ use Rattle.hsp_names.specs.Lent.{octets_of}
 use Rattle.hsp_instance.specs.RowArcs.{IsWithin, row_named}
 use Rattle.hsp_instance.specs.declared.arc.Arc.{Arc}
 use Rattle.hsp_prices.specs.Least.{arcs_of}
-use Rattle.hsp_dispatch.specs.Shares.{query}
+use Rattle.hsp_log.specs.Entries.{query}
 use Rattle.hsp_price_dispatch.specs.Choosing.{Least, least_for}
 use Rattle.hsp_price_dispatch.specs.Regions.{has_cost}
 use Rattle.hsp_price_dispatch.specs.Taking.{CanTake}

@@ -9,7 +9,7 @@ use Rattle.hsp_price_check.specs.declared.fault.PassFault.TheVariants.{OutOfMemo
 use Rattle.hsp_price_runs.specs.Passing.{StopsAt}
 use Rattle.hsp_price_runs.specs.Taking.{HasPassedOver}
 use Rattle.hsp_price_runs.proofs.PassedOver.{passes_over, stops_over}
-use Rattle.hsp_stream.specs.RowsShown.{row_shown}
+use Rattle.hsp_log.specs.RowsShown.{row_shown}
 use Rattle.hsp_price_runs.proofs.taking.PriceCheckRowTaker.take_row.Goals as goal
 
 pub returns-clause-taken : goal.returns-clause-taken

@@ -1,0 +1,14 @@
+pub mod Parts
+pub mod Counts
+pub mod FaultText
+pub mod Headline
+pub mod Stated
+pub mod Limits
+pub mod Memory
+pub mod Readings
+pub mod Instance
+pub mod HeadlineLaws
+pub mod PriceReasons
+pub mod Faults
+pub mod StreamFaultText
+pub mod Stopping

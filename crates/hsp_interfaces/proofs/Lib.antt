@@ -1,3 +1,0 @@
-mod Spelled
-mod Turns
-mod Writing

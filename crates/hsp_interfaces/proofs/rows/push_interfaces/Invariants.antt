@@ -1,8 +1,0 @@
-use Rattle.std.proofs.Common.{◌≡◌, ◌++◌, drop}
-use Rattle.hsp_interfaces.specs.Interfaces.{interface_rows}
-use Rattle.hsp_interfaces.proofs.rows.push_interfaces.Given as goal
-
-abbrev pub invariant-loop-number : goal.invariant-loop-number
-invariant-loop-number l =
-    l.out.items ++ interface_rows l.fields (drop l.number l.server.interfaces)
-    ≡ l.fn.out.items ++ interface_rows l.fields l.server.interfaces

@@ -1,7 +1,0 @@
-use Rattle.hsp_interfaces.proofs.Writing.{server_more}
-use Rattle.hsp_interfaces.proofs.rows.push_record.Goals as goal
-
-pub loop-place-preserved : goal.loop-place-preserved
-loop-place-preserved c =
-    server_more c.loop-place.out.items _ _ c.args.name.now c.loop-place.place c.args.site.now.servers
-    c.server.result.now c.server.ensures c.in_ok-push_server.ensures c.loop-place.invariant

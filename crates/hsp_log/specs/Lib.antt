@@ -1,0 +1,9 @@
+pub mod Log
+pub mod RowChecks
+pub mod LogRows
+pub mod RowsShown
+pub mod Watching
+pub mod RowFaults
+pub mod FrontShares
+pub mod Entries
+pub mod Lines

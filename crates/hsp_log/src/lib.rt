@@ -1,0 +1,26 @@
+// Logs: their headers, their rows and the queries in them, read from any source; why a run over one stops; what is a
+// front's share of a number, and the line of a query that is assigned.
+#![tactic(auto)]
+
+mod body;
+mod fault;
+mod form;
+mod front_share;
+mod lines;
+mod log_rows;
+mod row_check;
+mod row_faults;
+mod watched;
+
+pub use body::{octets_in, request_in};
+pub use fault::{LogFault, RowFault};
+pub use form::{
+    CountForm, Form, LogForm, event_form_of, form_of, is_count_header, is_handle_header,
+    log_form_of,
+};
+pub use front_share::{Front, share};
+pub use lines::ServerLines;
+pub use log_rows::{LogRow, Parts, parts_in, row_of};
+pub use row_check::{check_row, field_at_fault};
+pub use row_faults::{count_fault, handle_fault};
+pub use watched::{Watch, Watched, watch_records};

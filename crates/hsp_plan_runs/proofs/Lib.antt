@@ -1,4 +1,0 @@
-mod RowsHeld
-mod Planned
-mod PlanShown
-mod PlannedAlways

@@ -1,5 +1,0 @@
-pub mod Holding
-pub mod Taken
-pub mod PricesText
-pub mod PlanRun
-pub mod PlanAlways
