@@ -1,5 +1,5 @@
 -- What the ranges and orders of a certificate say of its numbers.
-use Rattle.std.proofs.Common.{◌≡◌, ℕ, ◌+◌, ◌*◌, ◌<◌, ◌≤◌, true, List, [], ◌∷◌, length, All, slice_index_or, inl, inr}
+use Rattle.std.proofs.Common.{◌≡◌, ℕ, ◌+◌, ◌*◌, ◌<◌, ◌≤◌, true, List, [], ◌∷◌, length, inl, inr}
 use Rattle.std.proofs.Common.{Some, arith, eqb-true}
 use Rattle.std.specs.Prelude.{◌&&◌, ◌==◌, nat_le, nat_lt}
 use Rattle.std.specs.List.{list_all}
@@ -33,10 +33,6 @@ in_range one test =
       least = leb-true _ _ counts.0;
       most = leb-true _ _ counts.1;
     }
-
--- uses that pass their test count a million at most
-pub counts_low : (uses : List UseLine) → list_all is_use uses ≡ true → All (λ u. u.count ≤ 1000000) uses
-counts_low uses all k d l = (in_range (slice_index_or uses k d) (AllPass-from_list_all is_use uses all k d l)).most
 
 -- the number of a use's pair, 32 sites a row
 abbrev place_of : UseLine → ℕ

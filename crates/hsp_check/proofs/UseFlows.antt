@@ -67,9 +67,6 @@ module _ (first arc_flows : List ArcFlow) (starts : List ℕ) (rows : ℕ) (uses
     (inside : i < length uses) (so_far : ArcFlows first arc_flows uses i) (l : p < length arc_flows)
     (row : (arc_at arc_flows p).row ≡ (use_at uses i).row) (site : (arc_at arc_flows p).site ≡ (use_at uses i).site)
   where
-    next : List ArcFlow
-    next = with_more arc_flows p (use_at uses i).count
-
     -- only the use's arc has its row and site
     told : (k : ℕ) → k < length arc_flows → (if p == k then (use_at uses i).count else 0)
         ≡ (if (use_at uses i).row == (arc_at first k).row && (use_at uses i).site == (arc_at first k).site

@@ -192,15 +192,6 @@ rest_more it x y z before entry same next row site =
     next row site ∙ rest_same it y (rest it x before) (entry ∷ []) same row site
     ∙ rest_parts it x before (entry ∷ []) row site
 
--- an entry of no row leaves all as it is
-pub rest_unknown : (it : Instance) (x : Plan) (entry : Entry) → row_of it entry ≡ None
-    → IsSame x (rest it x (entry ∷ []))
-rest_unknown it x entry unknown row site =
-    let none : count_for it row (entry ∷ []) ≡ 0 = count_more it row [] entry ∙ rw unknown (omega arith) in
-    let taken : times site (take (count_for it row (entry ∷ [])) (spread it x row)) ≡ 0 =
-    ap (λ (k : ℕ). times site (take k (spread it x row))) none in
-    omega (arith, rest_is it x (entry ∷ []) row site, taken)
-
 -- one query leaves its row without the first element of its spread, and the other rows as they are
 pub rest_here : (it : Instance) (x : Plan) (row site : ℕ) (entry : Entry) → row_of it entry ≡ Some row
     → rest it x (entry ∷ []) row site ≡ x row site - times site (take 1 (spread it x row))

@@ -4,7 +4,7 @@ use Rattle.std.proofs.lemmas.List.{length-map, get_or-map}
 use Rattle.hsp_instance.specs.Instance.{Instance}
 use Rattle.hsp_check.specs.declared.arc.NetworkArc.{NetworkArc}
 use Rattle.hsp_check.specs.Network.{transport}
-use Rattle.hsp_check.specs.Plan.{Feasible, Plan, planned, total}
+use Rattle.hsp_check.specs.Plan.{Feasible, planned, total}
 use Rattle.hsp_check.specs.Prices.{Prices}
 use Rattle.hsp_check.specs.Uses.{table}
 use Rattle.hsp_network.specs.Network.{numbered}
@@ -12,8 +12,8 @@ use Rattle.hsp_transport.specs.Cut.{capacity_of, demand_of}
 use Rattle.hsp_transport.specs.Flow.{IsFeasible}
 use Rattle.hsp_transport.specs.Prices.{HasPrices}
 use Rattle.hsp_transport.specs.Sums.{sum_below}
-use Rattle.hsp_transport.proofs.Alike.{capacity_alike, cost_alike, demand_alike, feasible_alike, feasible_back}
-use Rattle.hsp_transport.proofs.Alike.{prices_alike, prices_back}
+use Rattle.hsp_transport.proofs.Alike.{capacity_alike, cost_alike, demand_alike, feasible_alike}
+use Rattle.hsp_transport.proofs.Alike.{prices_alike}
 use Rattle.hsp_flow.specs.Ordered.{AreOrdered}
 use Rattle.hsp_flow.specs.Planning.{cost_of, network_over, row_of, server_of, transport_over, uses_of}
 use Rattle.hsp_flow.proofs.Bridging.{arc, none_planned, planned_is}
@@ -43,23 +43,6 @@ module _ (it : Instance) (demands : List ℕ) (arcs : List NetworkArc) where
     capacity_is =
         capacity_alike (transport (network_over it demands arcs)) no_arc _ many _ _ _ (column row_of) (column server_of)
         (column cost_of) s t same
-
-  -- a plan that gives each arc its flow
-  module _ (x : Plan) (flows : List ℕ)
-      (flow_is : (k : ℕ) → k < length arcs → planned x (arc arcs k) ≡ slice_index flows k) where
-    -- a feasible plan is a feasible flow
-    pub flow_feasible : Feasible (network_over it demands arcs) x
-        → IsFeasible (numbered (transport_over it demands arcs)) (λ k. slice_index flows k)
-    flow_feasible feasible =
-        feasible_back (transport (network_over it demands arcs)) no_arc _ many _ _ _ (column row_of) (column server_of)
-        (column cost_of) (planned x) _ flow_is feasible.flow
-
-    -- prices of a plan are prices of the flow
-    pub flow_prices : (u p q : List ℕ) → Prices (network_over it demands arcs) x u p q
-        → HasPrices (numbered (transport_over it demands arcs)) (λ k. slice_index flows k) u p q
-    flow_prices u p q prices =
-        prices_back (transport (network_over it demands arcs)) no_arc _ many _ _ _ (column row_of) (column server_of)
-        (column cost_of) (planned x) _ flow_is u p q prices
 
   -- the plan of a flow
   module _ (ordered : AreOrdered arcs) (flows : List ℕ) (all : length flows ≡ length arcs) where

@@ -35,14 +35,6 @@ appends_one old now new n f x a is same = record {
   ];
 }
 
--- a whole list more
-pub appends_list : (old more new : List ℕ) → new ≡ old ++ more → Appends old new (length more) (λ k. slice_index more k)
-appends_list old more new is = record {
-  many = rw is (length-append old more);
-  kept = λ k l. rw is (get_or_append_left old more 0 k l);
-  added = λ k l. rw is (get_or-append-add old more k 0);
-}
-
 -- a list of one number
 pub same_number : (n x : ℕ) (xs : List ℕ) → xs ≡ replicate n x
     → (length xs ≡ n) × ((k : ℕ) → k < n → slice_index xs k ≡ x)

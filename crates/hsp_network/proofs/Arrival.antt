@@ -10,14 +10,6 @@ use Rattle.hsp_network.proofs.Searching.{changed, root_only}
 
 module _ (n : Arcs) (f : Flow) (t : SearchTree) (root : ℕ) (sound : Sound n f (λ v. slice_index f.price.now v))
     (found : Found n f t root) where
-  -- some flow came to the sink
-  pub sink_some : 0 < slice_index t.amount.now 0
-  sink_some = found.search.some 0 found.sink_in found.sink_near
-
-  -- no more came to the sink than the root has to send
-  pub sink_low : slice_index t.amount.now 0 ≤ slice_index f.excess.now root
-  sink_low = found.search.no_more 0 found.sink_in found.sink_near
-
   -- the search leaves a tree that is tight under the raised prices
   pub tree_by : IsTree n f t root (raised f t)
   tree_by = record {

@@ -5,7 +5,6 @@ pub mod Arrival
 pub mod Building
 pub mod Directions
 pub mod Expansion
-pub mod Layering
 pub mod Listing
 pub mod Modelling
 pub mod Offers

@@ -1,27 +1,7 @@
 -- Raised prices.
-use Rattle.std.proofs.Common.{◌≡◌, ℕ, ◌<◌, inl, inr, true, false, length, slice_index, ◌∙◌, arith}
-use Rattle.std.proofs.lemmas.Bool.{cases_lt}
-use Rattle.hsp_network.specs.Residual.{AreOptimal, AreRelaxed, Flow, Arcs, SearchTree, Sound, distance, from}
-use Rattle.hsp_network.specs.Residual.{nodes, raised}
-use Rattle.hsp_network.proofs.Directions.{gives_raised, takes_raised}
-
--- after a search no reduced cost is negative under the raised prices
-module _ (n : Arcs) (f : Flow) (t : SearchTree) (sound : Sound n f (λ v. slice_index f.price.now v))
-    (relaxed : AreRelaxed n f t) where
-  -- under raised prices the flow stays optimal
-  paid_raised : AreOptimal n f (raised f t)
-  paid_raised k d l wide =
-      let g = gives_raised n f t k d in
-      let c = takes_raised n f t k d in
-      let past = sound.paid k d l wide in
-      elim (cases_lt (distance t (from n k d)) (distance t 0)) [
-        | inl less ↦ let r = relaxed k d l wide less in omega arith
-        | inr more ↦ omega arith
-      ]
-
-  -- the flow stays sound under raised prices
-  pub sound_raised : Sound n f (raised f t)
-  sound_raised = record { flow = sound.flow; paid = paid_raised; sink_free = omega (arith, sound.sink_free) }
+use Rattle.std.proofs.Common.{◌≡◌, ℕ, ◌<◌, true, false, length, slice_index, ◌∙◌, arith}
+use Rattle.hsp_network.specs.Residual.{AreOptimal, Flow, Arcs, Sound}
+use Rattle.hsp_network.specs.Residual.{nodes}
 
 -- a flow is sound under prices that are the same at each node
 pub sound_same : (n : Arcs) (f f' : Flow) (price price' : ℕ → ℕ) → 0 < nodes n → Sound n f price →

@@ -1,12 +1,12 @@
 -- A path is augmented arc by arc, from the sink back to the root.
 use Rattle.std.proofs.Common.{◌≡◌, ◌≢◌, ℕ, ◌+◌, ◌-◌, ◌<◌, ◌≤◌, ◌⊎◌, inl, inr, Bool, true, false, length, slice_index}
 use Rattle.std.proofs.Common.{List, set, if◌then◌else◌, refl, ap, sym, ◌∙◌, arith, length-set, get_or-set_same}
-use Rattle.std.proofs.Common.{get_or-set_other, ne_eqb}
+use Rattle.std.proofs.Common.{get_or-set_other}
 use Rattle.std.proofs.lemmas.Bool.{cases_eq}
 use Rattle.hsp_network.specs.Sums.{only}
 use Rattle.hsp_network.specs.Through.{through}
-use Rattle.hsp_network.specs.Residual.{Flow, IsBalanced, IsTree, Arcs, SearchTree, Pushes, Sound, TreeArc, Walk}
-use Rattle.hsp_network.specs.Residual.{from, gives, nodes, predecessor, takes, to, way, width}
+use Rattle.hsp_network.specs.Residual.{Flow, IsBalanced, IsTree, Arcs, SearchTree, Pushes, TreeArc, Walk}
+use Rattle.hsp_network.specs.Residual.{from, gives, predecessor, takes, to, way, width}
 use Rattle.hsp_network.proofs.AddingUp.{through_more, through_less}
 use Rattle.hsp_network.proofs.Directions.{from_in}
 
@@ -91,33 +91,6 @@ both_ways n price k false true tight = omega arith
 both_ways n price k false false tight = omega arith
 
 module _ (n : Arcs) (f : Flow) (t : SearchTree) (price : ℕ → ℕ) (root amount : ℕ) where
-  -- `f0` before the source's lack was lowered
-  pub walk_begun : (f0 : Flow) → Sound n f0 price → IsTree n f0 t root price → 0 < nodes n
-      → amount ≤ slice_index t.amount.now 0 →
-      f.flows.now ≡ f0.flows.now → f.residual_capacity.now ≡ f0.residual_capacity.now →
-      ((v : ℕ) → slice_index f.excess.now v + only root v amount ≡ slice_index f0.excess.now v)
-      → Walk n f t price root amount 0
-  walk_begun f0 sound tree some ready flows residual_capacity spent = record {
-    flows_many = ap (λ xs. length xs) flows ∙ sound.flows_many;
-    residual_many = ap (λ xs. length xs) residual_capacity ∙ sound.residual_many;
-    at_in = some;
-    near = omega arith;
-    ready = ready;
-    balanced = λ k l. rw (flows, residual_capacity) (sound.balanced k l);
-    pending = λ v l nz. rw flows (omega (arith, sound.conserved v l nz, spent v, only_there v nz));
-    paid = λ k d l wide. sound.paid k d l (omega (arith, same k d));
-    fits =
-        λ v l nr q deep.
-        omega (arith, (tree.arc v l nr q).path.fits, same (slice_index t.predecessor.now v) (way n t v));
-  }
-    where
-      only_there : (v : ℕ) → v ≢ 0 → only 0 v amount ≡ 0
-      only_there v nz = rw (ne_eqb 0 v (λ e. nz (sym e))) refl
-
-      same : (k : ℕ) (d : Bool) → width f k d ≡ width f0 k d
-      same k true = ap (λ xs. slice_index xs k) residual_capacity
-      same k false = ap (λ xs. slice_index xs k) flows
-
   -- `f0` is the flow that the tree was found in
   module _ (at : ℕ) (f0 : Flow) (tree : IsTree n f0 t root price) (walk : Walk n f t price root amount at)
       (away : at ≢ root) where
@@ -132,10 +105,6 @@ module _ (n : Arcs) (f : Flow) (t : SearchTree) (price : ℕ → ℕ) (root amou
     -- the amount fits on that arc
     pub step_fits : amount ≤ width f (slice_index t.predecessor.now at) (way n t at)
     step_fits = omega (arith, walk.ready, walk.fits at walk.at_in away walk.near (omega arith))
-
-    -- the arc leads nearer to the root
-    pub step_nearer : slice_index t.depth.now (predecessor n t at (way n t at)) < slice_index t.depth.now at
-    step_nearer = arc.path.nearer
 
     -- after one arc the walk goes on at its other end
     pub stepped : (f' : Flow) → Pushes n f f' (slice_index t.predecessor.now at) (way n t at) amount
@@ -182,20 +151,3 @@ module _ (n : Arcs) (f : Flow) (t : SearchTree) (price : ℕ → ℕ) (root amou
                 )
           ];
     }
-
-  -- at the root the whole amount is on its way, and the flow is sound
-  pub walk_done : (f0 : Flow) → Sound n f0 price → Walk n f t price root amount root
-      → length f.excess.now ≡ length f0.excess.now →
-      ((v : ℕ) → slice_index f.excess.now v + only root v amount ≡ slice_index f0.excess.now v) → Sound n f price
-  walk_done f0 sound walk many spent = record {
-    flow = record {
-      flows_many = walk.flows_many;
-      residual_many = walk.residual_many;
-      excess_many = many ∙ sound.excess_many;
-      balanced = walk.balanced;
-      conserved = λ v l nz. omega (arith, walk.pending v l nz);
-      within = λ v l. omega (arith, sound.within v l, spent v);
-    };
-    paid = walk.paid;
-    sink_free = sound.sink_free;
-  }

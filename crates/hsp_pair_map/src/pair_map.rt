@@ -82,7 +82,6 @@ fn chain_length(entries: &[Entry], last: u32) -> u16
 
 // Adds an entry that is in no chain, and the number by which its pair is found in order.
 fn push_apart(
-    alloc: Global,
     entries: &mut Vec<Entry>,
     rest: &mut OrderedPairs,
     entry: Entry,
@@ -100,6 +99,7 @@ fn push_apart(
     ensures kept { OnErr result
         ((p : Pair) → number_in rest.new.entries p ≡ number_in rest.old.entries p) }
 {
+    let alloc = *entries.allocator();
     entries.reserve(1)?;
     insert_ordered(alloc, rest, first, second, entries.len() as u32)?;
     entries.push(entry)?;
@@ -186,15 +186,7 @@ impl PairMap {
             end,
         };
         if length >= LONGEST_CHAIN {
-            let alloc = *self.octets.allocator();
-            return push_apart(
-                alloc,
-                &mut self.entries,
-                &mut self.rest,
-                entry,
-                first,
-                second,
-            );
+            return push_apart(&mut self.entries, &mut self.rest, entry, first, second);
         }
         entry.depth = length;
         entry.before = last;

@@ -1,7 +1,7 @@
 -- What is held for classes, as one query is taken from a cell.
 use Rattle.std.proofs.Common.{◌≡◌, ◌<◌, ◌+◌, ◌==◌, ◌∙◌, ℕ, Bool, true, false, List, length, Option, Some}
 use Rattle.std.proofs.Common.{None, refl, ap, sym, arith, if◌then◌else◌, slice_index, slice_set}
-use Rattle.std.proofs.Common.{eq-eqb, length-set}
+use Rattle.std.proofs.Common.{eq-eqb}
 use Rattle.std.specs.Prelude.{nat_lt}
 use Rattle.std.specs.Prelude.{IfSome}
 use Rattle.std.proofs.lemmas.List.Elements.{All-set}
@@ -10,7 +10,7 @@ use Rattle.hsp_check.specs.Plan.{is_on}
 use Rattle.hsp_prices.specs.Least.{host_at}
 use Rattle.hsp_price_dispatch.specs.Holding.{Held, cell_at, left_where, no_cell, one_given, one_less, one_less_on}
 use Rattle.hsp_price_dispatch.specs.Holding.{host_held_at, host_room_at, held_at, is_free_at}
-use Rattle.hsp_price_dispatch.specs.Holding.{room_at, with_given, with_query_at}
+use Rattle.hsp_price_dispatch.specs.Holding.{room_at, with_given}
 use Rattle.hsp_price_dispatch.specs.Standing.{IsStanding}
 use Rattle.hsp_price_dispatch.specs.declared.cells.Cell.{Cell}
 use Rattle.hsp_price_dispatch.proofs.RoomTaken.{less_at, one_if}
@@ -51,25 +51,8 @@ same_less a b c n e f = omega arith
 
 -- ---- a query at a server
 
--- as many numbers as before
-pub one_less_many : (numbers : List ℕ) (o : Option ℕ) → length (one_less_on numbers o) ≡ length numbers
-one_less_many numbers None = refl
-one_less_many numbers (Some h) = length-set numbers h _
-
 module _ (own : Held) (server_hosts : List (Option ℕ)) (held host_held : List ℕ)
     (is : IsStanding own server_hosts held host_held) where
-  -- what is held stays
-  pub query_stands : (j : ℕ) → IsStanding (with_query_at own j) server_hosts held host_held
-  query_stands j = record {
-    server_hosts_are = is.server_hosts_are;
-    hosts_below = λ k h on.
-        omega (arith, is.hosts_below k h on, one_less_many own.host_rooms (host_at own.service j));
-    rooms_many = length-set own.rooms j _ ∙ is.rooms_many;
-    servers_in = is.servers_in;
-    held_is = is.held_is;
-    host_held_is = is.host_held_is;
-  }
-
   module _ (n : ℕ) (inside : n < length own.cells) (some : 0 < (cell_at own.cells n).left) where
     abbrev at_cell : ℕ
     at_cell = (cell_at own.cells n).server

@@ -1,6 +1,6 @@
 -- What servers cost beside arcs, and where the cells of a class stand, by the lists that a front keeps for it.
-use Rattle.std.proofs.Common.{◌≡◌, ◌≤◌, ◌<◌, ◌∙◌, ℕ, List, [], ◌∷◌, length, position, slice_index, All, None, Option}
-use Rattle.std.proofs.Common.{Some, ap, ap₂, arith, filter, length-set, refl, subst, sym, Bool}
+use Rattle.std.proofs.Common.{◌≡◌, ◌≤◌, ◌<◌, ◌∙◌, ℕ, List, [], ◌∷◌, length, position, All, None, Option}
+use Rattle.std.proofs.Common.{Some, ap, ap₂, arith, filter, refl, subst, sym, Bool}
 use Rattle.std.specs.Str.{bytes_eq}
 use Rattle.std.specs.List.{AllByRecursion}
 use Rattle.std.proofs.lemmas.Bool.{and_parts}
@@ -25,8 +25,8 @@ use Rattle.hsp_price_check.specs.Passed.{class_at, no_class}
 use Rattle.hsp_price_check.proofs.PricePays.{pay_is}
 use Rattle.hsp_price_dispatch.specs.Choosing.{Least, LeadsWithin, answer_of, assigned, assigned_over, choice_among}
 use Rattle.hsp_price_dispatch.specs.Choosing.{choice_for, choice_over, class_number, elsewhere, least_for, or_full}
-use Rattle.hsp_price_dispatch.specs.Choosing.{row_of, left_with}
-use Rattle.hsp_price_dispatch.specs.Holding.{Held, cell_at, one_given}
+use Rattle.hsp_price_dispatch.specs.Choosing.{row_of}
+use Rattle.hsp_price_dispatch.specs.Holding.{Held}
 use Rattle.hsp_price_dispatch.specs.Standing.{ClassIsThere, IsIndexOf, IsOfService}
 use Rattle.hsp_price_dispatch.specs.Taking.{CanTake}
 use Rattle.hsp_price_dispatch.specs.declared.answer.Choice.{Choice}
@@ -94,39 +94,6 @@ module _ (own : Held) (index : Index) (is : IsIndexOf own index) where
       let same : length own.service.servers ≡ length index.extras.items = omega (arith, is.prices, is.extras.many) in
       subst (λ n. AllByRecursion (IsWithin n) arcs) same within
 
-  -- the numbers are low
-  pub extras_low : (j : ℕ) → j < length index.extras.items → slice_index index.extras.items j ≤ 2000000000000
-  extras_low j l = is.extras.low j (omega (arith, is.extras.many))
-
-  -- the lists stay as they are
-  pub index_stays : (choice : Choice) → IsIndexOf (left_with own choice) index
-  index_stays (OfClass n arc) = record {
-    prices = is.prices;
-    extras = is.extras;
-    classes = is.classes;
-    firsts_many = is.firsts_many;
-    firsts = is.firsts;
-    cells = λ k l. omega (arith, is.cells k l, length-set own.cells n (one_given (cell_at own.cells n)));
-  }
-  index_stays (Free arc) = record {
-    prices = is.prices;
-    extras = is.extras;
-    classes = is.classes;
-    firsts_many = is.firsts_many;
-    firsts = is.firsts;
-    cells = is.cells;
-  }
-  index_stays (Diverted arc) = record {
-    prices = is.prices;
-    extras = is.extras;
-    classes = is.classes;
-    firsts_many = is.firsts_many;
-    firsts = is.firsts;
-    cells = is.cells;
-  }
-  index_stays Full = is
-  index_stays Unknown = is
-
 -- ---- one choice or the other
 
 -- the first, where there is one
@@ -140,14 +107,6 @@ or_second a b y e f = rw (← e) f
 -- the choice that is found, or Full
 pub full_first : (by : Choice) (a b : Option Choice) → Some by ≡ a → by ≡ or_full (or_else a b)
 full_first by a b e = rw (← e) refl
-
--- the second choice is found where the first is not
-pub full_second : (by : Choice) (a b : Option Choice) → None ≡ a → Some by ≡ b → by ≡ or_full (or_else a b)
-full_second by a b e f = rw (← e, ← f) refl
-
--- and Full where neither is
-pub full_none : (a b : Option Choice) → None ≡ a → None ≡ b → Full ≡ or_full (or_else a b)
-full_none a b e f = rw (← e, ← f) refl
 
 -- ---- the choice
 

@@ -1,6 +1,6 @@
 -- The network of groups is one, and its numbers are small.
 use Rattle.std.proofs.Common.{◌≡◌, ℕ, zero, suc, ◌+◌, ◌*◌, ◌-◌, ◌^◌, ◌<◌, ◌≤◌, ◌∙◌, List, [], ◌∷◌, ◌++◌, length, map}
-use Rattle.std.proofs.Common.{slice_index, slice_index_or, refl, ap, sym, arith, length-append}
+use Rattle.std.proofs.Common.{slice_index, slice_index_or, refl, sym, arith, length-append}
 use Rattle.std.specs.List.{AllByRecursion}
 use Rattle.std.proofs.Math.Nat.{le_trans, mul-le-mul_right}
 use Rattle.std.proofs.lemmas.List.{length-map, get_or-map}
@@ -18,8 +18,7 @@ use Rattle.hsp_check.specs.Instance.{arc_of, arcs_from}
 use Rattle.hsp_flow.proofs.Ordering.{each_at, no_arc, rows_between}
 use Rattle.hsp_prices.specs.Groups.{Group}
 use Rattle.hsp_price_check.specs.declared.numbers.ServiceNumbers.{ServiceNumbers}
-use Rattle.hsp_price_plan.specs.Columns.{AreColumns, arcs_of_groups}
-use Rattle.hsp_price_plan.specs.declared.columns.GroupColumns.{GroupColumns}
+use Rattle.hsp_price_plan.specs.Columns.{arcs_of_groups}
 use Rattle.hsp_price_plan.specs.Pressing.{CanPress}
 use Rattle.hsp_price_plan.specs.Solving.{HasArcsWithin, HasFewArcs, arcs_in, demand_in, group_network}
 
@@ -216,14 +215,6 @@ module _ (numbers : ServiceNumbers) (groups : List Group)
     where
       no_group : Group
       no_group = record { region = []; arcs = []; demand = 0 }
-
--- a column has as many sources
-pub many_sources : (groups : List Group) (columns : GroupColumns) → AreColumns groups columns
-    → length columns.sources.items ≡ arcs_in groups
-many_sources groups columns are =
-    ap (λ (xs : List ℕ). length xs) are.sources
-    ∙ length-map (arcs_of_groups groups) (λ (a : NetworkArc). a.row)
-    ∙ many_arcs 0 groups
 
 -- a flow over the groups' arcs has a number for each
 pub many_flows : (numbers : ServiceNumbers) (groups : List Group) (flow : PricedFlow)

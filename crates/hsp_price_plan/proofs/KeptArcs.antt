@@ -49,10 +49,6 @@ pub record AreMarked (test : Arc → Bool) (shape : List SiteCost) (old now : Li
   pub counted : kept + loose_count (arcs_by shape now) ≡ loose_count (arcs_by shape old)
   pub few : kept ≤ i
 
--- at the beginning nothing is marked
-pub marked_none : (test : Arc → Bool) (shape : List SiteCost) (old : List ℕ) → AreMarked test shape old old 0 0
-marked_none test shape old = record { arcs = refl; counted = omega arith; few = omega arith }
-
 -- an arc by its entry, once it is kept where it passes
 kept_entry : (test : Arc → Bool) (at : SiteCost) (old new count : ℕ)
     → IsKeptEntry (test (entry_arc at old)) old new count → kept_arc at new ≡ kept_if test (kept_arc at old)

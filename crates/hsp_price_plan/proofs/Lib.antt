@@ -3,7 +3,6 @@ pub mod RowRanges
 mod PastLimits
 mod PlanShown
 pub mod ShortShown
-pub mod Lasting
 mod Halves
 mod ArcEntries
 mod KeptArcs

@@ -1,6 +1,6 @@
 -- Rows that are passed over one after another.
 use Rattle.std.proofs.Common.{◌≡◌, ◌≤◌, ◌<◌, ◌+◌, ◌*◌, ◌∙◌, ◌++◌, ℕ, List, drop, length, map, take, get_or, set, suc}
-use Rattle.std.proofs.Common.{add-one, ap, arith, refl, subst, sym, take_all}
+use Rattle.std.proofs.Common.{add-one, ap, arith, subst, sym, take_all}
 use Rattle.std.proofs.Math.Nat.{suc-mul}
 use Rattle.std.proofs.lemmas.List.{append-nil, drop_all, get_or_read, take_at}
 use Rattle.std.proofs.lemmas.List.Edits.{map_over_more}
@@ -57,10 +57,6 @@ few_more sites row kept count one less =
 
 module _ (f : KeptRow → KeptRow) (sites : ℕ) (regions : List RegionArcs) (numbers counts old : List ℕ)
     (place : AreInPlace sites regions numbers counts old) where
-  -- at the beginning no row is passed over
-  pub passed_none : ArePassed f sites regions numbers counts old old 0 0
-  passed_none = record { many = refl; rows = refl; counted = omega arith; few = omega arith }
-
   -- there are as many rows as regions of them
   old_rows : length (rows_by sites regions numbers counts old) ≡ length numbers
   old_rows = length-rows_by sites regions numbers counts old place.many_counts
@@ -126,18 +122,6 @@ module _ (f : KeptRow → KeptRow) (sites : ℕ) (regions : List RegionArcs) (nu
       let rows = rows_by sites regions numbers counts old in
       so.rows ∙ ap (λ part. map f part ++ drop row rows) (take_all row rows (omega (arith, old_rows, end)))
       ∙ ap (λ part. map f rows ++ part) (drop_all row rows (omega (arith, old_rows, end))) ∙ append-nil (map f rows)
-
-  -- the rows are still in place
-  pub still_in_place : (now : List ℕ) → length now ≡ length old → AreInPlace sites regions numbers counts now
-  still_in_place now same = record {
-    few_sites = place.few_sites;
-    few_regions = place.few_regions;
-    few = place.few;
-    many_counts = place.many_counts;
-    many_places = same ∙ place.many_places;
-    known = place.known;
-    shapes = place.shapes;
-  }
 
   -- ---- as a pass over places in memory has them
 

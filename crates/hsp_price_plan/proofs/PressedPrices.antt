@@ -1,5 +1,5 @@
 -- Pressed prices show of a flow what its prices did.
-use Rattle.std.proofs.Common.{◌≡◌, ◌≤◌, ◌<◌, ◌+◌, ◌-◌, ◌*◌, ◌^◌, ◌∙◌, ℕ, List, length, Option, Some, None, ap, arith}
+use Rattle.std.proofs.Common.{◌≡◌, ◌≤◌, ◌<◌, ◌+◌, ◌-◌, ◌^◌, ◌∙◌, ℕ, List, length, Option, Some, None, ap, arith}
 use Rattle.std.proofs.Common.{refl}
 use Rattle.std.proofs.Common.{slice_index, subst, sym}
 use Rattle.std.specs.List.Sorted.{IsNonDecreasing}
@@ -20,10 +20,6 @@ use Rattle.hsp_price_plan.proofs.Pressing.{below_steps, falls, order, step}
 -- ---- what goes in
 
 module _ (net : Transport) (size : CanPress net) (flow : PricedFlow) (met : IsMet net flow) where
-  -- no price is above so much
-  abbrev limit : ℕ
-  limit = (length net.demands + length net.capacities + length net.limits + 1) * 1000000
-
   -- prices of servers leave room for a sum
   pub servers_low : (j : ℕ) → j < length flow.server_prices.items → slice_index flow.server_prices.items j < 2 ^ 63
   servers_low j l = omega (arith, (met.low 1000000 size.cheap).servers j l, size.sources, size.servers, size.hosts)

@@ -1,15 +1,13 @@
 -- Rows are those that they were, whichever of their arcs are kept.
-use Rattle.std.proofs.Common.{◌≡◌, ◌∙◌, ◌∷◌, ℕ, Bool, true, false, List, [], map, ap, refl, subst, sym}
+use Rattle.std.proofs.Common.{◌≡◌, ◌∙◌, ◌∷◌, ℕ, Bool, true, false, List, [], map, ap, refl}
 use Rattle.std.specs.Prelude.{not, if◌then◌else◌}
-use Rattle.std.specs.List.{AllByRecursion, AllZip, list_all}
+use Rattle.std.specs.List.{AllZip, list_all}
 use Rattle.hsp_instance.specs.Instance.{Row}
-use Rattle.hsp_instance.specs.RowArcs.{IsWithin}
 use Rattle.hsp_instance.specs.declared.arc.Arc.{Arc}
 use Rattle.hsp_prices.specs.Rows.{Service}
 use Rattle.hsp_prices.specs.Least.{is_least}
 use Rattle.hsp_prices.specs.KeptRows.{IsRow, KeptArc, KeptRow, arcs_in, kept_if, kept_in, keeping, with_least}
 use Rattle.hsp_prices.specs.KeptRows.{with_leaving}
-use Rattle.hsp_price_plan.specs.Held.{AreWithin}
 use Rattle.hsp_price_plan.specs.Keeping.{is_near, with_near}
 
 -- a change of a row leaves all but what is kept
@@ -79,10 +77,3 @@ module _ (f : KeptRow → KeptRow) (leaves : LeavesRows f) where
         },
         still_rows at rows kept all.1,
       )
-
-  -- and their arcs lead where they did
-  pub still_within : (servers : ℕ) (kept : List KeptRow) → AreWithin servers kept → AreWithin servers (map f kept)
-  still_within servers [] all = all
-  still_within servers (own ∷ kept) all =
-      let P : List Arc → Type 0 = λ arcs. AllByRecursion (IsWithin servers) arcs in
-      (subst P (sym (leaves.arcs own)) all.0, still_within servers kept all.1)

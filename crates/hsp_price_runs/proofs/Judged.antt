@@ -1,5 +1,5 @@
 -- The answer of a check of a certificate, from the rows of a log to the inputs.
-use Rattle.std.proofs.Common.{◌≡◌, ℕ, List, [], Option, Result, Ok, Err, refl, sym}
+use Rattle.std.proofs.Common.{ℕ, List, [], Option, Result, Ok, Err, refl, sym}
 use Rattle.hsp_csv.specs.Records.{Fields}
 use Rattle.hsp_instance.specs.Instance.{Instance, Row}
 use Rattle.hsp_prices.specs.Rows.{Service}
@@ -36,11 +36,6 @@ module _ (at : Service) (certificate : PriceCertificate) (old new : PriceCheck) 
       known,
       (Ok over.rows, sym over.are, answers over.rows (over.taken.passed at certificate fresh)),
     )
-
--- the log is at fault
-pub log_stops : {X : Type 0} (Is : List Row → Result X StreamFault → Type 0) (e : StreamFault) (records : List Fields)
-    → log_rows records ≡ Err e → AnswersRecords Is (Err e) records
-log_stops Is e records is = (Err e, sym is, refl)
 
 module _ {X : Type 0} (Is : PriceCertificate → List Row → Result X StreamFault → Type 0) (octets : List ℕ)
     (records : List Fields) where

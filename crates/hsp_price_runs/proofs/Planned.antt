@@ -19,7 +19,7 @@ use Rattle.hsp_price_text.specs.Certificate.{IsCertificate}
 use Rattle.hsp_price_text.specs.Text.{text_of}
 use Rattle.hsp_price_text.specs.declared.certificate.PriceCertificate.{PriceCertificate}
 use Rattle.hsp_price_plan.specs.Limits.{AreTooLarge}
-use Rattle.hsp_price_plan.specs.Planning.{AreHeld, AreOfSome, IsFaultOf, IsValidFor, Outlasts}
+use Rattle.hsp_price_plan.specs.Planning.{AreHeld, IsFaultOf, Outlasts}
 use Rattle.hsp_price_plan.specs.declared.fault.PlanFault.{PlanFault}
 use Rattle.hsp_price_plan.specs.declared.fault.PlanFault.TheVariants as plan_fault
 use Rattle.hsp_price_runs.specs.LogRows.{log_rows}
@@ -70,10 +70,6 @@ module _ (numbers : ServiceNumbers) (kept : List KeptRow) (asked : ℕ) (is : as
     demand = below (asked_in kept) asked is less;
   }
 
-  -- so it is with those of some service
-  pub of_some : asked < 2 ^ 63 → AreTakenOfSome numbers kept → AreOfSome numbers kept
-  of_some less (at, rows, taken) = (at, rows, are_held less at rows taken)
-
   -- or they ask for too much
   pub too_much : 2 ^ 63 ≤ asked → IsTakenFault numbers kept TooLarge
   too_much more =
@@ -82,15 +78,6 @@ module _ (numbers : ServiceNumbers) (kept : List KeptRow) (asked : ℕ) (is : as
 
   -- rows that keep more arcs outlast those that were taken
   module _ (after : List KeptRow) (outlasts : Outlasts numbers kept after) (less : asked < 2 ^ 63) where
-    -- they are those of some service, too
-    pub still_some : AreTakenOfSome numbers kept → AreOfSome numbers after
-    still_some (at, rows, taken) = (at, rows, outlasts at rows (are_held less at rows taken))
-
-    -- a certificate that is valid for them is valid for those that were taken
-    pub valid_for_all : (certificate : PriceCertificate) → IsValidFor numbers after certificate
-        → IsValidForAll numbers kept certificate
-    valid_for_all certificate valid at rows taken = valid at rows (outlasts at rows (are_held less at rows taken))
-
     -- and so is the fault of their plan
     pub plan_stops : (fault : PlanFault) → IsFaultOf numbers after fault
         → IsTakenFault numbers kept (fault_of_plan fault)

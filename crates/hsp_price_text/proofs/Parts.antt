@@ -89,16 +89,6 @@ abbrev pub turns_before : List ℕ → List ℕ → Option (List ℕ × List ℕ
 turns_before servers amounts None = None
 turns_before servers amounts (Some turns) = Some (servers ++ turns.0, amounts ++ turns.1)
 
--- one turn more before what is left
-pub turn_more : (servers amounts : List ℕ) (a b : ℕ) (left : Option (List ℕ × List ℕ))
-    → turns_before servers amounts (with_turn a b left)
-    ≡ turns_before (servers ++ a ∷ []) (amounts ++ b ∷ []) left
-turn_more servers amounts a b None = refl
-turn_more servers amounts a b (Some turns) =
-    let first = append_assoc servers (a ∷ []) turns.0 in
-    let second = append_assoc amounts (b ∷ []) turns.1 in
-    rw (first, second) refl
-
 -- ---- what is read of numbers that are spelled, and what spells numbers that are read
 
 -- a number is one of 64 bits

@@ -7,7 +7,7 @@ use Rattle.hsp_price_text.specs.declared.stage.Stage.TheVariants as stage
 use Rattle.hsp_price_text.specs.declared.certificate.PriceCertificate.{PriceCertificate}
 use Rattle.hsp_price_text.specs.declared.certificate.PriceCertificate.TheVariants.{Plan, Shortage}
 use Rattle.hsp_price_text.specs.Certificate.{IsCertificate}
-use Rattle.hsp_price_text.specs.Drafts.{Drafted, claimed_at, has_ended, has_ended_at, no_plan, no_set, reader}
+use Rattle.hsp_price_text.specs.Drafts.{Drafted, claimed_at, has_ended, has_ended_at, no_plan, reader}
 use Rattle.hsp_price_text.specs.Drafts.{start, step, step_at}
 use Rattle.hsp_cert.specs.Language.{HasNoEnd, IsEnd, LinesStand, run}
 use Rattle.hsp_price_text.specs.Text.{body_lines, lines_of, numbered, prices, server_line}
@@ -17,9 +17,6 @@ use Rattle.hsp_cert.proofs.LineReading.{run-none}
 
 abbrev pub begun : Option Drafted
 begun = Some start
-
-abbrev some_draft : Drafted → Option Drafted
-some_draft d = Some d
 
 -- ---- lines that were taken are those of a draft
 
@@ -55,10 +52,6 @@ ended_at s d over v = absurd cc
 -- an empty plan is a certificate
 plan_is : IsCertificate (Plan no_plan)
 plan_is = refl
-
--- and an empty set is one
-set_is : IsCertificate (Shortage no_set)
-set_is = refl
 
 -- the lines that a draft has read stand, whatever its stage
 pub stands_at : (s : Stage) (d : Drafted) → Valid_at s d → LinesStand prices (so_far_at s d)

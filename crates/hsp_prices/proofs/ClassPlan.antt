@@ -8,7 +8,7 @@ use Rattle.std.proofs.lemmas.List.Elements.{All-map, All-weaker}
 use Rattle.std.proofs.lemmas.Option.{slice_get-get_or, slice_get_past}
 use Rattle.hsp_transport.specs.Kinds.{Link, link_of}
 use Rattle.hsp_transport.specs.Sums.{sum_below}
-use Rattle.hsp_transport.proofs.KindPrices.{of_all}
+use Rattle.hsp_transport.proofs.ArcsBySource.{of_all}
 use Rattle.hsp_transport.proofs.Rowwise.{allowed_by, by_row, by_rows, when}
 use Rattle.hsp_transport.proofs.Summing.{by_place, sum_below_same, sum_by_map}
 use Rattle.hsp_instance.specs.Instance.{Row, Server}

@@ -6,7 +6,7 @@ use Rattle.std.proofs.lemmas.List.{length-map, get_or-map}
 use Rattle.std.proofs.lemmas.List.Elements.{All-from_recursion, All-map, All-weaker}
 use Rattle.std.proofs.lemmas.Option.{get_or_from_slice_get}
 use Rattle.hsp_transport.specs.Kinds.{Link}
-use Rattle.hsp_transport.proofs.KindPrices.{of_all}
+use Rattle.hsp_transport.proofs.ArcsBySource.{of_all}
 use Rattle.hsp_instance.specs.Instance.{Host, IsHostOf, IsServer, Row, Server}
 use Rattle.hsp_instance.specs.declared.arc.Arc.{Arc}
 use Rattle.hsp_instance.proofs.ArcLists.{arcs_ascending}

@@ -1,13 +1,11 @@
 -- Lists of faults as they are written.
 use Rattle.std.proofs.Common.{◌≡◌, ◌∙◌, ◌+◌, ℕ, zero, suc, Bool, true, false, List, [], ◌∷◌, ◌++◌, length, take, Option}
-use Rattle.std.proofs.Common.{Some, None, append_assoc, map, refl, sym, ap, arith, Result, Ok, Err, OnErr, IfErr, IfOk}
-use Rattle.std.proofs.Common.{IsErrAnd, OnOk, subst}
+use Rattle.std.proofs.Common.{Some, None, append_assoc, map, refl, sym, ap, arith, Result, Ok, Err, OnErr, IfOk}
+use Rattle.std.proofs.Common.{OnOk}
 use Rattle.std.specs.Prelude.{⊤}
 use Rattle.std.proofs.lemmas.List.{append-nil}
 use Rattle.std.specs.Io.KnownBytes.{Appends}
 use Rattle.hsp_csv.specs.Places.{Placed, TakesPlaced}
-use Rattle.hsp_csv.specs.declared.fault.RecordsFault.{RecordsFault}
-use Rattle.hsp_csv.specs.declared.fault.RecordsFault.TheVariants.{OutOfMemory, ReadFailed}
 use Rattle.hsp_csv.specs.declared.found.Checked.TheVariants.{Faulty, Good, Last}
 use Rattle.hsp_csv.specs.declared.found.Found.{Found}
 use Rattle.hsp_tables.specs.Faulty.{faulty_rows}
@@ -18,8 +16,7 @@ use Rattle.hsp_inputs.specs.declared.stream_fault.StreamFault.{StreamFault}
 use Rattle.hsp_stream.specs.Checkers.{Lists, LooksAt}
 use Rattle.hsp_stream.specs.Faulty.{named}
 use Rattle.hsp_stream.specs.FaultLines.{line_of, lines_of}
-use Rattle.hsp_stream.specs.Runs.{AreAll, AreFirst, Faults, IsBegun, MayStop, RowsAreBegun, RowsAreListed, has_some}
-use Rattle.hsp_stream.specs.Runs.{stop_of}
+use Rattle.hsp_stream.specs.Runs.{AreAll, AreFirst, Faults, IsBegun, RowsAreBegun, RowsAreListed, has_some}
 use Rattle.hsp_stream.specs.declared.checker.Checker.{Checker}
 use Rattle.hsp_stream.specs.declared.checker.Checker.TheVariants as checker
 
@@ -288,14 +285,3 @@ begun_of_more old new a b (count, wrote) = let first = take_first a b count in (
     take_first (x ∷ a) b zero = (0, refl)
     take_first (x ∷ a) b (suc count) =
         let rest = take_first a b count in (suc rest.0, ap (λ (t : List ℕ). x ∷ t) rest.1)
-
--- a stop of which this holds
-pub stops_by : {A E : Type 0} (P : E → Type 0) (answer : Result A E) (stop : E) → IsErrAnd answer (λ e. e ≡ stop)
-    → P stop → IfErr answer P
-stops_by P (Ok x) stop is holds = tt
-stops_by P (Err e) stop is holds = subst P (sym is) holds
-
--- what is said of a read that stops
-pub reading_stops : (MayWriteFail : Type 0) (fault : RecordsFault) → MayStop ⊤ MayWriteFail (stop_of fault)
-reading_stops MayWriteFail ReadFailed = tt
-reading_stops MayWriteFail OutOfMemory = tt

@@ -1,5 +1,5 @@
 -- The faults of a text: those below its header, or that it has none.
-use Rattle.std.proofs.Common.{◌≡◌, ◌∙◌, inl, inr, ℕ, Bool, true, false, List, [], ◌∷◌, Option, Some, None, refl}
+use Rattle.std.proofs.Common.{◌≡◌, ◌∙◌, inl, inr, ℕ, Bool, true, List, [], ◌∷◌, Option, Some, None, refl}
 use Rattle.std.proofs.Common.{ap}
 use Rattle.std.proofs.lemmas.List.{append-nil}
 use Rattle.std.specs.Io.KnownBytes.{Appends}
@@ -55,11 +55,6 @@ none_first : (old : Option (List Placed)) → AreFirst old []
 none_first None = tt
 none_first (Some old) = (old, refl)
 
--- where no record is taken there is none
-all_none : (old new : Option (List Placed)) (one : Placed) → TakesPlaced old new false one → AreAll old []
-all_none None new one none = tt
-all_none (Some old) new one none = none
-
 -- the one line of a text without its header
 header_lines : (asked : Asked) → lines_of (found_header asked ∷ []) ≡ line_of (found_header asked)
 header_lines asked = append-nil (line_of (found_header asked))
@@ -91,12 +86,6 @@ module _ (asked : Asked) (left after : Option (List Placed)) (one : Placed) (old
         rw (header_lines asked) wrote,
         tells,
       )
-
-  -- an empty text lacks its header
-  pub lacking_listed : TakesPlaced left after false one → Appends old new (line_of (found_header asked))
-      → (some : Bool) → some ≡ true → LinesAreListed asked left old new some
-  lacking_listed none wrote some tells =
-      ([], all_none left after one none, found_header asked ∷ [], refl, rw (header_lines asked) wrote, tells)
 
   -- a beginning of that line, or nothing
   pub header_begun : IsBegun old new (line_of (found_header asked)) → LinesAreBegun asked left old new

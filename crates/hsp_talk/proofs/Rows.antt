@@ -218,11 +218,6 @@ pub one_row : (line : List ℕ) → (length line ≡ 0 → ⊥) → length line 
 one_row [] ne few = absurd (ne refl)
 one_row (x ∷ xs) ne few = ap (λ row. row ∷ []) (cut_short (x ∷ xs) few)
 
--- an empty line is no row
-pub no_row : (line : List ℕ) → length line ≡ 0 → rows_of (line ∷ []) ≡ []
-no_row [] e = refl
-no_row (x ∷ xs) e = absurd (omega arith)
-
 -- ---- responders
 
 module _ {D : Type 0} (Takes : TakesRow D) where
@@ -367,19 +362,6 @@ module _ {D : Type 0} (Takes : TakesRow D) where
         cut_after first at last so.rows (rows_of (ended ∷ [])) (rows_of (whole_lines [] (drop (suc place) rest))) all
         owed now after by
         (rows_from first at all begins line rest owed now so place next ended is) so.taken cut
-
-    -- memory runs out within a line
-    pub octet_cut : (first at : D) (all : List (List ℕ)) (begins line rest owed now : List ℕ)
-        → SoFar first at all begins line rest owed now → AreCut Takes Refuses first at all owed now refusal.OutOfMemory
-    octet_cut first at all begins line rest owed now so =
-        record {
-          at = at;
-          rows = so.rows;
-          later = rows_of (whole_lines line rest);
-          parted = so.left;
-          taken = so.taken;
-          refused = tt;
-        }
 
 -- ---- tests
 

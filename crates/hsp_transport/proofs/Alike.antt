@@ -10,7 +10,7 @@ use Rattle.hsp_transport.specs.Flow.{IsFeasible, host_load, is_on, load, total_c
 use Rattle.hsp_transport.specs.Network.{Network}
 use Rattle.hsp_transport.specs.Prices.{HasPrices, price_at}
 use Rattle.hsp_transport.specs.Sums.{any_below, sum_below}
-use Rattle.hsp_transport.proofs.Places.{all_numbers, any_number, any_place, any_same, each_number, sum_numbers}
+use Rattle.hsp_transport.proofs.Places.{any_number, any_place, any_same, each_number, sum_numbers}
 use Rattle.hsp_transport.proofs.Summing.{by_place, sum_below_same}
 
 module _ {A : Type 0} (n : Network A) (d : A) (count : ℕ) (many : length n.arcs ≡ count) (source server cost : ℕ → ℕ)
@@ -59,16 +59,6 @@ module _ {A : Type 0} (n : Network A) (d : A) (count : ℕ) (many : length n.arc
       hosted = λ h l. rw (host_alike h) (feasible.hosted h l);
     }
 
-    -- and the other way round
-    pub feasible_back : IsFeasible n f → IsFeasible numbered g
-    feasible_back feasible = record {
-      met =
-          λ i l. sym (sums _ _ (λ k m. ap₂ (λ s x. if s == i then x else 0) (sources k m) (flows k m)))
-          ∙ feasible.met i l;
-      within = λ j l. rw (← load_alike j) (feasible.within j l);
-      hosted = λ h l. rw (← host_alike h) (feasible.hosted h l);
-    }
-
     -- what a unit on an arc costs with all prices
     abbrev whole : List ℕ → List ℕ → ℕ → ℕ
     whole p q k = cost k + price_at n p q (server k)
@@ -88,20 +78,6 @@ module _ {A : Type 0} (n : Network A) (d : A) (count : ℕ) (many : length n.arc
           (omega (arith, many)) (rw (sym (flows k l)) some)));
       idle = λ j l less. prices.idle j l (rw (sym (load_alike j)) less);
       idle_host = λ h l less. prices.idle_host h l (rw (sym (host_alike h)) less);
-    }
-
-    -- prices of the flow are prices of the flow by numbers
-    pub prices_back : (u p q : List ℕ) → HasPrices n f u p q → HasPrices numbered g u p q
-    prices_back u p q prices = record {
-      below = all_numbers (λ k. slice_index u (source k) ≤ whole p q k) count (λ k l.
-          let m : k < length n.arcs = omega (arith, l, many) in
-          rw (← sources k m, ← servers k m, ← costs k m) (prices.below k d m));
-      used = all_numbers (λ k. 0 < g k → slice_index u (source k) ≡ whole p q k) count (λ k l some.
-          let m : k < length n.arcs =
-          omega (arith, l, many) in
-          rw (← sources k m, ← servers k m, ← costs k m) (prices.used k d m (rw (flows k m) some)));
-      idle = λ j l less. prices.idle j l (rw (load_alike j) less);
-      idle_host = λ h l less. prices.idle_host h l (rw (host_alike h) less);
     }
 
   module _ (s t : ℕ → Bool) (same : (i : ℕ) → s i ≡ t i) where

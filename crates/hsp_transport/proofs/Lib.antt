@@ -6,7 +6,6 @@ pub mod Capacities
 pub mod Rowwise
 pub mod Pooling
 pub mod Spreading
-pub mod KindPrices
-pub mod KindSets
 pub mod Lowering
 pub mod Changes
+pub mod ArcsBySource

@@ -1,11 +1,10 @@
 -- Kinds of the sources of a network. Sources whose arcs are alike are one source to a plan, which demands what they
 -- demand together.
-use Rattle.std.specs.Prelude.{◌≡◌, ◌↔◌, ℕ, ◌<◌, ◌≤◌, ◌==◌, Bool, List, length, map, filter, sum_by, slice_index}
+use Rattle.std.specs.Prelude.{◌≡◌, ℕ, ◌<◌, ◌≤◌, ◌==◌, List, length, map, filter, sum_by, slice_index}
 use Rattle.std.specs.Prelude.{if◌then◌else◌}
 use Rattle.hsp_transport.specs.Sums.{sum_below}
 use Rattle.hsp_transport.specs.Network.{Network}
 use Rattle.hsp_transport.specs.Flow.{host_load, load, total_cost}
-use Rattle.hsp_transport.specs.Cut.{IsShort}
 use Rattle.hsp_transport.specs.Plans.{Best, Feasible, Plan, planned}
 
 -- an arc without its source
@@ -72,8 +71,3 @@ pub record IsSpread {A : Type 0} (site : A → ℕ) (n m : Network A) (kind : �
 -- each source's price is its kind's
 abbrev pub ArePricesOfKinds : {A : Type 0} → Network A → (ℕ → ℕ) → List ℕ → List ℕ → Type 0
 ArePricesOfKinds n kind u of_kinds = (i : ℕ) → i < length n.demands → slice_index u i ≡ slice_index of_kinds (kind i)
-
--- a set of kinds is short exactly where its sources are; where some sources are short, some kinds are
-pub record ShortSetsAreKept {A : Type 0} (n m : Network A) (kind : ℕ → ℕ) : Type 0 where
-  pub of_kinds : (set : ℕ → Bool) → IsShort m set ↔ IsShort n (λ i. set (kind i))
-  pub of_rows : (set : ℕ → Bool) → IsShort n set → (kinds : ℕ → Bool) × IsShort m kinds
