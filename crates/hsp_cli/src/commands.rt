@@ -12,7 +12,7 @@ use crate::answer::{
 };
 use crate::dispatch::{dispatch, open_log};
 use crate::failure::Failure;
-use crate::files::{FileSource, read_whole};
+use crate::files::{FileSource, read_path};
 use crate::inputs::{read_inputs, read_named};
 use crate::output::Output;
 use hsp_cli_orders::{InputFiles, Order, Word, read_command};
@@ -46,7 +46,7 @@ fn locate_sites<S: FileSource>(
 ) -> Result<Answer, Failure<Fault>>
     ensures { AnswersSites (S.disk files.now) settings.now values.now handle.now result }
 {
-    let settings = read_whole(alloc, files, settings)?;
+    let settings = read_path(alloc, files, settings)?;
     let values = read_named(alloc, files, values)?;
     locate_answer(
         alloc,
@@ -64,7 +64,7 @@ fn site<S: FileSource>(
 ) -> Result<Answer, Failure<Fault>>
     ensures { AnswersSite (S.disk files.now) index.now file.now result }
 {
-    let octets = read_whole(alloc, files, file)?;
+    let octets = read_path(alloc, files, file)?;
     match index {
         Some(index) => site_answer(alloc, &octets, Some(index.as_bytes())),
         None => site_answer(alloc, &octets, None),
@@ -93,7 +93,7 @@ fn check<S: FileSource>(
     ensures { AnswersCheck (S.disk files.now) named.now plan.now result }
 {
     let inputs = read_inputs(alloc, files, named)?;
-    let plan = read_whole(alloc, files, plan)?;
+    let plan = read_path(alloc, files, plan)?;
     check_answer(alloc, &inputs, &plan)
 }
 
@@ -108,7 +108,7 @@ fn report<S: FileSource>(
     ensures { AnswersReport (S.disk files.now) named.now plan.now kind result }
 {
     let inputs = read_inputs(alloc, files, named)?;
-    let plan = read_whole(alloc, files, plan)?;
+    let plan = read_path(alloc, files, plan)?;
     report_answer(alloc, &inputs, &plan, kind)
 }
 
@@ -153,7 +153,7 @@ fn carry_out<S: FileSource, O: Output>(
 }
 
 /// Obeys the command that the words give: writes its answer on `out`, and returns what to end with.
-pub fn obey<S: FileSource, O: Output>(
+pub fn run_command<S: FileSource, O: Output>(
     alloc: Global,
     files: &S,
     words: &[String],

@@ -10,7 +10,7 @@ ghost use Rattle.hsp_runs.specs.Dispatch.{IsBeforeLog};
 
 use crate::answer::{Completed, Ended};
 use crate::failure::{Failure, Unread};
-use crate::files::{FileSource, OpenFile, read_whole};
+use crate::files::{FileSource, OpenFile, read_path};
 use crate::inputs::read_inputs;
 use crate::output::Output;
 use hsp_cli_orders::{InputFiles, Word};
@@ -44,7 +44,7 @@ pub(crate) fn open_log<S: FileSource>(
         (DispatchFails (S.disk files.now) named.now plan.now log.now)) }
 {
     let inputs = read_inputs(alloc, files, named)?;
-    let certificate = read_whole(alloc, files, plan)?;
+    let certificate = read_path(alloc, files, plan)?;
     let log = files.open(log)?;
     Ok(OpenLog {
         inputs,

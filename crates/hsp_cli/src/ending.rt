@@ -87,7 +87,7 @@ fn report_failure<P: Program, E: Output>(
 ///
 /// Before that it writes on `errors`. By `line` it reports the sums of a log or a fault, and any other failure by its
 /// own text. Where memory ran out for the line, it reports that.
-pub fn end_with<P: Program, E: Output>(
+pub fn status_at_end<P: Program, E: Output>(
     errors: &mut E,
     ended: &Result<Completed<P::Sums>, Failure<P::Fault>>,
     line: &Result<Vec<u8>, AllocError>,

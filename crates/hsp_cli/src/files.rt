@@ -70,7 +70,7 @@ impl<R: Files + AllocGlobal> FileSource for R {
 }
 
 /// Every octet of the file at this path.
-pub fn read_whole<S: FileSource>(
+pub fn read_path<S: FileSource>(
     alloc: Global,
     files: &S,
     path: &Word<'_>,

@@ -5,7 +5,7 @@ ghost use Rattle.hsp_cli.specs.Commands.{AreHeld, FailsNamed, HoldsNamed, OneFai
 ghost use Rattle.hsp_cli.specs.Failing.{IsUnread};
 
 use crate::failure::Unread;
-use crate::files::{FileSource, read_whole};
+use crate::files::{FileSource, read_path};
 use hsp_cli_orders::{InputFiles, Word};
 use hsp_inputs::Inputs;
 use std::alloc::Global;
@@ -21,7 +21,7 @@ pub fn read_named<S: FileSource>(
     ensures unread { IfErr result (IsUnread (FailsNamed (S.disk files.now) path.now)) }
 {
     match path {
-        Some(path) => Ok(Some(read_whole(alloc, files, path)?)),
+        Some(path) => Ok(Some(read_path(alloc, files, path)?)),
         None => Ok(None),
     }
 }
@@ -36,10 +36,10 @@ pub(crate) fn read_inputs<S: FileSource>(
     ensures unread { IfErr result (IsUnread (OneFails (S.disk files.now) named.now)) }
 {
     Ok(Inputs {
-        settings: read_whole(alloc, files, &named.settings)?,
+        settings: read_path(alloc, files, &named.settings)?,
         values: read_named(alloc, files, &named.values)?,
-        demand: Some(read_whole(alloc, files, &named.demand)?),
-        costs: read_whole(alloc, files, &named.costs)?,
-        capacity: read_whole(alloc, files, &named.capacity)?,
+        demand: Some(read_path(alloc, files, &named.demand)?),
+        costs: read_path(alloc, files, &named.costs)?,
+        capacity: read_path(alloc, files, &named.capacity)?,
     })
 }

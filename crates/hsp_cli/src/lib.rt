@@ -14,10 +14,10 @@ mod program;
 mod words;
 
 pub use answer::{Answer, Completed, Ended};
-pub use commands::obey;
-pub use ending::{end_with, last_line};
+pub use commands::run_command;
+pub use ending::{last_line, status_at_end};
 pub use failure::{Failure, Unread};
-pub use files::{FileSource, OpenFile, read_whole};
+pub use files::{FileSource, OpenFile, read_path};
 pub use inputs::read_named;
 pub use output::Output;
 pub use program::{Hsplan, Program};

@@ -7,7 +7,7 @@ ghost use Rattle.hsp_runs.specs.SumsText as sums_texts;
 
 use crate::failure::Failure;
 use hsp_dispatch::LogSums;
-use hsp_inputs::{Fault, fault_line, status_of};
+use hsp_inputs::{Fault, fault_line, fault_status};
 use hsp_runs::sums_line;
 use std::alloc::{AllocError, Global};
 
@@ -78,7 +78,7 @@ impl Program for Hsplan {
     }
 
     fn fault_status(fault: &Fault) -> u8 {
-        status_of(fault)
+        fault_status(fault)
     }
 
     fn sums_line(alloc: Global, sums: &LogSums) -> Result<Vec<u8>, AllocError> {

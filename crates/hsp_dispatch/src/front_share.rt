@@ -6,7 +6,7 @@ ghost use Rattle.hsp_dispatch.specs.Shares.{left_at};
 ghost use Rattle.hsp_dispatch.specs.Standings.{cells_left, left_among, shares_in, shares_sum};
 
 use crate::share::Cell;
-use hsp_log::{Front, share};
+use hsp_log::{Front, share_of_front};
 
 /// The number of the cell of a row at which a front stands, and what the front has left there. If that is nothing, it
 /// has nothing left of the row.
@@ -24,7 +24,7 @@ pub(crate) fn sum_in(cells: &[Cell], front: Front) -> u32
 {
     let mut sum = 0;
     for cell in cells {
-        sum += share(cell.left, front);
+        sum += share_of_front(cell.left, front);
     }
     sum as u32
 }
@@ -40,7 +40,7 @@ pub(crate) fn stand_with(cells: &[Cell], left: u32, front: Front) -> Standing
     let mut here = left;
     let mut number = cells.len().saturating_sub(1);
     'cells: while number > 0 {
-        let own = share(cells[number].left, front);
+        let own = share_of_front(cells[number].left, front);
         if u64::from(here) <= own {
             let cell = number as u32;
             return Standing { cell, left: here };
@@ -60,7 +60,7 @@ pub(crate) fn share_at(cells: &[Cell], site: u32, front: Front) -> u64
     ensures { result ≡ left_at (shares_in front.fronts front.number cells.now) site }
 {
     for cell in cells {
-        let left = share(cell.left, front);
+        let left = share_of_front(cell.left, front);
         if cell.site == site && left > 0 {
             return left;
         }

@@ -88,7 +88,7 @@ fn run<D: Desk, R: Read + Drop, W: Write>(
 {
     let ready = Ready {
         alloc,
-        lines: ServerLines::of(alloc, desk.served())?,
+        lines: ServerLines::for_instance(alloc, desk.served())?,
     };
     let mut records = read_records(alloc, reader);
     let mut record = ByteRecord::new(alloc);

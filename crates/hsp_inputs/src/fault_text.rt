@@ -102,7 +102,7 @@ fn log_status(fault: LogFault) -> u8
 /// The status that the program ends with at a fault: 5 for a log that can't be read to its end and for answers that
 /// can't be written, 4 where memory runs out, 3 for a certificate that is refused or of the wrong kind, and otherwise
 /// 1.
-pub fn status_of(fault: &Fault) -> u8
+pub fn fault_status(fault: &Fault) -> u8
     ensures { result ≡ status_in fault.now }
 {
     match fault {

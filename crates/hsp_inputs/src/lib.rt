@@ -19,14 +19,14 @@ mod stream_fault;
 mod stream_fault_text;
 
 pub use address::push_address;
-pub use counts::count_at;
+pub use counts::read_count;
 pub use fault::Fault;
-pub use fault_text::{fault_line, push_fault, status_of};
+pub use fault_text::{fault_line, fault_status, push_fault};
 pub use fault_words::{handle_words, push_with, reason_word};
 pub use inputs::Inputs;
 pub use instance::{costs_in, instance_in};
 pub use parts::{PartFault, named};
 pub use price_reason::price_reason_word;
-pub use readings::{certificate_in, settings_in, sites_in, sites_of, values_in};
+pub use readings::{certificate_in, settings_in, sites_from_settings, sites_in, values_in};
 pub use stream_fault::StreamFault;
 pub use stream_fault_text::{push_fault_words, stream_fault_line, stream_status};

@@ -42,7 +42,7 @@ pub fn values_in<'a>(
 }
 
 /// The sites of settings and values.
-pub fn sites_of(
+pub fn sites_from_settings(
     alloc: Global,
     settings: &Settings,
     values: Option<&ValueList<'_>>,
@@ -58,7 +58,7 @@ pub fn sites_in(alloc: Global, settings: &[u8], values: Option<&[u8]>) -> Result
 {
     let settings = settings_in(alloc, settings)?;
     let values = values_in(alloc, values)?;
-    sites_of(alloc, &settings, values.as_ref())
+    sites_from_settings(alloc, &settings, values.as_ref())
 }
 
 /// The certificate by prices that octets spell.

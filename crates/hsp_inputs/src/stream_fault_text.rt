@@ -4,7 +4,7 @@ ghost use Rattle.std.specs.Prelude.{◌≡◌, ◌++◌, IfOk, OnOk, codes, deci
 ghost use Rattle.hsp_log.specs.declared.fault.RowFault.TheVariants as row_fault;
 ghost use Rattle.hsp_inputs.specs.StreamFaultText.{fault_text, fault_words, numbered, row_words, row_status, status_in};
 
-use crate::fault_text::{push_fault as push_input_fault, status_of};
+use crate::fault_text::{fault_status, push_fault as push_input_fault};
 use crate::fault_words::handle_words;
 use crate::price_reason::price_reason_word;
 use crate::stream_fault::StreamFault;
@@ -111,7 +111,7 @@ pub fn stream_status(fault: &StreamFault) -> u8
 {
     match fault {
         StreamFault::BadFront | StreamFault::TooLarge => 1,
-        StreamFault::Input(inner) => status_of(inner),
+        StreamFault::Input(inner) => fault_status(inner),
         StreamFault::Refused(_) => 3,
         StreamFault::Log(inner) => row_status(inner),
         StreamFault::OutOfMemory => 4,

@@ -13,7 +13,7 @@ pub struct Front {
 }
 
 /// The share of a front in a number: all fronts have the quotient, and the first ones have one of the remainder each.
-pub fn share(number: u64, front: Front) -> u64
+pub fn share_of_front(number: u64, front: Front) -> u64
     requires { 0 < front.fronts }
     ensures { result ≡ share front.fronts front.number number }
 {

@@ -18,9 +18,9 @@ pub use form::{
     CountForm, Form, LogForm, event_form_of, form_of, is_count_header, is_handle_header,
     log_form_of,
 };
-pub use front_share::{Front, share};
+pub use front_share::{Front, share_of_front};
 pub use lines::ServerLines;
-pub use log_rows::{LogRow, Parts, parts_in, row_of};
+pub use log_rows::{LogRow, Parts, read_row, row_fields};
 pub use row_check::{check_row, field_at_fault};
 pub use row_faults::{count_fault, handle_fault};
 pub use watched::{Watch, Watched, watch_records};

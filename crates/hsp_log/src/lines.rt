@@ -56,7 +56,7 @@ impl ServerLines {
     /// # Errors
     ///
     /// An `AllocError` where memory runs out.
-    pub fn of(alloc: Global, instance: &Instance) -> Result<ServerLines, AllocError>
+    pub fn for_instance(alloc: Global, instance: &Instance) -> Result<ServerLines, AllocError>
         ensures { IfOk result (λ lines. lines ≡ lines_of instance.now) }
     {
         let mut lines = Vec::new(alloc);

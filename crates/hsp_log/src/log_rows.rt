@@ -61,7 +61,7 @@ fn three_in(record: &ByteRecord) -> Option<Parts<'_>>
 }
 
 /// The fields of a row, where there are as many as the header names.
-pub fn parts_in(record: &ByteRecord, form: CountForm) -> Option<Parts<'_>>
+pub fn row_fields(record: &ByteRecord, form: CountForm) -> Option<Parts<'_>>
     ensures { option_map parts_shown result ≡ parts_in form (fields_of «record».now) }
 {
     match form {
@@ -84,7 +84,7 @@ fn count_in(row: u64, count: Option<&[u8]>) -> Result<u64, RowFault>
 }
 
 /// The row that fields spell, or its first fault: `BadName`, `BadHandle`, `BadNumber`. It has the number `row`.
-pub fn row_of(row: u64, parts: Parts<'_>) -> Result<LogRow<'_>, RowFault>
+pub fn read_row(row: u64, parts: Parts<'_>) -> Result<LogRow<'_>, RowFault>
     ensures row { Gives row_shown result (row_of row (parts_shown parts.entry)) }
     ensures named { IfOk result (λ row. is_name row.region.now ≡ true) }
 {

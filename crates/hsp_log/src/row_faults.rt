@@ -6,7 +6,7 @@ ghost use Rattle.hsp_log.specs.RowFaults.{count_fault, handle_fault};
 
 use crate::fault::RowFault;
 use crate::form::CountForm;
-use crate::log_rows::{parts_in, row_of};
+use crate::log_rows::{read_row, row_fields};
 use csv::ByteRecord;
 use hsp_names::HandleRef;
 
@@ -14,10 +14,10 @@ use hsp_names::HandleRef;
 pub fn count_fault(row: u64, record: &ByteRecord) -> Option<RowFault>
     ensures { result ≡ count_fault row (fields_of «record».now) }
 {
-    let Some(parts) = parts_in(record, CountForm::Counts) else {
+    let Some(parts) = row_fields(record, CountForm::Counts) else {
         return Some(RowFault::Fields { row });
     };
-    match row_of(row, parts) {
+    match read_row(row, parts) {
         Ok(_) => None,
         Err(fault) => Some(fault),
     }

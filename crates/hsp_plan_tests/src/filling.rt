@@ -11,7 +11,7 @@ ghost use Rattle.hsp_plan_tests.specs.Filling.{IsFilled};
 use crate::service::Held;
 use hsp_instance::{Arc, Instance, RowArcs};
 use hsp_names::HandleRef;
-use hsp_price_check::{ServiceNumbers, numbers_of};
+use hsp_price_check::{ServiceNumbers, service_numbers};
 use hsp_price_plan::KeptRows;
 use hsp_tables::Costs;
 use hsp_text::limits::{MOST_LOG_REGIONS, MOST_SERVERS};
@@ -75,7 +75,7 @@ fn is_number(rows: &KeptRows, regions: usize, number: usize, name: &[u8]) -> boo
         return false;
     }
     if number < regions {
-        return rows.name(number) == name;
+        return rows.region_name(number) == name;
     }
     number == regions
 }
@@ -155,7 +155,7 @@ fn filled_once(alloc: Global, held: &Held, rows: &[Asked<'_>]) -> Result<Filled,
     // The table of costs and the instance are within their limits.
     let _costs = held.costs.len();
     let _sites = held.instance.sites();
-    let numbers = numbers_of(alloc, &held.instance)?;
+    let numbers = service_numbers(alloc, &held.instance)?;
     let filling = fill(alloc, &held.instance, &held.costs, rows)?;
     Ok(Filled {
         numbers,
@@ -205,7 +205,7 @@ fn numbered_once(alloc: Global, held: &Held, regions: [&[u8]; 2]) -> Result<Fill
     // The table of costs and the instance are within their limits.
     let _costs = held.costs.len();
     let _sites = held.instance.sites();
-    let numbers = numbers_of(alloc, &held.instance)?;
+    let numbers = service_numbers(alloc, &held.instance)?;
     let filling = fill_numbered(alloc, &held.instance, &held.costs, regions)?;
     Ok(Filled {
         numbers,

@@ -14,8 +14,10 @@ use crate::same::is_same;
 use crate::service::{Held, NARROW, hold};
 use hsp_instance::Arc;
 use hsp_network::{Outcome, PricedFlow};
-use hsp_price_check::{ServiceNumbers, numbers_of};
-use hsp_price_plan::{GroupTable, RowGroup, plan_of, reached_by, short_of, solve};
+use hsp_price_check::{ServiceNumbers, service_numbers};
+use hsp_price_plan::{
+    GroupTable, RowGroup, plan_certificate, servers_reached, short_certificate, solve_groups,
+};
 use hsp_price_text::{PriceCertificate, PricedPlan, ShortServers};
 use hsp_text::limits::MOST_SITES;
 use std::alloc::{AllocError, Global};
@@ -89,7 +91,7 @@ fn network_once(alloc: Global, held: &Held, first: u32) -> Result<Groups, AllocE
     ensures few { IfOk result (λ it. AllByRecursion HasFewArcs it.groups.items) }
     ensures demand { IfOk result (λ it. demand_in it.groups.items < 2 ^ 63) }
 {
-    let numbers = numbers_of(alloc, &held.instance)?;
+    let numbers = service_numbers(alloc, &held.instance)?;
     let groups = groups_by(alloc, first)?;
     if !all_lead_within(&groups, numbers.server_hosts.len()) {
         return Err(AllocError);
@@ -124,7 +126,7 @@ fn flow_once(alloc: Global, it: &Groups) -> Result<Option<PricedFlow>, AllocErro
         IfSome found (IsMet (group_network it.now.numbers it.now.groups.items))) }
     ensures low { IfOk result (λ found. IfSome found HasTextPrices) }
 {
-    match solve(alloc, &it.numbers, &it.groups)? {
+    match solve_groups(alloc, &it.numbers, &it.groups)? {
         Some(Outcome::Met(flow)) => Ok(Some(flow)),
         Some(Outcome::Short(_)) => Ok(None),
         None => Ok(None),
@@ -139,7 +141,7 @@ fn plan_once(alloc: Global, it: &Groups) -> Result<Option<PricedPlan>, AllocErro
     requires demand { demand_in it.now.groups.items < 2 ^ 63 }
 {
     match flow_once(alloc, it)? {
-        Some(flow) => plan_of(alloc, &it.numbers, &it.groups, flow),
+        Some(flow) => plan_certificate(alloc, &it.numbers, &it.groups, flow),
         None => Ok(None),
     }
 }
@@ -168,7 +170,7 @@ fn reached_once(alloc: Global, it: &Groups, set: [bool; 2]) -> Result<Vec<bool>,
     if it.groups.len() != 2 {
         return Err(AllocError);
     }
-    reached_by(alloc, &it.numbers, &it.groups, &set)
+    servers_reached(alloc, &it.numbers, &it.groups, &set)
 }
 
 // A set of groups reaches these servers.
@@ -206,7 +208,7 @@ fn shown_once(
     if it.numbers.server_hosts.len() != 3 {
         return Err(AllocError);
     }
-    short_of(alloc, &it.numbers, &it.groups, &reached)
+    short_certificate(alloc, &it.numbers, &it.groups, &reached)
 }
 
 // A set of servers shows this.

@@ -104,7 +104,7 @@ fn is_row(rt: &impl Abort, filled: &Filled, row: usize, region: usize, wanted: (
     assert!(rt; row < filled.rows.len());
     let number = filled.rows.region_of(row);
     is_same(rt, number, region);
-    is_same(rt, filled.rows.name(number), wanted.0);
+    is_same(rt, filled.rows.region_name(number), wanted.0);
     is_same(rt, filled.rows.count(row), wanted.1);
 }
 

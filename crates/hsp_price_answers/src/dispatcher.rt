@@ -78,7 +78,7 @@ impl<'a> PriceAnswers<'a> {
           sums = no_sums;
         }) }
     {
-        let lines = ServerLines::of(alloc, instance)?;
+        let lines = ServerLines::for_instance(alloc, instance)?;
         Ok(PriceAnswers {
             dispatcher,
             lines,

@@ -4,7 +4,7 @@ ghost use Rattle.std.specs.Prelude.{◌≡◌, ◌≤◌, ◌<◌, IfOk};
 ghost use Rattle.hsp_text.specs.Answers.{Gives};
 ghost use Rattle.hsp_price_answers.specs.FrontWords.{front_among, front_spelled};
 
-use crate::fronts::{front_at, fronts_at};
+use crate::fronts::{read_front, read_fronts};
 use hsp_inputs::StreamFault;
 use hsp_log::Front;
 
@@ -21,7 +21,7 @@ fn front_among(words: &FrontChoice, fronts: u32) -> Result<Front, StreamFault>
     ensures given { Gives (λ front. front) result (front_among words.now fronts) }
     ensures below { IfOk result (λ front. front.number < front.fronts) }
 {
-    match front_at(words.front.as_deref(), fronts) {
+    match read_front(words.front.as_deref(), fronts) {
         Ok(number) => Ok(Front { fronts, number }),
         Err(fault) => Err(fault),
     }
@@ -32,7 +32,7 @@ pub(crate) fn front_spelled(words: &FrontChoice) -> Result<Front, StreamFault>
     ensures given { Gives (λ front. front) result (front_spelled words.now) }
     ensures below { IfOk result (λ front. front.number < front.fronts) }
 {
-    match fronts_at(words.fronts.as_deref()) {
+    match read_fronts(words.fronts.as_deref()) {
         Ok(fronts) => front_among(words, fronts),
         Err(fault) => Err(fault),
     }

@@ -25,10 +25,10 @@ ghost use Rattle.hsp_price_check.specs.declared.fault.PassFault.TheVariants.{Out
 
 use crate::capacity::capacity_of_set;
 use crate::class_costs::{class_costs, class_loads};
-use crate::extras::extras_of;
+use crate::extras::prices_with_hosts;
 use crate::fault::PassFault;
 use crate::finding::class_numbers;
-use crate::numbers::{ServiceNumbers, numbers_of};
+use crate::numbers::{ServiceNumbers, service_numbers};
 use crate::plan_pass::PlanPass;
 use crate::regions::{RegionSums, add_classes, add_row};
 use crate::set_pass::SetPass;
@@ -63,7 +63,7 @@ pub struct PriceCheck<'a> {
 }
 
 /// Whether the servers of each class are below a number.
-pub fn are_there(classes: &[Class], count: usize) -> bool
+pub fn classes_have_servers(classes: &[Class], count: usize) -> bool
     ensures { IsTrue result ↔ All (λ class. All (λ j. j < count) class.servers) classes.now }
 {
     for class in classes {
@@ -104,7 +104,7 @@ fn plan_pass<'a>(
         seen: vec![in alloc; false; classes.len()]?,
         placed: true,
     };
-    let extras = extras_of(
+    let extras = prices_with_hosts(
         alloc,
         &numbers.server_hosts,
         plan.server_prices(),
@@ -131,13 +131,13 @@ fn judge_of_plan<'a>(
     requires { AreCosts costs.now }
     ensures { IfOk result (IsJudge (service_of costs.now instance.now) (Plan plan.now) []) }
 {
-    let numbers = numbers_of(alloc, instance)?;
+    let numbers = service_numbers(alloc, instance)?;
     if plan.server_prices().len() != numbers.capacities.len()
         || plan.host_prices().len() != numbers.limits.len()
     {
         return Ok(Judge::Refused(PriceReason::Shape));
     }
-    if !are_there(plan.classes(), numbers.capacities.len()) {
+    if !classes_have_servers(plan.classes(), numbers.capacities.len()) {
         return Ok(Judge::Refused(PriceReason::NoSuchServer));
     }
     Ok(Judge::Plan(plan_pass(alloc, instance, costs, numbers, plan)?))
@@ -152,7 +152,7 @@ fn judge_of_set<'a>(
     ensures { IfOk result (λ judge. (costs : List CostEntry)
         → IsJudge (service_of costs instance.now) (Shortage set.now) [] judge) }
 {
-    let numbers = numbers_of(alloc, instance)?;
+    let numbers = service_numbers(alloc, instance)?;
     let Some(flags) = flags_of(alloc, set.servers(), numbers.capacities.len())? else {
         return Ok(Judge::Refused(PriceReason::NoSuchServer));
     };

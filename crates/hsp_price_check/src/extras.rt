@@ -25,7 +25,7 @@ fn host_price(host: Option<u32>, host_prices: &[u64]) -> u64
 /// # Errors
 ///
 /// An `AllocError` where memory runs out.
-pub fn extras_of(
+pub fn prices_with_hosts(
     alloc: Global,
     server_hosts: &[Option<u32>],
     server_prices: &[u64],

@@ -20,14 +20,14 @@ mod set_pass;
 mod sums;
 
 pub use capacity::capacity_of_set;
-pub use checking::{PriceCheck, are_there};
+pub use checking::{PriceCheck, classes_have_servers};
 pub use class_costs::class_loads;
-pub use extras::extras_of;
+pub use extras::prices_with_hosts;
 pub use fault::PassFault;
 pub use finding::{class_numbers, find_class};
 pub use keys::{KindKey, LentKind};
 pub use kind_rows::{FirstNumbers, add_first};
 pub use least::{fill_least, fill_servers};
-pub use numbers::{ServiceNumbers, numbers_of};
+pub use numbers::{ServiceNumbers, service_numbers};
 pub use seen::SeenRows;
-pub use set_pass::are_caught;
+pub use set_pass::arcs_stay_within;

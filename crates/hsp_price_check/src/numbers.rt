@@ -27,7 +27,7 @@ pub struct ServiceNumbers {
 /// # Errors
 ///
 /// An `AllocError` where memory runs out.
-pub fn numbers_of(alloc: Global, instance: &Instance) -> Result<ServiceNumbers, AllocError>
+pub fn service_numbers(alloc: Global, instance: &Instance) -> Result<ServiceNumbers, AllocError>
     ensures capacities { IfOk result (λ numbers.
         numbers.capacities.items ≡ capacities_in instance.now) }
     ensures limits { IfOk result (λ numbers. numbers.limits.items ≡ limits_in instance.now) }

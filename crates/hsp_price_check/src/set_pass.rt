@@ -26,7 +26,7 @@ pub(crate) struct SetPass<'a> {
 }
 
 /// Whether each arc leads to a flagged server. There is a flag for each server.
-pub fn are_caught(flags: &[bool], arcs: &[Arc]) -> bool
+pub fn arcs_stay_within(flags: &[bool], arcs: &[Arc]) -> bool
     requires { AllByRecursion (IsWithin (length flags.now)) arcs.now }
     ensures { result ≡ list_all (λ arc. flag_at flags.now arc.server) arcs.now }
 {
@@ -46,7 +46,7 @@ impl SetPass<'_> {
             → IsSetPass at set rows self.old → IsOfRow at row row.region arcs.now count
             → IsSetPass at set (rows ++ row ∷ []) self.new }
     {
-        if are_caught(&self.flags, arcs) {
+        if arcs_stay_within(&self.flags, arcs) {
             self.demand = self.demand.saturating_add(u128::from(count));
         }
     }

@@ -7,7 +7,7 @@ ghost use Rattle.hsp_price_dispatch.specs.Choosing.{first_cell};
 ghost use Rattle.hsp_price_dispatch.specs.Holding.{cell_at, one_given};
 ghost use Rattle.hsp_price_dispatch.specs.Starting.{cells_of};
 
-use hsp_log::{Front, share};
+use hsp_log::{Front, share_of_front};
 use hsp_price_text::Class;
 use std::alloc::{AllocError, Global};
 
@@ -29,7 +29,7 @@ fn push_cells(cells: &mut Vec<Cell>, class: &Class, front: Front) -> Result<(), 
         ≡ cells.old.items ++ cells_of front.fronts front.number class.now) }
 {
     for (server, amount) in class.servers.iter().zip(&class.amounts) {
-        let own = share(*amount, front);
+        let own = share_of_front(*amount, front);
         cells.push(Cell {
             server: *server,
             share: own,

@@ -24,9 +24,10 @@ use crate::holding::Holding;
 use crate::rooms::Rooms;
 use hsp_check::{add_hosts, are_within};
 use hsp_instance::Instance;
-use hsp_log::{Front, share};
+use hsp_log::{Front, share_of_front};
 use hsp_price_check::{
-    ServiceNumbers, are_there, class_loads, class_numbers, extras_of, numbers_of,
+    ServiceNumbers, class_loads, class_numbers, classes_have_servers, prices_with_hosts,
+    service_numbers,
 };
 use hsp_price_text::PricedPlan;
 use hsp_tables::Costs;
@@ -87,13 +88,13 @@ pub(crate) fn accept(
     ensures fault { IfErr result (λ fault. (costs : List CostEntry)
         → Stands (service_of costs instance.now) plan.now fault) }
 {
-    let numbers = numbers_of(alloc, instance)?;
+    let numbers = service_numbers(alloc, instance)?;
     if plan.server_prices().len() != numbers.capacities.len()
         || plan.host_prices().len() != numbers.limits.len()
     {
         return Err(StartFault::Shape);
     }
-    if !are_there(plan.classes(), numbers.capacities.len()) {
+    if !classes_have_servers(plan.classes(), numbers.capacities.len()) {
         return Err(StartFault::NoSuchServer);
     }
     within_limits(alloc, instance, plan, numbers)
@@ -139,7 +140,7 @@ fn rooms_of(
     let mut left = Vec::with_capacity(alloc, bounds.len())?;
     for place in 0..bounds.len() {
         let free = bounds[place] - loads[place] as u64;
-        left.push(share(free, front) + held[place] as u64)?;
+        left.push(share_of_front(free, front) + held[place] as u64)?;
     }
     Ok(Rooms { left, held })
 }
@@ -208,7 +209,7 @@ pub(crate) fn index_of(
     // The plan is within its limits.
     let _cost = plan.cost();
     let classes = plan.classes();
-    let extras = extras_of(
+    let extras = prices_with_hosts(
         alloc,
         &numbers.server_hosts,
         plan.server_prices(),

@@ -84,7 +84,7 @@ fn outcome_in_text(
 /// # Errors
 ///
 /// An `AllocError` where memory runs out.
-pub fn solve(
+pub fn solve_groups(
     alloc: Global,
     numbers: &ServiceNumbers,
     groups: &[RowGroup],

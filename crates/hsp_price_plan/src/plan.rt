@@ -12,7 +12,7 @@ use crate::classes::classes_of;
 use crate::cost::flow_cost;
 use crate::group::RowGroup;
 use hsp_network::PricedFlow;
-use hsp_price_check::{ServiceNumbers, extras_of};
+use hsp_price_check::{ServiceNumbers, prices_with_hosts};
 use hsp_price_text::PricedPlan;
 use std::alloc::{AllocError, Global};
 
@@ -22,7 +22,7 @@ use std::alloc::{AllocError, Global};
 /// # Errors
 ///
 /// An `AllocError` where memory runs out.
-pub fn plan_of(
+pub fn plan_certificate(
     alloc: Global,
     numbers: &ServiceNumbers,
     groups: &[RowGroup],
@@ -38,7 +38,7 @@ pub fn plan_of(
     ensures none { IfOk result (λ found. IfNone found (IsPlanPast numbers.now groups.now flow)) }
 {
     let cost = flow_cost(groups, &flow.flows);
-    let extras = extras_of(
+    let extras = prices_with_hosts(
         alloc,
         &numbers.server_hosts,
         &flow.server_prices,

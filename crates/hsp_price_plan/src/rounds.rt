@@ -10,14 +10,14 @@ ghost use Rattle.hsp_price_plan.specs.Planning.{AreOfSome, IsFaultOf, IsRoundEnd
 
 use crate::fault::PlanFault;
 use crate::group::RowGroup;
-use crate::network::solve;
-use crate::plan::plan_of;
+use crate::network::solve_groups;
+use crate::plan::plan_certificate;
 use crate::progress::Progress;
 use crate::row_groups::groups_of;
 use crate::rows::KeptRows;
-use crate::shortage::{reached_by, short_of};
+use crate::shortage::{servers_reached, short_certificate};
 use hsp_network::{Outcome, PricedFlow};
-use hsp_price_check::{ServiceNumbers, extras_of};
+use hsp_price_check::{ServiceNumbers, prices_with_hosts};
 use hsp_price_text::PriceCertificate;
 use std::alloc::Global;
 
@@ -48,7 +48,7 @@ fn plan_round(
     ensures lasts { Outlasts numbers.now rows.old.rows rows.new.rows }
     ensures fault { IfErr result (IsFaultOf numbers.now rows.old.rows) }
 {
-    let extras = extras_of(
+    let extras = prices_with_hosts(
         alloc,
         &numbers.server_hosts,
         &flow.server_prices,
@@ -58,7 +58,7 @@ fn plan_round(
     if kept > 0 {
         return Ok(RoundEnd::Kept(kept));
     }
-    match plan_of(alloc, numbers, groups, flow)? {
+    match plan_certificate(alloc, numbers, groups, flow)? {
         Some(plan) => Ok(RoundEnd::Shown(PriceCertificate::Plan(plan))),
         None => Err(PlanFault::TooLarge),
     }
@@ -83,12 +83,12 @@ fn short_round(
     ensures lasts { Outlasts numbers.now rows.old.rows rows.new.rows }
     ensures fault { IfErr result (IsFaultOf numbers.now rows.old.rows) }
 {
-    let reached = reached_by(alloc, numbers, groups, set)?;
+    let reached = servers_reached(alloc, numbers, groups, set)?;
     let leaving = rows.keep_leaving(&reached);
     if leaving > 0 {
         return Ok(RoundEnd::Kept(leaving));
     }
-    match short_of(alloc, numbers, groups, &reached)? {
+    match short_certificate(alloc, numbers, groups, &reached)? {
         Some(short) => Ok(RoundEnd::Shown(PriceCertificate::Shortage(short))),
         None => Err(PlanFault::TooLarge),
     }
@@ -106,7 +106,7 @@ fn round(
     ensures fault { IfErr result (IsFaultOf numbers.now rows.old.rows) }
 {
     let groups = groups_of(alloc, rows)?;
-    match solve(alloc, numbers, &groups)? {
+    match solve_groups(alloc, numbers, &groups)? {
         Some(Outcome::Met(flow)) => plan_round(alloc, numbers, rows, &groups, flow),
         Some(Outcome::Short(set)) => short_round(alloc, numbers, rows, &groups, &set),
         None => Err(PlanFault::TooLarge),

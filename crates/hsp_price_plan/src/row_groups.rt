@@ -29,7 +29,7 @@ pub fn groups_of(alloc: Global, rows: &KeptRows) -> Result<Vec<RowGroup>, AllocE
     let mut kept = Vec::new(alloc);
     for row in 0..rows.len() {
         rows.fill_kept(row, &mut kept)?;
-        let region = rows.name(rows.region_of(row));
+        let region = rows.region_name(rows.region_of(row));
         table.add(alloc, region, &kept, rows.count(row))?;
     }
     Ok(table.into_groups())

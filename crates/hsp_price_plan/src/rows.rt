@@ -153,7 +153,7 @@ impl KeptRows {
     }
 
     /// The name of a region.
-    pub fn name(&self, region: usize) -> &[u8]
+    pub fn region_name(&self, region: usize) -> &[u8]
         requires { region < length self.now.regions }
         ensures { result.now ≡ region_named self.now region }
     {

@@ -13,7 +13,7 @@ ghost use Rattle.hsp_price_plan.specs.Solving.{HasArcsWithin, demand_in};
 use crate::group::RowGroup;
 use hsp_flow::flagged;
 use hsp_instance::Arc;
-use hsp_price_check::{ServiceNumbers, are_caught, capacity_of_set};
+use hsp_price_check::{ServiceNumbers, arcs_stay_within, capacity_of_set};
 use hsp_price_text::ShortServers;
 use std::alloc::{AllocError, Global};
 
@@ -33,7 +33,7 @@ fn flag_servers(reached: &mut [bool], arcs: &[Arc])
 /// # Errors
 ///
 /// An `AllocError` where memory runs out.
-pub fn reached_by(
+pub fn servers_reached(
     alloc: Global,
     numbers: &ServiceNumbers,
     groups: &[RowGroup],
@@ -64,7 +64,7 @@ fn caught_demand(groups: &[RowGroup], reached: &[bool]) -> u64
 {
     let mut sum = 0;
     for group in groups {
-        if are_caught(reached, &group.arcs) {
+        if arcs_stay_within(reached, &group.arcs) {
             sum += group.demand;
         }
     }
@@ -78,7 +78,7 @@ fn caught_demand(groups: &[RowGroup], reached: &[bool]) -> u64
 /// # Errors
 ///
 /// An `AllocError` where memory runs out.
-pub fn short_of(
+pub fn short_certificate(
     alloc: Global,
     numbers: &ServiceNumbers,
     groups: &[RowGroup],

@@ -17,7 +17,7 @@ use crate::taking::RowTaker;
 use csv::{ByteRecord, Reader};
 use hsp_csv::{RecordsFault, is_header, take_record};
 use hsp_inputs::StreamFault;
-use hsp_log::{CountForm, LogRow, RowFault, Watch, Watched, parts_in, row_of, watch_records};
+use hsp_log::{CountForm, LogRow, RowFault, Watch, Watched, read_row, row_fields, watch_records};
 use hsp_price_check::PassFault;
 use hsp_talk::Source;
 use std::alloc::Global;
@@ -100,10 +100,10 @@ fn pass_record<T: RowTaker>(
         ⊎ ((first : T) (rows : List Row) → T.HasTaken first rows taker.old
         → with_record form row rows (fields_of «record».now) ≡ Err fault)) }
 {
-    let Some(parts) = parts_in(record, form) else {
+    let Some(parts) = row_fields(record, form) else {
         return Err(StreamFault::Log(RowFault::Fields { row }));
     };
-    match row_of(row, parts) {
+    match read_row(row, parts) {
         Ok(read) => pass_row(alloc, taker, row, read),
         Err(fault) => Err(StreamFault::Log(fault)),
     }

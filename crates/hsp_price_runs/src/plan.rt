@@ -17,7 +17,7 @@ use crate::prices_text::{PricesText, text_of};
 use hsp_inputs::headline_laws::instances_are_defined;
 use hsp_inputs::{Inputs, StreamFault, costs_in, instance_in};
 use hsp_instance::Instance;
-use hsp_price_check::{ServiceNumbers, numbers_of};
+use hsp_price_check::{ServiceNumbers, service_numbers};
 use hsp_price_plan::{KeptRows, PlanFault, Progress, keep_guessed, plan_rows};
 use hsp_price_text::PriceCertificate;
 use hsp_prices::{plan_is_shown, shortage_is_shown};
@@ -75,7 +75,7 @@ fn plan_log<'a, R: Source + Drop, P: Progress + Drop>(
         ⊎ OfLog (R.remaining log)
         (AnswersRecords (IsPlanBy (service_of costs.now instance.now)) (Err fault))) }
 {
-    let numbers = numbers_of(alloc, instance)?;
+    let numbers = service_numbers(alloc, instance)?;
     let mut holder = RowHolder::new(alloc, instance, costs, progress);
     pass_log(alloc, &mut holder, log)?;
     let RowHolder {

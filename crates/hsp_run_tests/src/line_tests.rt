@@ -2,7 +2,7 @@ use crate::held::copied;
 use crate::same::is_same;
 use hsp_cert::CertFault;
 use hsp_check::Reason;
-use hsp_inputs::{Fault, fault_line, status_of};
+use hsp_inputs::{Fault, fault_line, fault_status};
 use hsp_instance::BuildFault;
 use hsp_log::LogFault;
 use hsp_names::HandleFault;
@@ -134,7 +134,7 @@ pub(crate) fn is_reported(
     wanted: &[u8],
     status: u8,
 ) {
-    is_same(rt, status_of(fault), status);
+    is_same(rt, fault_status(fault), status);
     let line = match fault_line(alloc, fault) {
         Ok(line) => line,
         Err(AllocError) => fault_line(alloc, fault).expect(rt, "there is memory"),

@@ -10,18 +10,18 @@ ghost use Rattle.hsp_runs.specs.Logs.{DispatchesAtAlways, ShowsFrontsOf};
 
 use crate::accepted::{Accepted, accepted_in};
 use hsp_dispatch::{FrontSums, Fronts, run_fronts};
-use hsp_inputs::{Fault, Inputs, count_at};
+use hsp_inputs::{Fault, Inputs, read_count};
 use hsp_text::limits::MOST_FRONTS;
 use std::alloc::Global;
 use std::io::{Read, Write};
 
 // The number of fronts that a word spells.
-fn fronts_at(word: &[u8]) -> Result<u32, Fault>
+fn read_fronts(word: &[u8]) -> Result<u32, Fault>
     ensures given { Gives (λ fronts. fronts) result (fronts_at word.now) }
     ensures some { IfOk result (λ fronts. 1 ≤ fronts) }
     ensures most { IfOk result (λ fronts. fronts ≤ MOST_FRONTS) }
 {
-    count_at(word, MOST_FRONTS, Fault::BadFronts)
+    read_count(word, MOST_FRONTS, Fault::BadFronts)
 }
 
 // The log, answered by `fronts` fronts that share the plan of a certificate.
@@ -68,7 +68,7 @@ pub fn fronts_run<R: Read + Drop, W: Write>(
     // By every plan that holds the log is answered, up to a fault of its own at most, unless memory runs out.
     ensures always { DispatchesAtAlways fronts.now inputs.now certificate.now result }
 {
-    let fronts = fronts_at(fronts)?;
+    let fronts = read_fronts(fronts)?;
     let accepted = accepted_in(alloc, inputs, certificate)?;
     dispatched_at(alloc, &accepted, fronts, reader, writer)
 }

@@ -7,7 +7,7 @@ ghost use Rattle.hsp_runs.specs.Locate.{AreLocated, IsLocated, handle_at, option
 
 use crate::site_lines::site_lines;
 use hsp_hash::{HashOption, server_number};
-use hsp_inputs::{Fault, count_at, sites_in};
+use hsp_inputs::{Fault, read_count, sites_in};
 use hsp_names::HandleRef;
 use hsp_text::limits::MOST_SERVERS;
 use hsp_text::push_whole;
@@ -49,7 +49,7 @@ fn servers_at(text: &[u8]) -> Result<u32, Fault>
     ensures given { Gives (λ servers. servers) result (servers_at text.now) }
     ensures some { IfOk result (λ servers. 1 ≤ servers) }
 {
-    count_at(text, MOST_SERVERS as u32, Fault::BadServers)
+    read_count(text, MOST_SERVERS as u32, Fault::BadServers)
 }
 
 // The handle that octets spell.

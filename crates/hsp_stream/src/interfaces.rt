@@ -6,7 +6,7 @@ ghost use Rattle.hsp_text.specs.Answers.{Stands};
 ghost use Rattle.hsp_stream.specs.Interfaces.{AreInterfacesIn};
 
 use crate::interface_records::table_of;
-use hsp_inputs::{Fault, settings_in, sites_of, values_in};
+use hsp_inputs::{Fault, settings_in, sites_from_settings, values_in};
 use std::alloc::Global;
 
 /// The table of the service interfaces of all servers of the sites that settings, and a value list where one is given,
@@ -26,6 +26,6 @@ pub fn interfaces_run(
     let settings = settings_in(alloc, settings)?;
     let listed = values_in(alloc, values)?;
     let values = listed.as_ref();
-    let _sites = sites_of(alloc, &settings, values)?;
+    let _sites = sites_from_settings(alloc, &settings, values)?;
     Ok(table_of(alloc, &settings, values)?)
 }

@@ -47,7 +47,7 @@ fn carry_out<S: FileSource, P: Progress + Drop, O: Output>(
 
 /// Obeys the command that the words give: writes its answer on `out`, and returns what to end with. `progress` is shown
 /// how far a plan is.
-pub fn obey<S: FileSource, P: Progress + Drop, O: Output>(
+pub fn run_command<S: FileSource, P: Progress + Drop, O: Output>(
     alloc: Global,
     files: &S,
     words: &[String],

@@ -8,7 +8,7 @@ ghost use Rattle.hsp_stream_cli.specs.Faults.{EndsList, asked_for, ended_with, l
 ghost use Rattle.hsp_stream_cli.specs.Printing.{IsHandedOn};
 
 use crate::program::Ended;
-use hsp_cli::{Completed, Failure, FileSource, Output, read_whole};
+use hsp_cli::{Completed, Failure, FileSource, Output, read_path};
 use hsp_cli_orders::{FaultsOf, Word};
 use hsp_inputs::StreamFault;
 use hsp_log::RowFault;
@@ -117,7 +117,7 @@ fn list_table<S: FileSource, O: Output>(
     ensures handed { IsHandedOn (O.contents out.old) (O.handed out.old) (O.contents out.new)
         (O.handed out.new) result }
 {
-    let text = read_whole(alloc, files, file)?;
+    let text = read_path(alloc, files, file)?;
     list(alloc, asked_for(of), text.as_slice(), out)
 }
 

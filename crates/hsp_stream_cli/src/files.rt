@@ -5,7 +5,7 @@ ghost use Rattle.hsp_cli.specs.Failing.{IsUnread};
 ghost use Rattle.hsp_stream_cli.specs.Files.{ArePricesHeld, AreSourcesHeld, PricesFail, AreServiceHeld, ServiceFails};
 ghost use Rattle.hsp_stream_cli.specs.Files.{SourcesFail};
 
-use hsp_cli::{FileSource, Unread, read_named, read_whole};
+use hsp_cli::{FileSource, Unread, read_named, read_path};
 use hsp_cli_orders::{PriceFiles, ServiceFiles, SiteFiles};
 use hsp_inputs::Inputs;
 use std::alloc::Global;
@@ -35,7 +35,7 @@ pub(crate) fn read_sources<S: FileSource>(
     ensures unread { IfErr result (IsUnread (SourcesFail (S.disk files.now) named.now)) }
 {
     Ok(Sources {
-        settings: read_whole(alloc, files, &named.settings)?,
+        settings: read_path(alloc, files, &named.settings)?,
         values: read_named(alloc, files, &named.values)?,
     })
 }
@@ -50,11 +50,11 @@ pub(crate) fn read_service<S: FileSource>(
     ensures unread { IfErr result (IsUnread (ServiceFails (S.disk files.now) named.now)) }
 {
     Ok(Inputs {
-        settings: read_whole(alloc, files, &named.settings)?,
+        settings: read_path(alloc, files, &named.settings)?,
         values: read_named(alloc, files, &named.values)?,
         demand: None,
-        costs: read_whole(alloc, files, &named.costs)?,
-        capacity: read_whole(alloc, files, &named.capacity)?,
+        costs: read_path(alloc, files, &named.costs)?,
+        capacity: read_path(alloc, files, &named.capacity)?,
     })
 }
 
@@ -68,6 +68,6 @@ pub(crate) fn read_prices<S: FileSource>(
     ensures unread { IfErr result (IsUnread (PricesFail (S.disk files.now) named.now)) }
 {
     let inputs = read_service(alloc, files, &named.service)?;
-    let prices = read_whole(alloc, files, &named.prices)?;
+    let prices = read_path(alloc, files, &named.prices)?;
     Ok(Priced { inputs, prices })
 }

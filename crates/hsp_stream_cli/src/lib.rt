@@ -16,5 +16,5 @@ mod reporting;
 mod talking;
 mod texts;
 
-pub use commands::obey;
+pub use commands::run_command;
 pub use program::{Ended, HsplanStream};

@@ -1,7 +1,7 @@
 // The program: one command for each run, from its arguments or, without any, from the first line of standard input.
 #![tactic(auto)]
 
-use hsp_cli::{Ended, Failure, Hsplan, Output, end_with, last_line, obey, take_words};
+use hsp_cli::{Ended, Failure, Hsplan, Output, last_line, run_command, status_at_end, take_words};
 use std::io::{self, BufWriter};
 use std::process::ExitCode;
 use std::rt::{Env, Files};
@@ -12,7 +12,7 @@ const PIECE: usize = 65_536;
 // Obeys the command that the words give.
 fn run<R: Env + Files + Input + AllocGlobal, O: Output>(rt: &R, out: &mut O) -> Ended {
     let words = take_words(rt)?;
-    obey(rt.alloc(), rt, words.as_slice(), out)
+    run_command(rt.alloc(), rt, words.as_slice(), out)
 }
 
 fn main(rt: HostRuntime) -> ExitCode {
@@ -27,6 +27,6 @@ fn main(rt: HostRuntime) -> ExitCode {
     };
     let line = last_line::<Hsplan>(rt.alloc(), &ended);
     let errors = rt.stderr();
-    let status = end_with::<Hsplan, _>(&mut io::writer(&errors), &ended, &line);
+    let status = status_at_end::<Hsplan, _>(&mut io::writer(&errors), &ended, &line);
     ExitCode::from(status)
 }

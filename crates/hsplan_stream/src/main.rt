@@ -4,9 +4,9 @@
 
 mod progress;
 
-use hsp_cli::{Output, end_with, last_line, take_words};
+use hsp_cli::{Output, last_line, status_at_end, take_words};
 use hsp_price_plan::Progress;
-use hsp_stream_cli::{Ended, HsplanStream, obey};
+use hsp_stream_cli::{Ended, HsplanStream, run_command};
 use progress::ProgressLine;
 use std::io;
 use std::process::ExitCode;
@@ -19,13 +19,13 @@ fn run<R: Env + Files + Input + AllocGlobal, P: Progress + Drop, O: Output>(
     out: &mut O,
 ) -> Ended {
     let words = take_words(rt)?;
-    obey(rt.alloc(), rt, words.as_slice(), progress, out)
+    run_command(rt.alloc(), rt, words.as_slice(), progress, out)
 }
 
 fn main(rt: HostRuntime) -> ExitCode {
     let errors = rt.stderr();
     let ended = run(&rt, ProgressLine::new(&errors), &mut io::writer(&rt));
     let line = last_line::<HsplanStream>(rt.alloc(), &ended);
-    let status = end_with::<HsplanStream, _>(&mut io::writer(&errors), &ended, &line);
+    let status = status_at_end::<HsplanStream, _>(&mut io::writer(&errors), &ended, &line);
     ExitCode::from(status)
 }

@@ -15,7 +15,7 @@ returns-then-from-own c =
     sum_from fronts front k cells (slice_index_or cells k none)
     (slice_get-get_or cells k none (omega (arith, c.cells.invariant.0, c.cells-test.true))) in
     stands fronts front c.args.left c.cells.here k cells _ c.cells.invariant.1 c.cells.invariant.2
-    (λ first. omega (arith, c.if-from-own.true, c.share-own.ensures, own, c.cells.invariant.2)) refl refl
+    (λ first. omega (arith, c.if-from-own.true, c.share_of_front-own.ensures, own, c.cells.invariant.2)) refl refl
 
 pub returns : goal.returns
 returns c =

@@ -6,8 +6,8 @@ use Rattle.hsp_dispatch.proofs.Running.{memory_stops}
 use Rattle.hsp_log.specs.declared.form.Form.TheVariants.{Handles}
 use Rattle.hsp_dispatch.proofs.run.run.Goals as goal
 
-pub returns-in_err-of-clause-stops : goal.returns-in_err-of-clause-stops
-returns-in_err-of-clause-stops g c =
+pub returns-in_err-for_instance-clause-stops : goal.returns-in_err-for_instance-clause-stops
+returns-in_err-for_instance-clause-stops g c =
     let told = err_from_is_err_and c.from_residual.result c.from_residual.ensures.1 in
     rw (told.1, told.2)
     (memory_stops (desk_of g.D.Desk.header (g.D.Desk.Answers c.args.desk.now c.args.desk.now) g.D.Desk.Refuses) _

@@ -2,12 +2,12 @@ use Rattle.hsp_price_check.proofs.Starting.{classes_few, host_prices_low, server
 use Rattle.hsp_price_dispatch.proofs.Begun.{classes_few_cells, classes_most}
 use Rattle.hsp_price_dispatch.proofs.starting.index_of.Goals as goal
 
-pub extras_of-requires-clause-low : goal.extras_of-requires-clause-low
-extras_of-requires-clause-low c =
+pub prices_with_hosts-requires-clause-low : goal.prices_with_hosts-requires-clause-low
+prices_with_hosts-requires-clause-low c =
     rw c.server_prices.ensures (server_prices_low c.args.plan.now c.cost-cost.ensures.within)
 
-pub extras_of-requires-clause-low_hosts : goal.extras_of-requires-clause-low_hosts
-extras_of-requires-clause-low_hosts c =
+pub prices_with_hosts-requires-clause-low_hosts : goal.prices_with_hosts-requires-clause-low_hosts
+prices_with_hosts-requires-clause-low_hosts c =
     rw c.host_prices.ensures (host_prices_low c.args.plan.now c.cost-cost.ensures.within)
 
 pub class_numbers-requires : goal.class_numbers-requires

@@ -3,8 +3,8 @@ use Rattle.std.proofs.lemmas.List.{get_or_read}
 use Rattle.hsp_log.proofs.FrontShares.{share_le}
 use Rattle.hsp_price_dispatch.proofs.starting.rooms_of.Goals as goal
 
-pub overflow_add-share : goal.overflow_add-share
-overflow_add-share c =
+pub overflow_add-share_of_front : goal.overflow_add-share_of_front
+overflow_add-share_of_front c =
     let place = c.loop-place.place in
     let free = slice_index c.args.bounds.now place - slice_index c.args.loads.now place in
     let low = c.requires.low place c.loop-place-test.true in
@@ -15,7 +15,7 @@ overflow_add-share c =
     omega (
       arith,
       share_le c.args.front.fronts c.args.front.number free c.requires.some,
-      c.share.ensures,
+      c.share_of_front.ensures,
       low,
       within,
       fits,

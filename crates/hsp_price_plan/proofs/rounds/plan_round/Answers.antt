@@ -9,12 +9,12 @@ use Rattle.hsp_price_plan.proofs.HeldRows.{held_still, rows_within}
 use Rattle.hsp_price_plan.proofs.PlanShown.{plan_too_large, plan_valid}
 use Rattle.hsp_price_plan.proofs.rounds.plan_round.Goals as goal
 
-pub extras_of-requires-clause-low : goal.extras_of-requires-clause-low
-extras_of-requires-clause-low c =
+pub prices_with_hosts-requires-clause-low : goal.prices_with_hosts-requires-clause-low
+prices_with_hosts-requires-clause-low c =
     subst (λ (prices : List ℕ). ArePrices prices) (sym c.deref-2.ensures.value) c.requires.low.servers
 
-pub extras_of-requires-clause-low_hosts : goal.extras_of-requires-clause-low_hosts
-extras_of-requires-clause-low_hosts c =
+pub prices_with_hosts-requires-clause-low_hosts : goal.prices_with_hosts-requires-clause-low_hosts
+prices_with_hosts-requires-clause-low_hosts c =
     subst (λ (prices : List ℕ). ArePrices prices) (sym c.deref-3.ensures.value) c.requires.low.hosts
 
 pub keep_least-kept-requires-clause-within : goal.keep_least-kept-requires-clause-within

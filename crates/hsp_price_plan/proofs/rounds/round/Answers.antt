@@ -6,8 +6,8 @@ use Rattle.hsp_price_plan.specs.Solving.{HasArcsWithin, HasFewArcs, group_networ
 use Rattle.hsp_price_plan.proofs.HeldRows.{groups_few, groups_within, many_rows, rows_within}
 use Rattle.hsp_price_plan.proofs.rounds.round.Goals as goal
 
-pub solve-requires-clause-arcs : goal.solve-requires-clause-arcs
-solve-requires-clause-arcs c =
+pub solve_groups-requires-clause-arcs : goal.solve_groups-requires-clause-arcs
+solve_groups-requires-clause-arcs c =
     let numbers = c.args.numbers.now in
     let kept = c.args.rows.now.rows in
     let held = c.requires.2 in
@@ -51,8 +51,8 @@ short_round-requires-clause-short c =
     subst (λ (set : List Bool). IsShortSet (group_network numbers c.deref-in-Some-Short.result.now) set)
     (sym c.deref-in-Some-Short-2.ensures.value) by_groups
 
-pub solve-requires-clause-few_arcs : goal.solve-requires-clause-few_arcs
-solve-requires-clause-few_arcs c =
+pub solve_groups-requires-clause-few_arcs : goal.solve_groups-requires-clause-few_arcs
+solve_groups-requires-clause-few_arcs c =
     let held = c.requires.2 in
     subst (λ (groups : List Group). AllByRecursion HasFewArcs groups) (sym c.deref.ensures.value)
     (groups_few c.requires.0 c.requires.1 c.args.rows.now.rows c.in_ok-groups.groups.items held.service held.rows_are

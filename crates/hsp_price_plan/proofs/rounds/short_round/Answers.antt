@@ -16,8 +16,8 @@ keep_leaving-leaving-requires c =
     omega (arith, c.in_ok-reached.ensures.many, c.deref.ensures.len) in
     subst (λ n. AreWithin n c.args.rows.now.rows) many (rows_within numbers c.args.rows.now.rows c.requires.rows)
 
-pub short_of-requires-clause-few : goal.short_of-requires-clause-few
-short_of-requires-clause-few c =
+pub short_certificate-requires-clause-few : goal.short_certificate-requires-clause-few
+short_certificate-requires-clause-few c =
     let held = c.requires.rows.2 in
     omega (
       arith,

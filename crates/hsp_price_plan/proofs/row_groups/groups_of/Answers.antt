@@ -25,9 +25,9 @@ loop-row-preserved c =
     let row = row_at c.args.rows.now k in
     let within : k < length rows = omega arith in
     let next : take (k + 1) rows ≡ take k rows ++ row ∷ [] = take_more rows k no_row within in
-    let region = c.region_of.ensures.named ∙ sym c.name-region.ensures in
+    let region = c.region_of.ensures.named ∙ sym c.region_name-region.ensures in
     let kept = sym (c.deref.ensures.value ∙ c.in_ok-fill_kept.ensures) in
-    let is : IsOfRow row c.name-region.result.now c.deref.result.now c.count.result =
+    let is : IsOfRow row c.region_name-region.result.now c.deref.result.now c.count.result =
     record { region_is = region; kept_is = kept; count_is = sym c.count.ensures } in
     record {
       grouped = λ arc_by all.

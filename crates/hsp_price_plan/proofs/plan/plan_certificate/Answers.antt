@@ -6,7 +6,7 @@ use Rattle.hsp_price_plan.specs.PlanOfGroups.{IsPlanFor, IsPlanPast}
 use Rattle.hsp_price_plan.proofs.FlowTotals.{flows_together}
 use Rattle.hsp_price_plan.proofs.GroupNetwork.{many_flows}
 use Rattle.hsp_price_plan.proofs.PlanParts.{is_plan, kept_large, kept_small, none_best, past_cost, plan_by, some_best}
-use Rattle.hsp_price_plan.proofs.plan.plan_of.Goals as goal
+use Rattle.hsp_price_plan.proofs.plan.plan_certificate.Goals as goal
 
 pub flow_cost-cost-requires : goal.flow_cost-cost-requires
 flow_cost-cost-requires c =

@@ -3,7 +3,7 @@ use Rattle.std.specs.List.{list_any}
 use Rattle.hsp_transport.specs.Lists.{flag_at}
 use Rattle.hsp_prices.proofs.ShortArcs.{leads}
 use Rattle.hsp_price_plan.specs.Columns.{arcs_of_groups}
-use Rattle.hsp_price_plan.proofs.shortage.reached_by.Given as goal
+use Rattle.hsp_price_plan.proofs.shortage.servers_reached.Given as goal
 
 -- the servers of the groups so far
 abbrev pub invariant-loop-number : goal.invariant-loop-number

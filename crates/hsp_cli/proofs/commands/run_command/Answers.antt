@@ -1,7 +1,7 @@
 use Rattle.std.proofs.Common.{Err, Ok, ap, map, refl}
 use Rattle.std.specs.Prelude.{string_bytes}
 use Rattle.hsp_cli.proofs.Orders.{ends_by, refused}
-use Rattle.hsp_cli.proofs.commands.obey.Goals as goal
+use Rattle.hsp_cli.proofs.commands.run_command.Goals as goal
 
 pub returns-clause-obeys : goal.returns-clause-obeys
 returns-clause-obeys g c = (

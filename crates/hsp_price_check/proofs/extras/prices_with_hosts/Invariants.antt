@@ -1,6 +1,6 @@
 use Rattle.std.proofs.Common.{◌≡◌, ◌≤◌, ◌<◌, ℕ, length, slice_index}
 use Rattle.hsp_price_check.specs.Extras.{extra_at, most_extra}
-use Rattle.hsp_price_check.proofs.extras.extras_of.Given as goal
+use Rattle.hsp_price_check.proofs.extras.prices_with_hosts.Given as goal
 
 abbrev pub invariant-loop-server : goal.invariant-loop-server
 invariant-loop-server l = record {

@@ -1,6 +1,6 @@
 use Rattle.std.proofs.Common.{Err, Ok, refl}
 use Rattle.hsp_cli.proofs.Orders.{ends_by}
-use Rattle.hsp_stream_cli.proofs.commands.obey.Goals as goal
+use Rattle.hsp_stream_cli.proofs.commands.run_command.Goals as goal
 
 pub returns-clause-obeys : goal.returns-clause-obeys
 returns-clause-obeys g c = (Ok c.in_ok-order.order, c.in_ok-order.ensures, c.carry_out.ensures.carries_out)

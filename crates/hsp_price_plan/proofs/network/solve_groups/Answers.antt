@@ -2,7 +2,7 @@ use Rattle.std.proofs.Common.{arith, subst, sym}
 use Rattle.hsp_network.specs.Network.{Transport}
 use Rattle.hsp_price_plan.specs.Pressing.{CanPress}
 use Rattle.hsp_price_plan.proofs.GroupNetwork.{can_press, is_small}
-use Rattle.hsp_price_plan.proofs.network.solve.Goals as goal
+use Rattle.hsp_price_plan.proofs.network.solve_groups.Goals as goal
 
 pub solve-requires : goal.solve-requires
 solve-requires c =

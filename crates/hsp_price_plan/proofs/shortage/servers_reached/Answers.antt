@@ -10,8 +10,8 @@ use Rattle.hsp_prices.proofs.ShortArcs.{leads, reaches_is}
 use Rattle.hsp_price_plan.specs.Grouping.{no_group}
 use Rattle.hsp_price_plan.specs.Columns.{arcs_of_groups}
 use Rattle.hsp_price_plan.proofs.ReachedServers.{flagged_more, some_to, unflagged_more}
-use Rattle.hsp_price_plan.proofs.shortage.reached_by.Goals as goal
-use Rattle.hsp_price_plan.proofs.shortage.reached_by.Goals.{then-set-number, else-set-number}
+use Rattle.hsp_price_plan.proofs.shortage.servers_reached.Goals as goal
+use Rattle.hsp_price_plan.proofs.shortage.servers_reached.Goals.{then-set-number, else-set-number}
 
 pub loop-number-preserved : goal.loop-number-preserved
 loop-number-preserved c =

@@ -2,7 +2,7 @@ use Rattle.std.proofs.Common.{◌≡◌, drop}
 use Rattle.std.specs.List.{list_all}
 use Rattle.hsp_instance.specs.declared.arc.Arc.{Arc}
 use Rattle.hsp_check.specs.ArcFlows.{flag_at}
-use Rattle.hsp_price_check.proofs.set_pass.are_caught.Given as goal
+use Rattle.hsp_price_check.proofs.set_pass.arcs_stay_within.Given as goal
 
 abbrev pub invariant-loop-arc : goal.invariant-loop-arc
 invariant-loop-arc l =

@@ -1,6 +1,6 @@
 use Rattle.std.proofs.Common.{◌<◌, ℕ, All, slice_index_or}
 use Rattle.hsp_price_text.specs.Claim.{Class}
-use Rattle.hsp_price_check.proofs.checking.are_there.Given as goal
+use Rattle.hsp_price_check.proofs.checking.classes_have_servers.Given as goal
 
 abbrev pub invariant-loop-class : goal.invariant-loop-class
 invariant-loop-class l =

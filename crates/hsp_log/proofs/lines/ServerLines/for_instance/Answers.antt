@@ -1,7 +1,7 @@
 use Rattle.std.proofs.Common.{◌∙◌}
 use Rattle.hsp_instance.proofs.Reading.{read_more}
 use Rattle.hsp_log.specs.Lines.{server_line}
-use Rattle.hsp_log.proofs.lines.ServerLines.of.Goals as goal
+use Rattle.hsp_log.proofs.lines.ServerLines.for_instance.Goals as goal
 
 pub loop-server-preserved : goal.loop-server-preserved
 loop-server-preserved c =

@@ -6,7 +6,7 @@ use Rattle.hsp_price_plan.specs.Shortage.{IsShortageFor, IsShortagePast}
 use Rattle.hsp_price_plan.proofs.ShortageParts.{flags_are, is_shortage, none_short, past_sums, servers_ordered}
 use Rattle.hsp_price_plan.proofs.ShortageParts.{short_by}
 use Rattle.hsp_price_plan.proofs.ShortageParts.{some_short}
-use Rattle.hsp_price_plan.proofs.shortage.short_of.Goals as goal
+use Rattle.hsp_price_plan.proofs.shortage.short_certificate.Goals as goal
 
 pub returns-in_default-clause-none : goal.returns-in_default-clause-none
 returns-in_default-clause-none c =

@@ -1,7 +1,7 @@
 use Rattle.std.proofs.Common.{◌∙◌, sym, ap, length, arith}
 use Rattle.std.proofs.lemmas.List.{length-map}
 use Rattle.hsp_price_check.proofs.ServiceHosts.{hosts_are_below}
-use Rattle.hsp_price_check.proofs.numbers.numbers_of.Goals as goal
+use Rattle.hsp_price_check.proofs.numbers.service_numbers.Goals as goal
 
 pub invariant_of-result : goal.invariant_of-result
 invariant_of-result c = record {
