@@ -6,7 +6,8 @@ An edit turns the function whose text it changes. Where that function is private
 to it through private functions.
 
     tools/gate/list_calls.py CRATE..     prints the calls of these crates
-    tools/gate/list_calls.py --check     fails where an edit of a source turns no public call, or where the prose of
+    tools/gate/list_calls.py --check     fails where an edit of a source turns no public call, a public call that
+                                         returns a Result doesn't say its errors, or the prose of
                                          docs/understand/PROOF.md names a call, a clause or a definition that is not
                                          there
 """
@@ -87,6 +88,11 @@ def labels() -> dict[str, Function]:
     return found
 
 
+def silent_calls() -> list[str]:
+    """The public calls that return a Result and have no section of errors."""
+    return [f"{name} has no section of errors" for name, it in labels().items() if it.lacks_errors]
+
+
 def wrong_calls(prose: str) -> list[str]:
     """The calls and clauses that the prose names and that are not there: `crate::call` (clause `label`)."""
     known, faults = labels(), []
@@ -129,7 +135,7 @@ def main() -> int:
                 print(textwrap.fill(line, 118, subsequent_indent="    ", break_on_hyphens=False))
         return 0
     prose = Path(PAGE).read_text("utf-8")
-    faults += wrong_calls(prose) + wrong_definitions(prose)
+    faults += silent_calls() + wrong_calls(prose) + wrong_definitions(prose)
     every = [call for functions in found.values() for call in functions]
     gate, only_more = sum(bool(it.edits) for it in every), sum(bool(it.more and not it.edits) for it in every)
     turned = f"{gate} turned by edits of the gate, {only_more} only by others"

@@ -33,6 +33,7 @@ class Function(NamedTuple):
     file: str
     lines: tuple[int, int]
     is_public: bool
+    lacks_errors: bool
     doc: str
     clauses: tuple[Clause, ...]
     body: str
@@ -86,8 +87,8 @@ def end_of(lines: list[str], at: int, indent: str) -> tuple[int, int]:
     raise SystemExit(f"proof: no end of the function at {lines[at]}")
 
 
-def doc_above(lines: list[str], at: int) -> str:
-    """The first sentence of the comment above a function."""
+def comment_above(lines: list[str], at: int) -> list[str]:
+    """The lines of the comment above a function."""
     above = at - 1
     while above >= 0 and lines[above].strip().startswith("#["):
         above -= 1
@@ -95,6 +96,12 @@ def doc_above(lines: list[str], at: int) -> str:
     while above >= 0 and lines[above].strip().startswith("///"):
         said.insert(0, lines[above].strip()[3:].strip())
         above -= 1
+    return said
+
+
+def doc_above(lines: list[str], at: int) -> str:
+    """The first sentence of the comment above a function."""
+    said = comment_above(lines, at)
     paragraph = " ".join(" ".join(it or "\0" for it in said).split("\0")[0].split())
     return re.split(r"(?<=[.:])\s(?=[A-Z`])", paragraph)[0] if paragraph else ""
 
@@ -142,12 +149,14 @@ def functions_of(path: str, names: set[str], is_open: bool) -> Iterator[Function
                 or (crate == "hsplan" and head.group("name") == "main")
             )
             text = "\n".join(lines[at : stop + 1])
+            fails = bool(head.group("public")) and re.match(r"[^{]*?-> Result<", text) is not None
             yield Function(
                 head.group("name"),
                 seen,
                 file,
                 (at, end),
                 public,
+                public and fails and "# Errors" not in comment_above(lines, at),
                 doc_above(lines, at),
                 tuple(clauses_in(text, cited)),
                 "\n".join(lines[stop : end + 1]),
@@ -155,7 +164,7 @@ def functions_of(path: str, names: set[str], is_open: bool) -> Iterator[Function
             at = end
         elif item:
             end = next(it for it in range(at, len(lines)) if lines[it].rstrip().endswith(";"))
-            yield Function(item.group("name"), "", file, (at, end), False, "", (), "\n".join(lines[at : end + 1]))
+            yield Function(item.group("name"), "", file, (at, end), False, False, "", (), "\n".join(lines[at : end + 1]))
             at = end
         at += 1
 

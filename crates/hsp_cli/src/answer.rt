@@ -37,6 +37,10 @@ pub struct Completed<S> {
 pub type Ended = Result<Completed<LogSums>, Failure<Fault>>;
 
 /// Where the handle is served.
+///
+/// # Errors
+///
+/// Those of [`locate_run`], each as a [`Failure`].
 pub fn locate_answer(
     alloc: Global,
     locate: &Locate,
@@ -49,6 +53,10 @@ pub fn locate_answer(
 }
 
 /// The fields of a site record or, with an index, of the record in the value with that index.
+///
+/// # Errors
+///
+/// Those of [`site_run`], each as a [`Failure`].
 pub fn site_answer(
     alloc: Global,
     octets: &[u8],
@@ -69,6 +77,10 @@ fn plan_status(is_short: bool) -> u8
 }
 
 /// The text of a plan, or of a shortage with status 3.
+///
+/// # Errors
+///
+/// Those of [`plan_run`], each as a [`Failure`].
 pub fn plan_answer(alloc: Global, inputs: &Inputs) -> Result<Answer, Failure<Fault>>
     ensures { IsAnswered plan_reply (IsShownPlan inputs.now) result }
 {
@@ -81,6 +93,10 @@ pub fn plan_answer(alloc: Global, inputs: &Inputs) -> Result<Answer, Failure<Fau
 }
 
 /// The line of a verdict. A No has status 3.
+///
+/// # Errors
+///
+/// Those of [`check_run`], each as a [`Failure`].
 pub fn check_answer(alloc: Global, inputs: &Inputs, plan: &[u8]) -> Result<Answer, Failure<Fault>>
     ensures { IsAnswered verdict_reply (IsShownVerdict inputs.now plan.now) result }
 {
@@ -92,6 +108,10 @@ pub fn check_answer(alloc: Global, inputs: &Inputs, plan: &[u8]) -> Result<Answe
 }
 
 /// The report of a certificate.
+///
+/// # Errors
+///
+/// Those of [`report_run`], each as a [`Failure`].
 pub fn report_answer(
     alloc: Global,
     inputs: &Inputs,

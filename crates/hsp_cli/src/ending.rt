@@ -10,6 +10,10 @@ use crate::program::Program;
 use std::alloc::{AllocError, Global};
 
 /// The line that is printed at the end: that of a fault, or that of the sums of a log, and otherwise no octets.
+///
+/// # Errors
+///
+/// An `AllocError` where memory runs out.
 pub fn last_line<P: Program>(
     alloc: Global,
     ended: &Result<Completed<P::Sums>, Failure<P::Fault>>,

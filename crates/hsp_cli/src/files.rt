@@ -70,6 +70,10 @@ impl<R: Files + AllocGlobal> FileSource for R {
 }
 
 /// Every octet of the file at this path.
+///
+/// # Errors
+///
+/// `Read` where the file can't be opened or read whole, or has too many octets; `Memory` where memory runs out.
 pub fn read_path<S: FileSource>(
     alloc: Global,
     files: &S,

@@ -11,6 +11,10 @@ use hsp_inputs::Inputs;
 use std::alloc::Global;
 
 /// Every octet of a file that may be named.
+///
+/// # Errors
+///
+/// Those of [`read_path`].
 pub fn read_named<S: FileSource>(
     alloc: Global,
     files: &S,

@@ -65,6 +65,10 @@ fn words_from(
 
 /// The words of the command: the arguments or, without any, those of the first line of standard input. Standard input
 /// isn't read otherwise.
+///
+/// # Errors
+///
+/// `Usage` where an argument is no text, or the first line is absent or no words; `OutOfMemory` where memory runs out.
 pub fn take_words<R: Env + Input + AllocGlobal>(rt: &R) -> Result<Vec<String>, CommandFault> {
     let arguments = arguments(rt)?;
     let line = if arguments.is_empty() {

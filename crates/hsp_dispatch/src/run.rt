@@ -100,11 +100,12 @@ fn run<D: Desk, R: Read + Drop, W: Write>(
 /// The first record is a header: `region,handle`, or `region,body` where the second field of a row is the body of a
 /// resolution request in hexadecimal digits. There are at most 10,000,000 rows.
 ///
-/// Faults come in this order for each record: `ReadFailed`, `Header`, `LogTooLong`, `Fields`, `BadBody`, `BadHandle`.
-/// Then the row is answered. The fault is `WriteFailed` where its line or, after the last row, the flush can't be
-/// written.
+/// # Errors
 ///
-/// Every row before a fault was answered and its line written. The row of a failed write was taken from the plan.
+/// For each record in this order: `ReadFailed`, `Header`, `LogTooLong`, `Fields`, `BadBody`, `BadHandle`. Then the row
+/// is answered, and `WriteFailed` comes where its line or, after the last row, the flush can't be written.
+/// `OutOfMemory` comes where memory runs out. Every row before a fault was answered and its line written. The row of a
+/// failed write was taken from the plan.
 pub fn run_log<R: Read + Drop, W: Write>(
     alloc: Global,
     reader: R,
@@ -128,8 +129,12 @@ pub fn run_log<R: Read + Drop, W: Write>(
 /// Answers each row of the log that the reader gives by the front that the row names, in a line to the writer, and
 /// counts the answers.
 ///
-/// The header is `front,region,handle`. The rest is as for [`run_log`], with `BadFront` directly after `Fields`. A
-/// front that is not there is answered `nofront`.
+/// The header is `front,region,handle`. The rest is as for [`run_log`]. A front that is not there is answered
+/// `nofront`.
+///
+/// # Errors
+///
+/// Those of [`run_log`], with `BadFront` directly after `Fields`.
 pub fn run_fronts<R: Read + Drop, W: Write>(
     alloc: Global,
     reader: R,

@@ -59,6 +59,10 @@ impl<'a> Peer for KnownPeer<'a> {
 }
 
 /// Holds a talk with a peer at which nothing happened yet.
+///
+/// # Errors
+///
+/// The fault that ends the talk.
 pub fn hold<D: Responder>(
     alloc: Global,
     responder: &mut D,

@@ -8,6 +8,10 @@ use crate::fault::Fault;
 use hsp_text::read_whole;
 
 /// The number from 1 to `most` that a word spells, or the fault where it spells no such number.
+///
+/// # Errors
+///
+/// The fault that is given, where the word spells no such number.
 pub fn read_count(word: &[u8], most: u32, fault: Fault) -> Result<u32, Fault>
     ensures count { Gives (λ count. count) result (count_at fault most word.now) }
     ensures some { IfOk result (λ count. 1 ≤ count) }

@@ -30,6 +30,10 @@ fn push_record(out: &mut Vec<u8>, part: &[u8], fault: &RecordFault) -> Result<()
 }
 
 /// Appends a fault in words: the part with the fault and `: ` where there is such a part, the fault with its fields.
+///
+/// # Errors
+///
+/// An `AllocError` where memory runs out.
 pub fn push_fault(out: &mut Vec<u8>, fault: &Fault) -> Result<(), AllocError>
     ensures { OnOk result (out.new.items ≡ out.old.items ++ fault_words fault.now) }
 {
@@ -73,6 +77,10 @@ pub fn push_fault(out: &mut Vec<u8>, fault: &Fault) -> Result<(), AllocError>
 
 /// The line that reports a fault: `hsplan: `, the part with the fault and `: ` where there is such a part, the fault
 /// with its fields, LF.
+///
+/// # Errors
+///
+/// An `AllocError` where memory runs out.
 pub fn fault_line(alloc: Global, fault: &Fault) -> Result<Vec<u8>, AllocError>
     ensures { IfOk result (λ line. line.items ≡ fault_text fault.now) }
 {

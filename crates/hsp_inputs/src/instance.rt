@@ -135,8 +135,10 @@ fn read_in_turn(alloc: Global, inputs: &Inputs) -> Result<Instance, Fault>
 
 /// The instance that the inputs define.
 ///
-/// Faults in this order: `Settings`, `Values`, `Demand`, `Costs`, `Capacity`, `Build`. Where the inputs define an
-/// instance the only fault is that memory runs out.
+/// # Errors
+///
+/// In this order: `Settings`, `Values`, `Demand`, `Costs`, `Capacity`, `Build`. Where the inputs define an instance the
+/// only fault is that memory runs out.
 pub fn instance_in(alloc: Global, inputs: &Inputs) -> Result<Instance, Fault>
     ensures instance { OrNoMemory (IsInstanceOf inputs.now) result }
     // The inputs define it, as the page of the headline states.

@@ -15,6 +15,10 @@ use hsp_tables::{Settings, read_settings};
 use std::alloc::Global;
 
 /// The settings.
+///
+/// # Errors
+///
+/// `Settings`, or `OutOfMemory`.
 pub fn settings_in(alloc: Global, octets: &[u8]) -> Result<Settings, Fault>
     ensures { OrNoMemory (ReadsSettings octets.now) result }
 {
@@ -29,6 +33,10 @@ fn list_in(alloc: Global, octets: &[u8]) -> Result<ValueList<'_>, Fault>
 }
 
 /// The value list, where one is given.
+///
+/// # Errors
+///
+/// `Values`, or `OutOfMemory`.
 pub fn values_in<'a>(
     alloc: Global,
     octets: Option<&'a [u8]>,
@@ -42,6 +50,10 @@ pub fn values_in<'a>(
 }
 
 /// The sites of settings and values.
+///
+/// # Errors
+///
+/// `Build`, or `OutOfMemory`.
 pub fn sites_from_settings(
     alloc: Global,
     settings: &Settings,
@@ -53,6 +65,10 @@ pub fn sites_from_settings(
 }
 
 /// The sites that settings define, with the value list, where one is given.
+///
+/// # Errors
+///
+/// In this order: `Settings`, `Values`, `Build`; `OutOfMemory` where memory runs out.
 pub fn sites_in(alloc: Global, settings: &[u8], values: Option<&[u8]>) -> Result<Sites, Fault>
     ensures { OrNoMemory (AreSitesIn settings.now (option_map (λ o. o.now) values.entry)) result }
 {

@@ -57,6 +57,10 @@ fn push_row_fault(out: &mut Vec<u8>, fault: &RowFault) -> Result<(), AllocError>
 }
 
 /// Appends a fault in words: the part with the fault and `: ` where there is such a part, the fault with its fields.
+///
+/// # Errors
+///
+/// An `AllocError` where memory runs out.
 pub fn push_fault_words(out: &mut Vec<u8>, fault: &StreamFault) -> Result<(), AllocError>
     ensures { OnOk result (out.new.items ≡ out.old.items ++ fault_words fault.now) }
 {
@@ -78,6 +82,10 @@ pub fn push_fault_words(out: &mut Vec<u8>, fault: &StreamFault) -> Result<(), Al
 
 /// The line that reports a fault: `hsplan-stream: `, the part with the fault and `: ` where there is such a part, the
 /// fault with its fields, LF.
+///
+/// # Errors
+///
+/// An `AllocError` where memory runs out.
 pub fn stream_fault_line(alloc: Global, fault: &StreamFault) -> Result<Vec<u8>, AllocError>
     ensures { IfOk result (λ line. line.items ≡ fault_text fault.now) }
 {

@@ -83,7 +83,11 @@ fn count_in(row: u64, count: Option<&[u8]>) -> Result<u64, RowFault>
     }
 }
 
-/// The row that fields spell, or its first fault: `BadName`, `BadHandle`, `BadNumber`. It has the number `row`.
+/// The row that fields spell, which has the number `row`.
+///
+/// # Errors
+///
+/// In this order: `BadName`, `BadHandle`, `BadNumber`, each with the number of the row.
 pub fn read_row(row: u64, parts: Parts<'_>) -> Result<LogRow<'_>, RowFault>
     ensures row { Gives row_shown result (row_of row (parts_shown parts.entry)) }
     ensures named { IfOk result (λ row. is_name row.region.now ≡ true) }

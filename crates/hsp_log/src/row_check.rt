@@ -74,7 +74,9 @@ fn check_event(row: u32, record: &ByteRecord) -> Result<(), LogFault>
 
 /// Reads the row with this number as a run over the log reads it, and returns its fault where it has one.
 ///
-/// Faults in this order: `Fields`, `BadFront`, `BadBody`, `BadHandle`; and `OutOfMemory`.
+/// # Errors
+///
+/// In this order: `Fields`, `BadFront`, `BadBody`, `BadHandle`; and `OutOfMemory`.
 pub fn check_row(
     alloc: Global,
     form: LogForm,

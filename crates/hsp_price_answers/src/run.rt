@@ -162,10 +162,12 @@ fn answer_inputs<P: Peer>(
 /// `full` where no room is left, and `unknown` where its region has no cost. A faulty row is answered `refused` and its
 /// fault, and the talk goes on. The sums stop at 2^64 - 1.
 ///
-/// Faults in this order: `Input(BadFronts)`, `BadFront`; `Input` with `Settings`, `Values`, `Demand`, `Costs`,
-/// `Capacity`, `Build` or `Cert`, or `WrongKind` for a shortage; `Refused` with `Shape`, `NoSuchServer` or `Load` for a
-/// plan that doesn't fit; all with nothing read or sent. Then `Log` with `Header`, `ReadFailed` or `WriteFailed`, when
-/// the rows before it were answered. A run stops anywhere if memory runs out.
+/// # Errors
+///
+/// In this order: `Input(BadFronts)`, `BadFront`; `Input` with `Settings`, `Values`, `Demand`, `Costs`, `Capacity`,
+/// `Build` or `Cert`, or `WrongKind` for a shortage; `Refused` with `Shape`, `NoSuchServer` or `Load` for a plan that
+/// doesn't fit; all with nothing read or sent. Then `Log` with `Header`, `ReadFailed` or `WriteFailed`, when the rows
+/// before it were answered. A run stops anywhere if memory runs out.
 pub fn price_answer_run<P: Peer>(
     alloc: Global,
     inputs: &Inputs,

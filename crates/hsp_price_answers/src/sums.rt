@@ -62,6 +62,10 @@ fn push_with(out: &mut Vec<u8>, text: &[u8], number: u64) -> Result<(), AllocErr
 
 /// The line that says how many rows of a log were answered by each kind of answer:
 /// `assigned 3 diverted 1 full 0 unknown 1 refused 0`, say, and LF.
+///
+/// # Errors
+///
+/// An `AllocError` where memory runs out.
 pub fn price_sums_line(alloc: Global, sums: &PriceSums) -> Result<Vec<u8>, AllocError>
     ensures { IfOk result (λ line. line.items ≡ price_sums_text sums.now) }
 {

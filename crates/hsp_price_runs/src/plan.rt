@@ -95,15 +95,17 @@ fn plan_log<'a, R: Source + Drop, P: Progress + Drop>(
 /// have any number of rows, in any order, and a pair of region and handle any number of them. All are held in memory.
 /// `progress` is shown how far the plan is.
 ///
-/// Faults in this order: `Input` with `Settings`, `Values`, `Demand`, `Costs`, `Capacity` or `Build`; of the log
-/// `ReadFailed`, `Header`, and row by row `Fields`, `BadName`, `BadHandle`, `BadNumber`, `TooManyRegions`. Last comes
-/// `TooLarge`: the rows ask for 2^63 queries or more, each plan of them costs more than 10^16, a plan has more than
-/// 1,048,576 classes, a short set of servers has a sum above 10^16, the text would have more than 67,108,864 octets, or
-/// there are more than 67,108,864 rows. Of these, only rows of more than 67,108,864 groups are too many. A run stops
-/// anywhere if memory runs out, as it does at the row after 2^32 of them.
-///
 /// The result is the one that these definitions give, unless a read fails, which is reported only of a reader that may
 /// fail, or memory runs out. Of a log whose octets no one can know, as of a file, it is the one of some records.
+///
+/// # Errors
+///
+/// In this order: `Input` with `Settings`, `Values`, `Demand`, `Costs`, `Capacity` or `Build`; of the log `ReadFailed`,
+/// `Header`, and row by row `Fields`, `BadName`, `BadHandle`, `BadNumber`, `TooManyRegions`. Last comes `TooLarge`: the
+/// rows ask for 2^63 queries or more, each plan of them costs more than 10^16, a plan has more than 1,048,576 classes,
+/// a short set of servers has a sum above 10^16, the text would have more than 67,108,864 octets, or there are more
+/// than 67,108,864 rows. Of these, only rows of more than 67,108,864 groups are too many. A run stops anywhere if
+/// memory runs out, as it does at the row after 2^32 of them.
 pub fn price_plan_run<R: Source + Drop, P: Progress + Drop>(
     alloc: Global,
     inputs: &Inputs,

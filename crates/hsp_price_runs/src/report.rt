@@ -54,8 +54,12 @@ impl Asked for PriceReportKind {
 /// The report of the plan by prices that the octets of `prices` spell, by the rows of a log. Where
 /// [`price_check_run`](crate::price_check_run) says No, it is the reason.
 ///
-/// The inputs, the log and the faults are those of `price_check_run`. `Input(WrongKind)` comes after all of these, for
-/// the certificate of a short set that is valid.
+/// The inputs and the log are those of `price_check_run`.
+///
+/// # Errors
+///
+/// Those of [`price_check_run`](crate::price_check_run). `Input(WrongKind)` comes after all of these, for the
+/// certificate of a short set that is valid.
 pub fn price_report_run<R: Source + Drop>(
     alloc: Global,
     inputs: &Inputs,

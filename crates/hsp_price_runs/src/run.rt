@@ -109,12 +109,14 @@ pub(crate) fn ask_inputs<A: Asked, R: Source + Drop>(
 /// The log's header is `region,handle` or `region,handle,count`. A row without a count asks for one query. The log may
 /// have any number of rows, in any order, and a pair of region and handle any number of them. None of them is held.
 ///
-/// Faults in this order: `Input` with `Settings`, `Values`, `Demand`, `Costs`, `Capacity`, `Build` or `Cert`; of the
-/// log `ReadFailed`, `Header`, and row by row `Fields`, `BadName`, `BadHandle`, `BadNumber`, `TooManyRegions`. A run
-/// stops anywhere if memory runs out, as it does at a log of 2^64 - 1 rows or more.
-///
 /// The result is the one that these definitions give, unless a read fails, which is reported only of a reader that may
 /// fail, or memory runs out. Of a log whose octets no one can know, as of a file, it is the one of some records.
+///
+/// # Errors
+///
+/// In this order: `Input` with `Settings`, `Values`, `Demand`, `Costs`, `Capacity`, `Build` or `Cert`; of the log
+/// `ReadFailed`, `Header`, and row by row `Fields`, `BadName`, `BadHandle`, `BadNumber`, `TooManyRegions`. A run stops
+/// anywhere if memory runs out, as it does at a log of 2^64 - 1 rows or more.
 pub fn price_check_run<R: Source + Drop>(
     alloc: Global,
     inputs: &Inputs,

@@ -43,6 +43,10 @@ fn push_verdict(out: &mut Vec<u8>, verdict: PriceVerdict) -> Result<(), AllocErr
 }
 
 /// The line that states a verdict: `yes`, or `no` with the reason's number and name, and LF.
+///
+/// # Errors
+///
+/// An `AllocError` where memory runs out.
 pub fn price_verdict_line(alloc: Global, verdict: PriceVerdict) -> Result<Vec<u8>, AllocError>
     ensures { IfOk result (λ line. line.items ≡ verdict_text verdict) }
 {

@@ -25,7 +25,11 @@ pub struct Accepted {
 }
 
 impl Accepted {
-    /// The plan of the certificate with its prices, or `WrongKind` where the certificate shows a shortage.
+    /// The plan of the certificate with its prices.
+    ///
+    /// # Errors
+    ///
+    /// `WrongKind` where the certificate shows a shortage.
     pub fn plan(&self) -> Result<BestRef<'_>, Fault>
         ensures { Gives (λ plan. plan) result (plan_in self.now.certificate) }
     {
@@ -35,7 +39,11 @@ impl Accepted {
         }
     }
 
-    /// The short set of the certificate, or `WrongKind` where the certificate shows a plan.
+    /// The short set of the certificate.
+    ///
+    /// # Errors
+    ///
+    /// `WrongKind` where the certificate shows a plan.
     pub fn shortage(&self) -> Result<ShortRef<'_>, Fault>
         ensures { Gives (λ set. set) result (shortage_in self.now.certificate) }
     {
@@ -66,8 +74,10 @@ fn accepting(alloc: Global, instance: Instance, certificate: Certificate) -> Res
 
 /// The instance of the inputs, and the certificate that the octets spell, which is valid for it.
 ///
-/// Faults in this order: `Settings`, `Values`, `Demand`, `Costs`, `Capacity`, `Build`, `Cert`, `Refused` with the first
-/// reason.
+/// # Errors
+///
+/// In this order: `Settings`, `Values`, `Demand`, `Costs`, `Capacity`, `Build`, `Cert`, `Refused` with the first
+/// reason; `OutOfMemory` where memory runs out.
 pub fn accepted_in(alloc: Global, inputs: &Inputs, octets: &[u8]) -> Result<Accepted, Fault>
     ensures accepted { OrNoMemory (IsAcceptedOf inputs.now octets.now) result }
     ensures valid { IfOk result (λ accepted.

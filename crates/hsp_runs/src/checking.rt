@@ -52,7 +52,10 @@ fn judged_text(alloc: Global, instance: &Instance, octets: &[u8]) -> Result<Verd
 /// reason why it isn't. Where the inputs define an instance, and the text is that of a certificate that holds for it,
 /// the verdict is Yes, unless memory runs out.
 ///
-/// Faults in this order: `Settings`, `Values`, `Demand`, `Costs`, `Capacity`, `Build`, `Cert`.
+/// # Errors
+///
+/// In this order: `Settings`, `Values`, `Demand`, `Costs`, `Capacity`, `Build`, `Cert`; `OutOfMemory` where memory runs
+/// out.
 pub fn check_run(alloc: Global, inputs: &Inputs, cert: &[u8]) -> Result<Verdict, Fault>
     ensures verdict { OrNoMemory (IsChecked inputs.now cert.now) result }
     // Yes means that the certificate's plan is best, or that there is no feasible plan.

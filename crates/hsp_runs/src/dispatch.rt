@@ -32,7 +32,9 @@ fn dispatched<R: Read + Drop, W: Write>(
 /// Answers the entries of the log that `reader` gives, by the plan that the octets of `certificate` spell, with a line
 /// for each on `writer`.
 ///
-/// Faults in this order: those of the inputs (`Settings`, `Values`, `Demand`, `Costs`, `Capacity`, `Build`), `Cert`,
+/// # Errors
+///
+/// In this order: those of the inputs (`Settings`, `Values`, `Demand`, `Costs`, `Capacity`, `Build`), `Cert`,
 /// `Refused`, and `WrongKind` for a shortage, all with nothing written; then `Log`, when the entries before it were
 /// answered. A run stops anywhere if memory runs out. Where the inputs define an instance, and the certificate is a
 /// plan that holds for it, there is no other fault than `Log`, unless memory runs out.

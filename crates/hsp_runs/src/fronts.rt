@@ -47,9 +47,12 @@ fn dispatched_at<R: Read + Drop, W: Write>(
 /// Answers the events of the log that `reader` gives as [`dispatch_run`] does entries. Each event is answered by the
 /// front that it names, which has only its share of the plan.
 ///
-/// The word `fronts` spells how many fronts there are, from 1 to 64. Otherwise the fault is `BadFronts`, before any
-/// other. Where it does, the inputs define an instance, and the certificate is a plan that holds for it, there is no
-/// other fault than `Log`, unless memory runs out.
+/// The word `fronts` spells how many fronts there are, from 1 to 64. Where it does, the inputs define an instance, and
+/// the certificate is a plan that holds for it, there is no other fault than `Log`, unless memory runs out.
+///
+/// # Errors
+///
+/// `BadFronts`, then those of [`dispatch_run`](crate::dispatch_run).
 pub fn fronts_run<R: Read + Drop, W: Write>(
     alloc: Global,
     inputs: &Inputs,

@@ -101,7 +101,10 @@ fn sites_run(
 /// Where the handle is served: the place of its server, on a line of its own; or a line for each site, with its name
 /// and the place and the identifier of the handle's server there.
 ///
-/// Faults in this order: `BadOption`, `BadServers`, `Handle`. For sites: `Handle`, `Settings`, `Values`, `Build`.
+/// # Errors
+///
+/// In this order: `BadOption`, `BadServers`, `Handle`. For sites: `Handle`, `Settings`, `Values`, `Build`.
+/// `OutOfMemory` comes where memory runs out.
 pub fn locate_run(alloc: Global, locate: &Locate, handle: &[u8]) -> Result<Vec<u8>, Fault>
     ensures { Stands Fault.OutOfMemory (λ text. text.items)
         (IsLocated locate.now handle.now) result }

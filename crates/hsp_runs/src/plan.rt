@@ -77,7 +77,9 @@ fn planned(alloc: Global, instance: &Instance) -> Result<PlanText, Fault>
 /// shortage, a set of rows that asks for more than all that it can reach can take. Where the inputs define an instance
 /// there is such a text, unless memory runs out.
 ///
-/// Faults in this order: `Settings`, `Values`, `Demand`, `Costs`, `Capacity`, `Build`.
+/// # Errors
+///
+/// In this order: `Settings`, `Values`, `Demand`, `Costs`, `Capacity`, `Build`; `OutOfMemory` where memory runs out.
 pub fn plan_run(alloc: Global, inputs: &Inputs) -> Result<PlanText, Fault>
     ensures text { OrNoMemory (IsPlanned inputs.now) result }
     // The plan is best, or there is no feasible plan.

@@ -34,8 +34,11 @@ fn reported(alloc: Global, accepted: &Accepted, kind: ReportKind) -> Result<Vec<
 
 /// The report of the certificate that the octets of `certificate` spell.
 ///
-/// Faults in this order: those of the inputs (`Settings`, `Values`, `Demand`, `Costs`, `Capacity`, `Build`), `Cert`,
-/// `Refused` with the first reason, and `WrongKind` for `Load` or `Region` of a shortage and for `Shortage` of a plan.
+/// # Errors
+///
+/// In this order: those of the inputs (`Settings`, `Values`, `Demand`, `Costs`, `Capacity`, `Build`), `Cert`, `Refused`
+/// with the first reason, and `WrongKind` for `Load` or `Region` of a shortage and for `Shortage` of a plan;
+/// `OutOfMemory` where memory runs out.
 pub fn report_run(
     alloc: Global,
     inputs: &Inputs,

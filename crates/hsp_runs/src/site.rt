@@ -111,7 +111,9 @@ fn value_run(alloc: Global, octets: &[u8], index: u32) -> Result<Vec<u8>, Fault>
 /// The fields of a site record, one on each line. The record is the octets themselves or, with an index, the value with
 /// this index in the value list that they spell.
 ///
-/// Faults in this order: `BadIndex`, `Values`, `NoValue`, `NotSiteValue`, `Site`.
+/// # Errors
+///
+/// In this order: `BadIndex`, `Values`, `NoValue`, `NotSiteValue`, `Site`; `OutOfMemory` where memory runs out.
 pub fn site_run(alloc: Global, octets: &[u8], index: Option<&[u8]>) -> Result<Vec<u8>, Fault>
     ensures { IsSiteRun octets.now (option_map (λ digits. digits.now) index.entry) result }
 {

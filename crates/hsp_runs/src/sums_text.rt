@@ -9,6 +9,10 @@ use std::alloc::{AllocError, Global};
 
 /// The line that says how many entries of a log were answered by each kind of answer: `assigned 3 spent 1 unknown 1`,
 /// say, and LF.
+///
+/// # Errors
+///
+/// An `AllocError` where memory runs out.
 pub fn sums_line(alloc: Global, sums: &LogSums) -> Result<Vec<u8>, AllocError>
     ensures { IfOk result (λ line. line.items ≡ sums_text sums.now) }
 {

@@ -41,6 +41,10 @@ fn push_verdict(out: &mut Vec<u8>, verdict: &Verdict) -> Result<(), AllocError>
 }
 
 /// The line that states a verdict: `yes`, or `no` with the reason's number and name, and LF.
+///
+/// # Errors
+///
+/// An `AllocError` where memory runs out.
 pub fn verdict_line(alloc: Global, verdict: &Verdict) -> Result<Vec<u8>, AllocError>
     ensures { IfOk result (λ line. line.items ≡ verdict_text verdict.now) }
 {

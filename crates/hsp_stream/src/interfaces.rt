@@ -14,7 +14,9 @@ use std::alloc::Global;
 /// site in the settings' order, place by place, and in the order of the server's record. The address has 32 hexadecimal
 /// digits. Type, protocol and port are the numbers of RFC 3651, section 3.2.2.
 ///
-/// Faults in this order: `Settings`, `Values`, `Build`. Once the sites are read, only memory can run out.
+/// # Errors
+///
+/// In this order: `Settings`, `Values`, `Build`. Once the sites are read, only memory can run out.
 pub fn interfaces_run(
     alloc: Global,
     settings: &[u8],

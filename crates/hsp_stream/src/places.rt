@@ -17,9 +17,11 @@ use std::alloc::Global;
 /// header `handle,site,place,server_id`, and for each row a line for each site in the settings' order. A blank row has
 /// no answer.
 ///
-/// Faults in this order: those of the settings and values, before anything is read or sent; then of the log `Header`,
-/// also where the log ends without one; then row by row `Fields` and `BadHandle` (`TooLong` where the row has more than
-/// [`hsp_talk::LONGEST_ROW`] octets). What comes before a fault is answered.
+/// # Errors
+///
+/// In this order: those of the settings and values, before anything is read or sent; then of the log `Header`, also
+/// where the log ends without one; then row by row `Fields` and `BadHandle` (`TooLong` where the row has more than
+/// [`hsp_talk::LONGEST_ROW`] octets). What comes before a fault is answered. `OutOfMemory` comes where memory runs out.
 pub fn places_run<P: Peer>(
     alloc: Global,
     settings: &[u8],
