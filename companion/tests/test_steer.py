@@ -817,6 +817,15 @@ def test_systemd_takes_the_units(tmp_path: Path) -> None:
         assert subprocess.run(words, capture_output=True).returncode == 0, unit
 
 
+def test_a_period_is_the_time_that_the_demand_counts(hsp: Hsp, two: Path, into: Path, front: Front) -> None:
+    """It is that of hsp.toml, where nothing else is asked for."""
+    titles = two / "hsp.toml"
+    titles.write_text("seconds = 80_000\n" + titles.read_text())
+    for words, period in (((), 80_000), (("--period", "70_000"), 70_000)):
+        state = json.loads(hsp("steer", str(two), "--into", str(into), "--once", *words).stdout)
+        assert state["left"] == pytest.approx(1 - state["time"] % period / period, abs=1e-3)
+
+
 def test_a_period_has_a_unit() -> None:
     kind = Seconds(1, 86_400)
     assert [kind.convert(own, None, None) for own in ("90m", "1h", "0.5d", "7s", "60")] == [5400, 3600, 43_200, 7, 60]
