@@ -823,7 +823,8 @@ def test_a_period_is_the_time_that_the_demand_counts(hsp: Hsp, two: Path, into: 
     titles.write_text("seconds = 80_000\n" + titles.read_text())
     for words, period in (((), 80_000), (("--period", "70_000"), 70_000)):
         state = json.loads(hsp("steer", str(two), "--into", str(into), "--once", *words).stdout)
-        assert state["left"] == pytest.approx(1 - state["time"] % period / period, abs=1e-3)
+        left = 1 - time.time() % period / period
+        assert state["left"] == pytest.approx(left, abs=2e-3)
 
 
 def test_a_period_has_a_unit() -> None:
