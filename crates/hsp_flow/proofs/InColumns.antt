@@ -12,7 +12,7 @@ use Rattle.hsp_flow.proofs.Ordering.{arcs_read}
 
 module _ (lists : List (List Arc)) (k : ℕ) (arcs : List Arc) (read : slice_get lists k ≡ Some arcs) where
   -- the arcs of the first rows, and of one more
-  grown : arcs_from 0 (take k lists) ++ map (arc_of k) arcs ≡ arcs_from 0 (take (k + 1) lists)
+  pub grown : arcs_from 0 (take k lists) ++ map (arc_of k) arcs ≡ arcs_from 0 (take (k + 1) lists)
   grown = arcs_read lists k arcs (arcs_from 0 (take k lists)) read refl
 
   -- a column grows by the arcs of a row

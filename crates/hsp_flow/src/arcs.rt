@@ -1,4 +1,4 @@
-// The arcs of an instance, row by row, in columns.
+// The arcs of sources, one source after another, in columns.
 
 ghost use Rattle.std.specs.Prelude.{◌≡◌, [], IfOk, OnOk, length, map};
 ghost use Rattle.hsp_instance.specs.Instance.{IsInstance};
@@ -10,15 +10,19 @@ use std::alloc::{AllocError, Global};
 
 /// The source, the server and the cost of each arc, a column for each.
 #[derive(Drop)]
-pub(crate) struct ArcColumns {
-    pub(crate) sources: Vec<u32>,
-    pub(crate) servers: Vec<u32>,
-    pub(crate) costs: Vec<u64>,
+pub struct ArcColumns {
+    pub sources: Vec<u32>,
+    pub servers: Vec<u32>,
+    pub costs: Vec<u64>,
 }
 
 impl ArcColumns {
     /// No arcs yet, with room for `room` of them.
-    pub(crate) fn with_room(alloc: Global, room: usize) -> Result<ArcColumns, AllocError>
+    ///
+    /// # Errors
+    ///
+    /// An `AllocError` where memory runs out.
+    pub fn with_room(alloc: Global, room: usize) -> Result<ArcColumns, AllocError>
         ensures { IfOk result (AreColumns []) }
     {
         Ok(ArcColumns {
@@ -29,7 +33,11 @@ impl ArcColumns {
     }
 
     /// Appends the arcs of a source.
-    pub(crate) fn push_row(&mut self, source: u32, arcs: &[Arc]) -> Result<(), AllocError>
+    ///
+    /// # Errors
+    ///
+    /// An `AllocError` where memory runs out.
+    pub fn push_arcs(&mut self, source: u32, arcs: &[Arc]) -> Result<(), AllocError>
         ensures { OnOk result (Extends self.old (map (arc_of source) arcs.now) self.new) }
     {
         for arc in arcs {
@@ -49,7 +57,7 @@ pub(crate) fn row_columns(alloc: Global, instance: &Instance) -> Result<ArcColum
 {
     let mut columns = ArcColumns::with_room(alloc, instance.arc_count())?;
     for row in 0..instance.rows() {
-        columns.push_row(row, instance.arcs(row))?;
+        columns.push_arcs(row, instance.arcs(row))?;
     }
     Ok(columns)
 }

@@ -9,6 +9,7 @@ mod certify;
 mod planning;
 mod shortfall;
 
+pub use arcs::ArcColumns;
 pub use hsp_network::{Effort, Frontier, HeapFrontier, ScanFrontier, SearchEffort};
 pub use planning::{solve, solve_counted, solve_proposed, solve_with};
 pub use shortfall::flagged;

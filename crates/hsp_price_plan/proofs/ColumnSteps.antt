@@ -1,46 +1,39 @@
 -- Columns of groups with those of one group more.
 use Rattle.std.proofs.Common.{◌≡◌, ℕ, ◌+◌, ◌<◌, ◌∙◌, List, [], ◌∷◌, ◌++◌, length, map, take, slice_index_or, ap, sym}
-use Rattle.std.proofs.Common.{add-zero, append_assoc, arith, zero-add}
-use Rattle.std.proofs.lemmas.List.{append-nil, length-map, map-append, length-take-le, take_more}
-use Rattle.hsp_instance.specs.declared.arc.Arc.{Arc}
-use Rattle.hsp_check.specs.declared.arc.NetworkArc.{NetworkArc}
-use Rattle.hsp_check.specs.Instance.{arc_of, arcs_from}
+use Rattle.std.specs.Prelude.{Some, option_map, slice_get}
+use Rattle.std.proofs.lemmas.List.{map-append, take-map, take_more}
+use Rattle.std.proofs.lemmas.Option.{slice_get-get_or, slice_get-map}
+use Rattle.hsp_check.specs.Instance.{arc_of}
+use Rattle.hsp_flow.specs.Columns as columns
+use Rattle.hsp_flow.specs.declared.arcs.ArcColumns.{ArcColumns}
+use Rattle.hsp_flow.proofs.InColumns as in_columns
 use Rattle.hsp_prices.specs.Groups.{Group}
 use Rattle.hsp_price_plan.specs.Columns.{arcs_of_groups}
 
--- the arcs of one list more
-arcs_snoc : (i : ℕ) (lists : List (List Arc)) (arcs : List Arc)
-    → arcs_from i (lists ++ arcs ∷ []) ≡ arcs_from i lists ++ map (arc_of (i + length lists)) arcs
-arcs_snoc i [] arcs = rw add-zero (append-nil (map (arc_of i) arcs))
-arcs_snoc i (first ∷ rest) arcs =
-    let next : (i + 1) + length rest ≡ i + length (first ∷ rest) = omega arith in
-    ap (λ xs. map (arc_of i) first ++ xs) (rw next at (arcs_snoc (i + 1) rest arcs))
-    ∙ sym
-    (append_assoc (map (arc_of i) first) (arcs_from (i + 1) rest)
-    (map (arc_of (i + length (first ∷ rest))) arcs))
-
 module _ (groups : List Group) (k : ℕ) (d : Group) (l : k < length groups) where
+  -- the arcs of the group of a number
+  read : slice_get (map (λ (group : Group). group.arcs) groups) k ≡ Some (slice_index_or groups k d).arcs
+  read =
+      slice_get-map (λ (group : Group). group.arcs) groups k
+      ∙ ap (option_map (λ (group : Group). group.arcs)) (slice_get-get_or groups k d l)
+
   -- the arcs of the first groups, and of one more
   pub grown : arcs_of_groups (take (k + 1) groups)
       ≡ arcs_of_groups (take k groups) ++ map (arc_of k) (slice_index_or groups k d).arcs
   grown =
-      let many : length (map (λ (group : Group). group.arcs) (take k groups)) ≡ k =
-      length-map (take k groups) (λ (group : Group). group.arcs) ∙ length-take-le k groups (omega arith) in
-      ap arcs_of_groups (take_more groups k d l)
-      ∙ ap (arcs_from 0)
-      (map-append (λ (group : Group). group.arcs) (take k groups) (slice_index_or groups k d ∷ []))
-      ∙ (rw (many, zero-add k) at
-      (arcs_snoc 0 (map (λ (group : Group). group.arcs) (take k groups)) (slice_index_or groups k d).arcs))
+      let lists = map (λ (group : Group). group.arcs) groups in
+      rw (← take-map (λ (group : Group). group.arcs) k groups, ← take-map (λ (group : Group). group.arcs) (k + 1) groups)
+      (sym (in_columns.grown lists k (slice_index_or groups k d).arcs read))
 
-  -- a column of the arcs grows by those of a group
-  pub column_more : (part : NetworkArc → ℕ) (old new : List ℕ)
-      → old ≡ map part (arcs_of_groups (take k groups))
-      → new ≡ old ++ map part (map (arc_of k) (slice_index_or groups k d).arcs)
-      → new ≡ map part (arcs_of_groups (take (k + 1) groups))
-  column_more part old new is more =
-      more ∙ ap (λ xs. xs ++ map part (map (arc_of k) (slice_index_or groups k d).arcs)) is
-      ∙ sym (map-append part (arcs_of_groups (take k groups)) (map (arc_of k) (slice_index_or groups k d).arcs))
-      ∙ ap (map part) (sym grown)
+  -- the columns of the arcs grow by those of a group
+  pub arcs_more : (old new : ArcColumns) → columns.AreColumns (arcs_of_groups (take k groups)) old
+      → columns.Extends old (map (arc_of k) (slice_index_or groups k d).arcs) new
+      → columns.AreColumns (arcs_of_groups (take (k + 1) groups)) new
+  arcs_more old new is more =
+      let lists = map (λ (group : Group). group.arcs) groups in
+      rw (← take-map (λ (group : Group). group.arcs) (k + 1) groups)
+      (in_columns.columns_more lists k (slice_index_or groups k d).arcs read old new
+      (rw (take-map (λ (group : Group). group.arcs) k groups) is) more)
 
   -- the demands grow by that of a group
   pub demands_more : (old new : List ℕ) → old ≡ map (λ (group : Group). group.demand) (take k groups)

@@ -37,9 +37,9 @@ fn group_network<'a>(
         capacities: &numbers.capacities,
         limits: &numbers.limits,
         hosts: &numbers.server_hosts,
-        sources: &columns.sources,
-        servers: &columns.servers,
-        costs: &columns.costs,
+        sources: &columns.arcs.sources,
+        servers: &columns.arcs.servers,
+        costs: &columns.arcs.costs,
     }
 }
 

@@ -13,8 +13,8 @@ invariant_of-result c = record {
         c.deref-6.ensures.value,
         c.deref-7.ensures.value,
         c.requires.columns.demands,
-        c.requires.columns.sources,
-        c.requires.columns.servers,
-        c.requires.columns.costs,
+        c.requires.columns.arcs.sources,
+        c.requires.columns.arcs.servers,
+        c.requires.columns.arcs.costs,
       ) (is_network c.args.numbers.now c.args.groups.now c.requires.arcs);
 }

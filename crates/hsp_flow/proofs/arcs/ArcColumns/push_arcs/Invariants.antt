@@ -1,7 +1,7 @@
 use Rattle.std.proofs.Common.{◌≡◌, ◌++◌, take, map}
 use Rattle.hsp_check.specs.Instance.{arc_of}
 use Rattle.hsp_flow.specs.Planning.{row_of, server_of, cost_of}
-use Rattle.hsp_flow.proofs.arcs.ArcColumns.push_row.Given as goal
+use Rattle.hsp_flow.proofs.arcs.ArcColumns.push_arcs.Given as goal
 
 abbrev pub invariant-loop-arc : goal.invariant-loop-arc
 invariant-loop-arc l = record {
