@@ -19,7 +19,7 @@ use crate::dispatcher::Dispatcher;
 use csv::ByteRecord;
 use hsp_csv::two_fields;
 use hsp_instance::Instance;
-use hsp_log::{Form, LogFault, form_of, octets_in, request_in};
+use hsp_log::{Form, LogFault, entry_form, octets_in, request_in};
 use std::alloc::Global;
 
 // Answers the entry in the row with this number, and takes what it is answered by from the plan.
@@ -54,7 +54,7 @@ impl<'a> Desk for Dispatcher<'a> {
         ensures header { IfSome result (λ form. fields_of «record».now ≡ header_of form) }
         ensures none { IfNone result ((form : Form) → fields_of «record».now ≢ header_of form) }
     {
-        form_of(record)
+        entry_form(record)
     }
 
     fn served(&self) -> &Instance {

@@ -14,7 +14,7 @@ use crate::fronts::Fronts;
 use csv::ByteRecord;
 use hsp_csv::three_fields;
 use hsp_instance::Instance;
-use hsp_log::{Form, LogFault, event_form_of};
+use hsp_log::{Form, LogFault, event_form};
 use hsp_text::read_whole;
 use std::alloc::Global;
 
@@ -31,7 +31,7 @@ impl<'a> Desk for Fronts<'a> {
         ensures header { IfSome result (λ form. fields_of «record».now ≡ front_header) }
         ensures none { IfNone result ((form : Form) → fields_of «record».now ≢ front_header) }
     {
-        event_form_of(record)
+        event_form(record)
     }
 
     fn served(&self) -> &Instance {

@@ -38,8 +38,17 @@ pub enum CountForm {
     Counts,
 }
 
+/// What the rows of a log of handles have.
+#[derive(Clone, Copy)]
+pub enum HandleForm {
+    /// A handle.
+    Handle,
+    /// A region and a handle.
+    RegionAndHandle,
+}
+
 /// The form of a log, by its first record, or None where that is not a header.
-pub fn form_of(record: &ByteRecord) -> Option<Form>
+pub fn entry_form(record: &ByteRecord) -> Option<Form>
     ensures header { IfSome result (λ form. fields_of «record».now ≡ header_of form) }
     ensures none { IfNone result ((form : Form) → fields_of «record».now ≢ header_of form) }
 {
@@ -53,7 +62,7 @@ pub fn form_of(record: &ByteRecord) -> Option<Form>
 }
 
 /// The form of a log of events, or None where the record is not its header.
-pub fn event_form_of(record: &ByteRecord) -> Option<Form>
+pub fn event_form(record: &ByteRecord) -> Option<Form>
     ensures header { IfSome result (λ form. fields_of «record».now ≡ front_header) }
     ensures none { IfNone result (fields_of «record».now ≢ front_header) }
 {
@@ -64,14 +73,14 @@ pub fn event_form_of(record: &ByteRecord) -> Option<Form>
 }
 
 /// What the rows of a log spell, by its first record, or None where that is not a header.
-pub fn log_form_of(record: &ByteRecord) -> Option<LogForm>
+pub fn log_form(record: &ByteRecord) -> Option<LogForm>
     ensures header { IfSome result (λ form. fields_of «record».now ≡ log_header form) }
     ensures none { IfNone result ((form : LogForm) → fields_of «record».now ≢ log_header form) }
 {
-    if let Some(form) = form_of(record) {
+    if let Some(form) = entry_form(record) {
         return Some(LogForm::Entries(form));
     }
-    match event_form_of(record) {
+    match event_form(record) {
         Some(_) => Some(LogForm::Events),
         None => None,
     }

@@ -15,8 +15,8 @@ mod watched;
 pub use body::{octets_in, request_in};
 pub use fault::{LogFault, RowFault};
 pub use form::{
-    CountForm, Form, LogForm, event_form_of, form_of, is_count_header, is_handle_header,
-    log_form_of,
+    CountForm, Form, HandleForm, LogForm, entry_form, event_form, is_count_header,
+    is_handle_header, log_form,
 };
 pub use front_share::{Front, share_of_front};
 pub use lines::ServerLines;

@@ -15,8 +15,8 @@ use Rattle.hsp_stream.specs.PlaceLines.{header_line, place_lines}
 use Rattle.hsp_stream.specs.Places.{PlacesState, Step, TakesHandle, answered, at_start, handle_at, handle_by}
 use Rattle.hsp_stream.specs.Places.{handle_field, handle_in_row, header_by, header_in, headed, step_by}
 use Rattle.hsp_stream.specs.PlacesLaws.{GivesHandle, HandlesIn, HandlesOf, HasHandle, PlacesArePrinted, header_of}
-use Rattle.hsp_stream.specs.declared.handle_rows.HandleForm.{HandleForm}
-use Rattle.hsp_stream.specs.declared.handle_rows.HandleForm.TheVariants.{Handle, RegionAndHandle}
+use Rattle.hsp_log.specs.declared.form.HandleForm.{HandleForm}
+use Rattle.hsp_log.specs.declared.form.HandleForm.TheVariants.{Handle, RegionAndHandle}
 use Rattle.hsp_log.proofs.LogRows.{handle_own}
 use Rattle.hsp_text.specs.Answers.{◌>>=◌}
 use Rattle.hsp_text.proofs.Steps.{first_step}

@@ -15,8 +15,8 @@ use Rattle.hsp_csv.specs.Row.Shape.{blank, one, other, two}
 use Rattle.hsp_stream.specs.PlaceLines.{header_line, place_lines}
 use Rattle.hsp_log.specs.declared.fault.RowFault.{RowFault}
 use Rattle.hsp_log.specs.declared.fault.RowFault.TheVariants.{BadHandle, Fields, Header}
-use Rattle.hsp_stream.specs.declared.handle_rows.HandleForm.{HandleForm}
-use Rattle.hsp_stream.specs.declared.handle_rows.HandleForm.TheVariants.{Handle, RegionAndHandle}
+use Rattle.hsp_log.specs.declared.form.HandleForm.{HandleForm}
+use Rattle.hsp_log.specs.declared.form.HandleForm.TheVariants.{Handle, RegionAndHandle}
 
 -- ---- rows
 

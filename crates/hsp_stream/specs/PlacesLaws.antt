@@ -10,8 +10,8 @@ use Rattle.hsp_talk.specs.Talk.{Event, rows_in, sent_in}
 use Rattle.hsp_talk.specs.declared.limits.TheConstants.{LONGEST_ROW}
 use Rattle.hsp_stream.specs.PlaceLines.{header_line, place_lines}
 use Rattle.hsp_stream.specs.PlacesRun.{AreAnswered}
-use Rattle.hsp_stream.specs.declared.handle_rows.HandleForm.{HandleForm}
-use Rattle.hsp_stream.specs.declared.handle_rows.HandleForm.TheVariants.{Handle, RegionAndHandle}
+use Rattle.hsp_log.specs.declared.form.HandleForm.{HandleForm}
+use Rattle.hsp_log.specs.declared.form.HandleForm.TheVariants.{Handle, RegionAndHandle}
 
 -- the header of a log of this form
 abbrev pub header_of : HandleForm → Shape

@@ -22,7 +22,7 @@ use hsp_csv::{Checked, Found, PlacedRecord};
 use hsp_inputs::{Fault, StreamFault};
 use hsp_log::{
     LogFault, LogForm, RowFault, check_row, count_fault, field_at_fault, handle_fault,
-    is_count_header, is_handle_header, log_form_of,
+    is_count_header, is_handle_header, log_form,
 };
 use hsp_tables::{Regions, TableCheck, TableFault, TableKind, is_table_header};
 use hsp_text::limits::MOST_LOG_ROWS;
@@ -72,7 +72,7 @@ fn log_headed_by(first: &ByteRecord) -> Option<Headed>
     ensures headed { IfSome result (IsHeadedBy Asked.Log (fields_of first.now)) }
     ensures unheaded { IfNone result (IsUnheaded Asked.Log (fields_of first.now)) }
 {
-    if let Some(form) = log_form_of(first) {
+    if let Some(form) = log_form(first) {
         return Some(Headed::Dispatched(form));
     }
     if is_count_header(first) {

@@ -6,19 +6,10 @@ ghost use Rattle.hsp_csv.specs.Row.{row_shown};
 ghost use Rattle.hsp_stream.specs.Places.{GivesOrRefuses, form_of, handle_field, handle_in_row, header_in};
 
 use hsp_csv::{RowFields, RowReader, without_mark};
-use hsp_log::RowFault;
+use hsp_log::{HandleForm, RowFault};
 use hsp_names::{HandleFault, HandleRef};
 use hsp_talk::{LONGEST_ROW, Refusal};
 use std::alloc::Global;
-
-/// What the rows of a log of handles have.
-#[derive(Clone, Copy)]
-pub enum HandleForm {
-    /// A handle.
-    Handle,
-    /// A region and a handle.
-    RegionAndHandle,
-}
 
 // The form of the rows of a log, by the fields of its header.
 fn form_of(fields: RowFields<'_>) -> Option<HandleForm>

@@ -4,11 +4,11 @@ ghost use Rattle.std.specs.Prelude.{◌≡◌, [], IfErr, None, OnOk, Some, is_s
 ghost use Rattle.hsp_talk.specs.Refusals.{IsRefusal};
 ghost use Rattle.hsp_stream.specs.Places.{RefusesHandle, TakesHandle, at_start};
 
-use crate::handle_rows::{HandleForm, read_handle, read_header};
+use crate::handle_rows::{read_handle, read_header};
 use crate::place_lines::push_sites;
 use hsp_csv::RowReader;
 use hsp_instance::Sites;
-use hsp_log::RowFault;
+use hsp_log::{HandleForm, RowFault};
 use hsp_talk::{Refusal, Responder};
 use std::alloc::Global;
 use std::marker::Model;

@@ -4,7 +4,7 @@ use Rattle.hsp_log.specs.Log.{header_of}
 use Rattle.hsp_log.specs.declared.form.Form.TheVariants.{Handles, Bodies}
 use Rattle.hsp_csv.proofs.SameFields.{same_fields_are}
 use Rattle.hsp_log.proofs.RowFields.{is_no_header}
-use Rattle.hsp_log.proofs.form.form_of.Goals as goal
+use Rattle.hsp_log.proofs.form.entry_form.Goals as goal
 
 pub returns-then-is_header-clause-header : goal.returns-then-is_header-clause-header
 returns-then-is_header-clause-header c =
