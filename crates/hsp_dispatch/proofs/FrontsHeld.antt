@@ -28,7 +28,6 @@ use Rattle.hsp_dispatch.specs.declared.answer.Given.{Given}
 use Rattle.hsp_dispatch.specs.declared.share.Cell.{Cell}
 use Rattle.hsp_log.proofs.FrontShares.{share_none}
 use Rattle.hsp_dispatch.proofs.Parts.{part_left, parts_of_row}
-use Rattle.hsp_dispatch.proofs.Resting.{rest_unknown}
 use Rattle.hsp_dispatch.proofs.Shares.{sites_within}
 use Rattle.hsp_dispatch.proofs.Standings.{few_cells, left_taken, left_whole, sums_at}
 use Rattle.hsp_dispatch.proofs.Taking.{IsTakenFrom, held_after, rest_after, taken_by}
