@@ -532,6 +532,3 @@ def demand(logs: tuple[str, ...], regions: str, into: str | None, kept: str | No
     lines += stale_lines(own_folder, seconds)
     for line in [*lines, *lacking]:
         say(line, err=output is None)
-
-
-__all__ = ["demand", "new", "sites"]

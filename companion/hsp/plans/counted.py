@@ -139,6 +139,3 @@ def times(number: int, factor: Fraction) -> int:
 def examples(rows: Iterable[Asked]) -> list[bytes]:
     """The handles of some rows, each once."""
     return list(dict.fromkeys(row.handle for row in rows))
-
-
-__all__ = ["Asked", "Counted", "counted_in", "examples", "grown", "is_log", "rows_of", "times"]

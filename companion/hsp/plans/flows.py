@@ -118,6 +118,3 @@ def servers_of(service: Service) -> list[Server]:
     """The servers of a shortage by prices."""
     assert isinstance(service.certificate, Prices)
     return [service.servers[number] for number in service.certificate.servers]
-
-
-__all__ = ["Flows", "beside_of", "classes_of", "flows_of", "loads_of", "servers_of", "shares_of"]

@@ -57,6 +57,3 @@ def _log(programs: Programs, rows: Iterable[Asked]) -> str:
     path = programs.put(f"{HEADERS['demand']}\n", ".csv")
     programs.add(path, map(row_text, rows))
     return path
-
-
-__all__ = ["Kind", "Placed", "joined", "placed"]

@@ -320,25 +320,3 @@ def service_of(folder: str, programs: Programs, inputs: Inputs, titles: Titles) 
         {} if inputs.is_log else programs.places(inputs, dict.fromkeys(row.handle for row in rows)),
         counted_in(inputs.demand) if inputs.is_log else None,
     )
-
-
-__all__ = [
-    "Refused",
-    "Row",
-    "Server",
-    "Service",
-    "Site",
-    "Titles",
-    "dotted",
-    "OF_DAY",
-    "OF_WEEK",
-    "inputs_in",
-    "is_of_hour",
-    "newer_than",
-    "read_service",
-    "service_of",
-    "site_of",
-    "sites_of",
-    "table",
-    "titles_in",
-]

@@ -179,6 +179,3 @@ def purchase_lines(
     yield f"buy   {whole}, the least that suffices; then the cost is {cost:,}{_unit(service)}, {each}"
     yield from bought_lines(service, bought)
     yield from reserve_lines(service, bought, True)
-
-
-__all__ = ["Gain", "bought_lines", "head", "plan_lines", "reserve_lines", "shortage_lines"]

@@ -134,6 +134,3 @@ def moved_since(path: str, service: Service, programs: Judged) -> int | None:
     except (Missing, Unfit, OSError):
         return None
     return moved_between(service, held.homes, service.certificate)
-
-
-__all__ = ["Ahead", "ahead_of", "moved_fact", "moved_since"]

@@ -147,6 +147,3 @@ def price(service: Service, plans: Sequence[HourPlan], blocks: Sequence[Block]) 
     least = sum(plan.certificate.cost for plan in plans if plan.is_plan)
     whole = sum((block.cost(service) for block in blocks), Fraction(0))
     return (whole - least) / least if least else Fraction(0)
-
-
-__all__ = ["Block", "block_of", "fewest", "is_block", "price"]

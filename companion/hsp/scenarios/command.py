@@ -190,6 +190,3 @@ def survive(folder: str, **given: Any) -> None:
             say(f"kept  {some(number, 'fallback plan')} in {kept.folder}, {near}")
         say(yes_line(programs))
     sys.exit(SHORTAGE if any(it.cost is None for it in found) else 0)
-
-
-__all__ = ["grow", "survive"]

@@ -227,6 +227,3 @@ def _save(found: Day, folder: str, page: str, programs: Judged) -> list[str]:
         replace_all({**contents, page: text.encode()}, folder)
         _forget(found, folder)
         return forget_of_hours(folder, contents, found.service.own_inputs.files())
-
-
-__all__ = ["day"]

@@ -145,6 +145,3 @@ def _blocks(day: Day) -> str:
         return f"block 1 plan serves {some(served, 'hour')} as it stands: {names}; {above}"
     serve = f"{number:,} plans serve {some(served, 'hour')}, each as it stands"
     return f"block {serve}: {names}; {above}; fewer blocks of hours in a row don't serve them"
-
-
-__all__ = ["Day", "lines", "planned_hours", "verdicts"]

@@ -198,6 +198,3 @@ def render_day(day: Day, folder: str, commands: Mapping[str, str], blocks: Seque
         },
     }
     return environment().get_template("day.html").render(**shown)
-
-
-__all__ = ["block_view", "command_of", "render_day"]

@@ -39,6 +39,3 @@ def csv_of(day: Day) -> str:
         row = [plan.hour.name, plan.hour.asked, is_served, *own, *dearest, moved, block_of.get(plan.hour.name, "")]
         writer.writerow(row)
     return out.getvalue()
-
-
-__all__ = ["csv_of"]

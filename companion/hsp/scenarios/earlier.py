@@ -65,6 +65,3 @@ def _remove(paths: Collection[str]) -> None:
     for path in paths:
         with contextlib.suppress(FileNotFoundError):
             os.unlink(path)
-
-
-__all__ = ["forget", "forget_of_hours"]

@@ -117,6 +117,3 @@ def csv_of(service: Service, all_found: Sequence[After], kept: Fallbacks | None 
         lost = found.forced if found.moved is not None else ""
         writer.writerow([loss.kind, loss.name, str(is_served).lower(), cost, change, found.lack, moved, lost, plan])
     return out.getvalue()
-
-
-__all__ = ["FOLDER", "Fallbacks", "TABLE", "csv_of"]

@@ -214,6 +214,3 @@ def grown(service: Service, programs: Judged, done: Callable[[], None] = lambda:
     if len(regions) > 1:
         tasks += [lambda region=region: own.growth(region) for region in regions]  # type: ignore[misc]
     return side_by_side(tasks, done)
-
-
-__all__ = ["STEP", "Growing", "Growth", "Purchase", "Short", "at_least", "grown", "percent_of"]

@@ -180,6 +180,3 @@ def all_planned(
         lambda hour=hour: planned(service, hour, programs) for hour in hours  # type: ignore[misc]
     ]
     return side_by_side(tasks, done)
-
-
-__all__ = ["Faulty", "Hour", "HourPlan", "all_planned", "label_of", "names_in", "of_hour", "planned", "read_hour"]

@@ -132,6 +132,3 @@ def in_force(words: str, now: Service, programs: Programs) -> InForce:
     certificate = _of_rows(old, text, path)
     _refuse_others(old, certificate, path, programs)
     return InForce(path, homes_of(old, certificate))
-
-
-__all__ = ["InForce", "PLAN", "files_beside", "in_force", "plan_named"]

@@ -114,6 +114,3 @@ def survived(
 def worst_first(found: After) -> tuple[int, int]:
     """The order of losses: the greatest lack first, then the dearest plan."""
     return (-found.lack, -found.cost if found.cost is not None else 0)
-
-
-__all__ = ["After", "HOST", "Loss", "SERVER", "SITE", "after", "losses_of", "survived", "without"]

@@ -97,6 +97,3 @@ def near_plan(words: str, service: Service, programs: Judged) -> Near:
         return Near(service, held, plain, plain, "the portions' plan isn't a cheapest one")
     own = replace(service, certificate=near.certificate, plan_file=near.plan_file)
     return Near(own, held, near.moved, plain, "", near.portions, near.portions_plan)
-
-
-__all__ = ["Near", "near_plan"]

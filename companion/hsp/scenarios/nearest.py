@@ -229,16 +229,3 @@ def moved_between(service: Service, homes: Homes, certificate: Certificate) -> i
     at_home = {(it.row, it.home): it.queries for it in portions_of(service, homes) if it.home is not None}
     kept = sum(min(queries, at_home.get((row, site), 0)) for row, site, queries in zip(*certificate.use_columns))
     return gone_of(service, homes) + sum(at_home.values()) - kept
-
-
-__all__ = [
-    "Homes",
-    "Nearest",
-    "Portions",
-    "TooMany",
-    "gone_of",
-    "homes_of",
-    "moved_between",
-    "portions_of",
-    "shared",
-]

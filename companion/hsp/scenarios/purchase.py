@@ -251,6 +251,3 @@ class Purchases:
             text = re.sub(r"(?m)^capacity \d+$", f"capacity {lack.capacity}", lack.text)
             self._programs.insist(joined(lost, self._programs), self._programs.put(text))
         return found
-
-
-__all__ = ["Lack", "Purchase", "Purchases"]

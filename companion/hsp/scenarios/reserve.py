@@ -58,6 +58,3 @@ def forgotten(service: Service, programs: Programs) -> str:
     if less.costs != service.inputs.costs:
         return f"{path} uses no site above a cost, and this plan does: hsp plan --within made it"
     return f"{path} keeps a part of each capacity back, and this plan doesn't: give --reserve, as hsp plan had it"
-
-
-__all__ = ["RESERVE", "forgotten", "reserved"]

@@ -110,6 +110,3 @@ def _lack(lack: Lack) -> str:
     rows = some(lack.rows, "row") if lack.rows else "rows"
     ask = f"{rows} ask for {lack.demand:,} of {lack.capacity:,}"
     return f"      without {lack.loss.name}: {ask}, so {lack.queries:,} lack; weight {lack.weight}"
-
-
-__all__ = ["lines", "purchase_lines", "worst"]
