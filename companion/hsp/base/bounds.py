@@ -27,6 +27,12 @@ def whole(path: str) -> bytes:
     return octets
 
 
+def octets_of(path: str) -> bytes:
+    """The octets of a file that hsp or hsplan has made, however many they are."""
+    with open(path, "rb") as file:
+        return file.read()
+
+
 def weight(queries: Iterable[Query]) -> int:
     """What queries take in memory."""
     return sum(BESIDE + len(handle) for _, handle in queries)

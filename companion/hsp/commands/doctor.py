@@ -39,8 +39,7 @@ class WordsBehind(click.Command):
 
 def shown_findings(found: Examined, summary: str) -> None:
     """Prints findings, and what is there where no fault is."""
-    for line in finding_lines(found.findings):
-        say(line)
+    say(*finding_lines(found.findings))
     if found.is_cut_short:
         note = cut_short(found.findings)
         say(": ".join(filter(None, [note.message, note.remedy])))

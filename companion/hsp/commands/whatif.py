@@ -73,7 +73,6 @@ def whatif(folder: str, step: float, as_csv: bool, chart: str | None, **given: A
     if as_csv:
         give(cases_csv(cases))
     else:
-        for line in case_lines(service, cases, step):
-            say(line)
+        say(*case_lines(service, cases, step))
     if chart:
         write(chart, drawn(service, cases, step))

@@ -2,11 +2,10 @@
 
 from __future__ import annotations
 
-import json
 from collections.abc import Iterable, Iterator
 
 from hsp.base.numbers import listed
-from hsp.base.text import bold, colored, dim, visible
+from hsp.base.text import bold, colored, dim, json_text, visible
 from hsp.doctor.findings import ERROR, WARNING, Finding
 
 WIDE = 96
@@ -96,4 +95,4 @@ def json_of(findings: Iterable[Finding]) -> str:
         }
         for finding in findings
     ]
-    return json.dumps(objects, indent=2, ensure_ascii=False) + "\n"
+    return json_text(objects)

@@ -60,8 +60,7 @@ def sound(
     programs.hold(read_in(folder, given))
     found = examined(folder, programs, given, title, cost)
     if not found.service:
-        for line in list(finding_lines(found.errors))[:-1]:
-            say(line, err=True)
+        say(*list(finding_lines(found.errors))[:-1], err=True)
         sys.exit(found.status)
     warnings = [warning for warning in found.warnings if warning.group != OLD_PLAN]
     if warnings:

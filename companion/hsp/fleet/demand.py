@@ -148,5 +148,4 @@ def demand(logs: tuple[str, ...], regions: str, into: str | None, keep: str | No
     if not output:
         give_demand(found)
     rows = [*rows_lines(output, found), *stale_lines(own_folder, 0)]
-    for line in [*summary(logs, reading, tally, not given["prefix"]), *rows, *lacking]:
-        say(line, err=output is None)
+    say(*summary(logs, reading, tally, not given["prefix"]), *rows, *lacking, err=output is None)

@@ -108,8 +108,7 @@ def change_sites(paths: tuple[str, ...], into: str, given: dict[str, Any]) -> No
         limit(changed, given["host"])
         notes = files.taken + [f"left out: {left}" for left in files.left]
         costs = f"plan  {planned(changed, False)} before, {planned(changed, True)} after"
-        for line in [*changed.lines, *moved_lines(changed), costs, *notes]:
-            say(line)
+        say(*changed.lines, *moved_lines(changed), costs, *notes)
         if given["no_save"]:
             say("nothing is written")
             return
@@ -164,16 +163,14 @@ def add_sites(paths: tuple[str, ...], into: str | None, names: tuple[str, ...], 
         for other in found:
             rows = "".join(f"# {site},{server},{room}\n" for site, server, room in capacity_rows(other, capacity))
             give(f"{block(other)}# its rows of capacity.csv:\n{rows}")
-        for line in notes:
-            say(line, err=True)
+        say(*notes, err=True)
         return
     with locked([into]):
         result = joined(into, found, capacity, programs)
         if result.added:
             replace_all(result.contents)
     notes += [f"left out: {known.file}: its record is in the settings already" for known in result.known]
-    for line in [line for added in result.added for line in lines_of(added)] + notes:
-        say(line)
+    say(*(line for added in result.added for line in lines_of(added)), *notes)
     if not result.added:
         say("nothing is added")
         return
@@ -530,5 +527,4 @@ def demand(logs: tuple[str, ...], regions: str, into: str | None, kept: str | No
     lines += [*clock_lines(reading.times), *summary(logs, reading, tally, not given["prefix"])]
     lines += hours_lines(found, folders, output, own) if found else rows_lines(output, own)
     lines += stale_lines(own_folder, seconds)
-    for line in [*lines, *lacking]:
-        say(line, err=output is None)
+    say(*lines, *lacking, err=output is None)

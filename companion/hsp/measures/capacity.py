@@ -249,5 +249,4 @@ def capacity(said: tuple[Said, ...], into: str, **given: Any) -> None:
         found = Found(bare, given["seconds"] or seconds_of(into), known)
         fill(found, said, given, ends, reading)
         last = bare.write("capacity", found.text(), {SECONDS: given["seconds"]} if given["seconds"] else {})
-    for line in [*found.lines(), *reading.lines(), last]:
-        say(line)
+    say(*found.lines(), *reading.lines(), last)

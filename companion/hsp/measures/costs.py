@@ -117,5 +117,4 @@ def costs(sources: tuple[Source, ...], into: str, regions: str | None, **given: 
         gather(own_sources, reading, ends, found)
         refuse_unfit(found, bare, reading)
         last = bare.write("costs", found.text(), {COST: UNIT})
-    for line in [*found.lines(), *reading.lines(), last]:
-        say(line)
+    say(*found.lines(), *reading.lines(), last)

@@ -5,6 +5,7 @@ from __future__ import annotations
 import os
 import shlex
 
+from hsp.base.bounds import octets_of
 from hsp.base.numbers import percent_exactly
 from hsp.base.paths import named, path_in
 from hsp.base.programs import Inputs
@@ -47,8 +48,7 @@ def kept_beside(service: Service, plan: str) -> tuple[Inputs, dict[str, bytes]]:
     for role in roles:
         path, beside = getattr(service.inputs, role), path_in(os.path.dirname(plan), KEPT[role])
         if path != getattr(service.own_inputs, role):
-            with open(path, "rb") as file:
-                contents[beside] = file.read()
+            contents[beside] = octets_of(path)
             chosen = chosen.but(**{role: beside})
     return chosen, contents
 

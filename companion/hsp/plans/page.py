@@ -321,7 +321,7 @@ def render(view: View) -> str:
         "service": view.service,
         "plan": plan,
         "reference": view.reference,
-        "unit": f" {view.service.titles.cost}" if view.service.titles.cost else "",
+        "unit": view.service.unit,
         "where": f"hsp where {shell_word(view.service.folder)}",
         "names": names,
         "bought_shown": BOUGHT_SHOWN,

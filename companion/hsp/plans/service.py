@@ -10,6 +10,7 @@ import ipaddress
 import os
 import re
 import tomllib
+from collections import Counter
 from collections.abc import Iterable
 from dataclasses import dataclass, field
 from fractions import Fraction
@@ -48,6 +49,11 @@ class Server:
     def label(self) -> str:
         return f"{self.site} {self.id}"
 
+    @property
+    def said(self) -> dict[str, Any]:
+        """It as JSON names it."""
+        return {"site": self.site, "server_id": self.id}
+
 
 @dataclass(frozen=True)
 class Site:
@@ -65,6 +71,14 @@ class Row:
     region: str
     handle: str
     count: int
+
+
+def asked_by(rows: Iterable[Row]) -> Counter[str]:
+    """How many queries each region asks in some rows."""
+    counts: Counter[str] = Counter()
+    for row in rows:
+        counts[row.region] += row.count
+    return counts
 
 
 @dataclass(frozen=True)
@@ -104,6 +118,11 @@ class Service:
     within: int | None = None
 
     @property
+    def unit(self) -> str:
+        """The unit of costs behind a blank, where there is one."""
+        return f" {self.titles.cost}" if self.titles.cost else ""
+
+    @property
     def own_inputs(self) -> Inputs:
         """The inputs as they were given, with what is kept back and with costs that are too high."""
         return self.given or self.inputs
@@ -118,8 +137,7 @@ class Service:
     @property
     def limits(self) -> list[str]:
         """What is kept back, and what a query may cost, in words."""
-        unit = f" {self.titles.cost}" if self.titles.cost else ""
-        within = [] if self.within is None else [f"no query costs more than {self.within:,}{unit}"]
+        within = [] if self.within is None else [f"no query costs more than {self.within:,}{self.unit}"]
         return [*([self.kept_back] if self.reserve else []), *within]
 
     @property
@@ -147,9 +165,14 @@ class Service:
         text = table_text("", ((row.region, row.handle, "") for row in self.rows))
         return text.split("\n")[1:-1]
 
+    @functools.cached_property
+    def by_region(self) -> dict[str, int]:
+        """How many queries there are of each region, in the order of their rows."""
+        return self.log.regions if self.log else asked_by(self.rows)
+
     @property
     def regions(self) -> list[str]:
-        return list(self.log.regions) if self.log else list(dict.fromkeys(row.region for row in self.rows))
+        return list(self.by_region)
 
     @property
     def handles(self) -> int:
@@ -159,7 +182,7 @@ class Service:
     @property
     def asked(self) -> int:
         """How many queries there are."""
-        return sum(self.log.regions.values()) if self.log else sum(row.count for row in self.rows)
+        return sum(self.by_region.values())
 
     def capacity(self, server: Server) -> int:
         return self.capacities[server.site, server.id]

@@ -18,9 +18,8 @@ from hsp.base.programs import Missing
 from hsp.base.unfit import Unfit
 from hsp.intake.addresses import Target
 from hsp.plans.service import Service, Site
-from hsp.proxy.kinds import LOTS, cost_lines, plan_lines, server_lines, shares_of, site_lines
+from hsp.proxy.kinds import LOTS, class_lines, cost_lines, plan_lines, price_lines, server_lines, shares_of, site_lines
 from hsp.proxy.networks import trusted_lines
-from hsp.proxy.pricing import class_lines, price_lines
 
 if TYPE_CHECKING:
     import jinja2

@@ -11,14 +11,13 @@ import math
 from collections.abc import Mapping
 from dataclasses import replace
 
-from hsp.base.grammar import GREATEST_CAPACITY, GREATEST_LIMIT, HEADERS
+from hsp.base.grammar import GREATEST_CAPACITY, GREATEST_LIMIT
 from hsp.base.numbers import some
 from hsp.base.programs import Inputs, Missing, Programs
-from hsp.base.settings import hosts_text, settings_text
 from hsp.intake.addresses import name_of
-from hsp.plans.plans import capacity_file
+from hsp.plans.plans import capacity_file, costs_file, settings_file
 from hsp.plans.service import Service
-from hsp.proxy.pricing import class_lines, price_lines
+from hsp.proxy.kinds import class_lines, price_lines
 from hsp.proxy.rest import Rest, has_place, with_nowhere
 
 # With less of a period left than this share of it, as much is taken to be left.
@@ -37,10 +36,9 @@ def _inputs(service: Service, left: float, room: Mapping[str, int], own: Program
     }
     given = service.settings.get("host", [])
     hosts = [{**host, "limit": _room(room[host["address"]], left, GREATEST_LIMIT)} for host in given]
-    costs = ((region, site, cost) for (region, site), cost in service.costs.items())
     return service.inputs.but(
-        settings=own.put(settings_text(service.settings) + hosts_text({"host": hosts}), ".toml"),
-        costs=own.put_table(HEADERS["costs"], costs),
+        settings=settings_file(own, service.settings, *hosts),
+        costs=costs_file(own, service.costs),
         capacity=capacity_file(own, rooms),
     )
 

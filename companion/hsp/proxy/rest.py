@@ -12,11 +12,11 @@ from collections.abc import Collection, Iterable, Mapping
 from dataclasses import dataclass, replace
 
 from hsp.base.grammar import GREATEST_CAPACITY, GREATEST_COUNT, HEADERS, MOST_SERVERS, MOST_SITES
+from hsp.base.bounds import octets_of
 from hsp.base.programs import Certificate, Inputs, Missing, Programs
-from hsp.base.settings import hosts_text, settings_text
 from hsp.intake.addresses import name_of
 from hsp.intake.records import ServerRecord, SiteRecord
-from hsp.plans.plans import capacity_file, servers_at
+from hsp.plans.plans import capacity_file, costs_file, servers_at, settings_file
 from hsp.plans.service import Row, Server, Service
 from hsp.proxy.config import PLAN, PRICES
 from hsp.proxy.kinds import key_of, plan_lines, shares_by, shares_of
@@ -85,11 +85,10 @@ def _inputs(service: Service, rows: Iterable[Row], room: Mapping[str, int], part
     """The files of the rest. None of the folder's is read again, since it may be edited meanwhile."""
     capacities = {(server.site, server.id): parts.room(room[name_of(server)]) for server in service.servers}
     hosts = [{**host, "limit": parts.room(room[host["address"]])} for host in service.settings.get("host", [])]
-    costs = ((region, site, cost) for (region, site), cost in service.costs.items())
     return Inputs(
-        own.put(settings_text(service.settings) + hosts_text({"host": hosts}), ".toml"),
+        settings_file(own, service.settings, *hosts),
         _demand(rows, own),
-        own.put_table(HEADERS["costs"], costs),
+        costs_file(own, service.costs),
         capacity_file(own, capacities),
         service.inputs.values,
     )
@@ -110,23 +109,20 @@ def room_of(service: Service, taken: Mapping[str, int], down: Collection[str]) -
 def _nowhere() -> str:
     """A site of one server, as the settings have it."""
     record = SiteRecord(1, (2, 11), 1, 0, 2, b"", (), (ServerRecord(1, bytes(15) + b"\1", b"", ()),))
-    return settings_text({"site": [{"name": NOWHERE, "record": record.octets().hex()}]})
+    return f'[[site]]\nname = "{NOWHERE}"\nrecord = "{record.octets().hex()}"\n'
 
 
 def with_nowhere(service: Service, inputs: Inputs, own: Programs, room: int) -> Inputs:
     """The inputs with a site that is nowhere, at which there is so much room. Where that has to be found out, a query
     costs 1 there and nothing elsewhere."""
     is_sought = not room
-    with open(inputs.settings, encoding="utf-8") as file:
-        settings = file.read()
-    with open(inputs.capacity, encoding="utf-8") as file:
-        capacity = file.read()
-    costs = [(region, site, 0 if is_sought else cost) for (region, site), cost in service.costs.items()]
-    costs += [(region, NOWHERE, int(is_sought)) for region in service.regions]
+    costs = {pair: 0 if is_sought else cost for pair, cost in service.costs.items()}
+    costs |= {(region, NOWHERE): int(is_sought) for region in service.regions}
+    more = f"{NOWHERE},1,{room or GREATEST_CAPACITY}\n"
     return inputs.but(
-        settings=own.put(settings + _nowhere(), ".toml"),
-        costs=own.put_table(HEADERS["costs"], costs),
-        capacity=own.put(f"{capacity}{NOWHERE},1,{room or GREATEST_CAPACITY}\n", ".csv"),
+        settings=own.put(octets_of(inputs.settings) + _nowhere().encode(), ".toml"),
+        costs=costs_file(own, costs),
+        capacity=own.put(octets_of(inputs.capacity) + more.encode(), ".csv"),
     )
 
 

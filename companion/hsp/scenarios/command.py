@@ -98,8 +98,7 @@ def grow(folder: str, percents: tuple[int, ...], unit: str | None, as_json: bool
         give(grow_lines.json_of(service, growths, purchases))
         return
     say(head(service))
-    for line in grow_lines.lines(service, growths, purchases):
-        say(line)
+    say(*grow_lines.lines(service, growths, purchases))
     say(yes_line(programs))
 
 
@@ -184,8 +183,7 @@ def survive(folder: str, **given: Any) -> None:
         give(csv_of(service, found, None if own["no_save"] else kept))
     else:
         say(head(service))
-        for line in [*survive_lines.lines(service, found, own["every"]), *bought]:
-            say(line)
+        say(*survive_lines.lines(service, found, own["every"]), *bought)
         if not own["no_save"]:
             say(f"kept  {some(number, 'fallback plan')} in {kept.folder}, {near}")
         say(yes_line(programs))

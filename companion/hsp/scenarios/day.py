@@ -11,6 +11,7 @@ from typing import Any
 
 import click
 
+from hsp.base.bounds import octets_of
 from hsp.base.ends import SHORTAGE
 from hsp.base.files import forget, locked, refuse_clashes, refuse_no_folder, replace_all
 from hsp.base.numbers import listed, some
@@ -26,7 +27,6 @@ from hsp.scenarios import day_lines
 from hsp.scenarios.blocks import Block, fewest, is_block, price
 from hsp.scenarios.day_lines import Day
 from hsp.scenarios.day_page import block_view, command_of, render_day
-from hsp.scenarios.day_table import csv_of
 from hsp.scenarios.earlier import forget_of_hours
 from hsp.scenarios.hours import Faulty, Hour, HourPlan, all_planned, names_in, of_hour, read_hour
 from hsp.scenarios.in_force import PLAN
@@ -81,21 +81,16 @@ def _chained(
     return found
 
 
-def _octets(path: str) -> bytes:
-    with open(path, "rb") as file:
-        return file.read()
-
-
 def _kept(day: Day, folder: str) -> dict[str, bytes]:
     """What is kept: the plan of each hour, the demand and the plan of each block, and the inputs less a reserve."""
     _, contents = kept_beside(day.service, path_in(folder, PLAN))
     for plan in day.plans:
         if plan.is_plan:
-            contents[path_in(plan.hour.folder, PLAN)] = _octets(plan.plan_file)
+            contents[path_in(plan.hour.folder, PLAN)] = octets_of(plan.plan_file)
     for block in day.blocks:
         own = path_in(folder, os.path.join(BLOCKS, block.name))
-        contents[path_in(own, NAMES["demand"])] = _octets(block.inputs.demand)
-        contents[path_in(own, PLAN)] = _octets(block.plan_file)
+        contents[path_in(own, NAMES["demand"])] = octets_of(block.inputs.demand)
+        contents[path_in(own, PLAN)] = octets_of(block.plan_file)
     return contents
 
 
@@ -179,11 +174,10 @@ def day(folder: str, **given: Any) -> None:
     programs.insist_held()
     old = [] if given["no_save"] else _save(found, folder, page, programs)
     if given["as_csv"]:
-        give(csv_of(found))
+        give(day_lines.csv_of(found))
     else:
         say(f"{head(found.service).partition('  ')[0]}  {_sizes(found)}")
-        for line in day_lines.lines(found, given["every"]):
-            say(line)
+        say(*day_lines.lines(found, given["every"]))
         if given["is_near"] and service.log:
             say("near  no: the rows of a log have no portions; each hour has its plain plan")
         if not given["no_save"]:

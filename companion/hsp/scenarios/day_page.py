@@ -162,7 +162,6 @@ def render_day(day: Day, folder: str, commands: Mapping[str, str], blocks: Seque
     """The text of the page. The commands are those of hours, by their names."""
     service, worst = day.service, day.worst
     grid, note = _grid(day)
-    unit = f" {service.titles.cost}" if service.titles.cost else ""
     several = (
         "1 plan for a block of hours costs"
         if len(day.blocks) == 1
@@ -174,7 +173,7 @@ def render_day(day: Day, folder: str, commands: Mapping[str, str], blocks: Seque
         "span": "week" if "-" in day.plans[0].hour.name else "day",
         "time": now(),
         "names": [site.name for site in service.sites],
-        "unit": unit,
+        "unit": service.unit,
         "plans": day.plans,
         "worst": worst,
         "busiest": day.busiest,
@@ -190,7 +189,7 @@ def render_day(day: Day, folder: str, commands: Mapping[str, str], blocks: Seque
         "sources": _sources(day, folder),
         "judged": judged,
         "data": {
-            "unit": unit,
+            "unit": service.unit,
             "sites": [site.name for site in service.sites],
             "servers": [[server.label, service.capacity(server)] for server in service.servers],
             "worst": list(day.plans).index(worst),

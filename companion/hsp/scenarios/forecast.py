@@ -210,6 +210,4 @@ def forecast(folder: str, logs: tuple[str, ...], regions: str, **given: Any) -> 
     if not service.sites:
         raise Missing(f"{service.inputs.settings}: no site, so nothing is planned")
     say(head(service))
-    for line in lines(weeks, tried(service, weeks, programs)):
-        say(line)
-    say(yes_line(programs))
+    say(*lines(weeks, tried(service, weeks, programs)), yes_line(programs))

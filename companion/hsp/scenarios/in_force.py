@@ -11,9 +11,8 @@ from hsp.base.bounds import whole
 from hsp.base.numbers import some
 from hsp.base.paths import path_in
 from hsp.base.programs import Certificate, Inputs, Missing, Programs, Refused
-from hsp.base.settings import hosts_text, settings_text
 from hsp.base.unfit import Unfit
-from hsp.plans.plans import capacity_file, servers_at
+from hsp.plans.plans import capacity_file, servers_at, settings_file
 from hsp.plans.service import NAMES, VALUES, Service, service_of
 from hsp.plans.titles import TITLES, insist_counted
 from hsp.scenarios.nearest import PRICED, Homes, homes_of
@@ -108,8 +107,7 @@ def _as_full(service: Service, certificate: Certificate, programs: Programs) -> 
         {**host, "limit": sum(loads[server.site, server.id] for server in servers_at(service, host))}
         for host in service.settings["host"]
     ]
-    text = settings_text(service.settings) + hosts_text({"host": hosts})
-    return inputs.but(settings=programs.put(text, ".toml"))
+    return inputs.but(settings=settings_file(programs, service.settings, *hosts))
 
 
 def _refuse_others(service: Service, certificate: Certificate, path: str, programs: Programs) -> None:

@@ -5,9 +5,8 @@ from __future__ import annotations
 from collections.abc import Callable, Mapping
 from dataclasses import dataclass, replace
 
-from hsp.base.grammar import HEADERS
 from hsp.plans.joined import joined
-from hsp.plans.plans import capacity_file
+from hsp.plans.plans import capacity_file, costs_file
 from hsp.plans.service import Server, Service, dotted
 from hsp.scenarios.judged import Judged, side_by_side
 from hsp.scenarios.nearest import Portions
@@ -64,8 +63,7 @@ def without(service: Service, loss: Loss, programs: Judged, more: Mapping[Server
     costs, inputs = service.costs, service.inputs
     if loss.kind == SITE:
         costs = {key: cost for key, cost in costs.items() if key[1] != loss.name}
-        rows = ((region, site, cost) for (region, site), cost in costs.items())
-        inputs = inputs.but(costs=programs.put_table(HEADERS["costs"], rows))
+        inputs = inputs.but(costs=costs_file(programs, costs))
     else:
         room.update({(server.site, server.id): 0 for server in loss.servers})
     if more or loss.kind != SITE:

@@ -47,8 +47,7 @@ def _line(service: Service, found: After, wide: int) -> str:
 
 def lines(service: Service, all_found: Sequence[After], every: bool) -> Iterator[str]:
     """The losses of each kind, the worst first."""
-    unit = f" {service.titles.cost}" if service.titles.cost else ""
-    now = service.certificate.cost
+    unit, now = service.unit, service.certificate.cost
     yield f"now   {bold(f'{now:,}{unit}')}, {average(now, service.asked)}{unit} a query"
     for kind, word in WORDS.items():
         own = [found for found in all_found if found.loss.kind == kind]
