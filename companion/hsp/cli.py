@@ -1,7 +1,5 @@
 """The commands of hsp, and what ends it."""
 
-from __future__ import annotations
-
 import contextlib
 import sys
 from collections.abc import Iterator

@@ -1,7 +1,5 @@
 """How much is held in memory: files that are read whole by their octets, and queries by theirs."""
 
-from __future__ import annotations
-
 import sys
 from collections.abc import Iterable, Iterator
 

@@ -3,8 +3,6 @@
 A file is written beside its place under a name of its own, and gets its name when it is whole.
 """
 
-from __future__ import annotations
-
 import contextlib
 import errno
 import fcntl

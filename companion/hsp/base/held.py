@@ -1,7 +1,5 @@
 """Files that a command reads more than once: that they stay the same meanwhile, or that they have changed."""
 
-from __future__ import annotations
-
 import os
 import stat
 from collections.abc import Iterable

@@ -1,7 +1,5 @@
 """Numbers and lists as people read them."""
 
-from __future__ import annotations
-
 from collections.abc import Iterable
 from fractions import Fraction
 

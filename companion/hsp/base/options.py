@@ -3,8 +3,6 @@
 A command refuses an empty path, and what does nothing, in one line, with status 2.
 """
 
-from __future__ import annotations
-
 import functools
 import re
 from collections.abc import Callable

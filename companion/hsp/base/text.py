@@ -1,7 +1,5 @@
 """Text as people see it. No sign of a file steers a terminal, ends a line, or turns the direction of what follows."""
 
-from __future__ import annotations
-
 import json
 import os
 import re

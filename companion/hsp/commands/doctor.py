@@ -1,7 +1,5 @@
 """The command `hsp doctor`."""
 
-from __future__ import annotations
-
 import os
 import sys
 

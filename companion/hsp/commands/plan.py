@@ -1,7 +1,5 @@
 """The command `hsp plan`."""
 
-from __future__ import annotations
-
 import os
 import sys
 from collections.abc import Mapping

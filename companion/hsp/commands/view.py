@@ -1,7 +1,5 @@
 """The command `hsp view`."""
 
-from __future__ import annotations
-
 import os
 import sys
 from contextlib import closing

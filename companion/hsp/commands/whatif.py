@@ -1,7 +1,5 @@
 """The command `hsp whatif`."""
 
-from __future__ import annotations
-
 from types import SimpleNamespace
 from typing import Any
 

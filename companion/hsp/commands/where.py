@@ -1,7 +1,5 @@
 """The command `hsp where`."""
 
-from __future__ import annotations
-
 import sys
 
 import click

@@ -1,7 +1,5 @@
 """What hsplan accepts and people seldom mean."""
 
-from __future__ import annotations
-
 import itertools
 import os
 import re

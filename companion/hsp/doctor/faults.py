@@ -1,7 +1,5 @@
 """All faults of a command and its files. Each is hsplan's: a mended copy of the files is asked again and again."""
 
-from __future__ import annotations
-
 import re
 import subprocess
 from collections.abc import Callable

@@ -1,7 +1,5 @@
 """Files that can't be read, each with the reason."""
 
-from __future__ import annotations
-
 import difflib
 import os
 import stat

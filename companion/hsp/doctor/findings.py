@@ -1,7 +1,5 @@
 """Findings: what is wrong or seldom meant, where it stands, why, and what to do."""
 
-from __future__ import annotations
-
 import functools
 import os
 import re

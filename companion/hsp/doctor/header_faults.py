@@ -1,7 +1,5 @@
 """Faults of a table as a whole: its first line, and how many rows it has."""
 
-from __future__ import annotations
-
 import gzip
 import re
 import zlib

@@ -1,7 +1,5 @@
 """How findings are printed: for people at a terminal or in a pipe, and as JSON for editors."""
 
-from __future__ import annotations
-
 from collections.abc import Iterable, Iterator
 
 from hsp.base.numbers import listed

@@ -1,7 +1,5 @@
 """Faults of site records and value lists. Which mend helps, hsplan says."""
 
-from __future__ import annotations
-
 import os
 import re
 from collections.abc import Iterable, Iterator

@@ -1,7 +1,5 @@
 """Tables with the place of each row and field in their file."""
 
-from __future__ import annotations
-
 import csv
 import functools
 import io

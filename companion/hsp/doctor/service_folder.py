@@ -1,7 +1,5 @@
 """The folder of a service, as the commands take it that ask the doctor first."""
 
-from __future__ import annotations
-
 import os
 import sys
 from collections.abc import Callable, Mapping

@@ -1,7 +1,5 @@
 """Faults of the settings: keys, sites and hosts."""
 
-from __future__ import annotations
-
 import functools
 import ipaddress
 import os

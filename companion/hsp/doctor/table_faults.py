@@ -1,7 +1,5 @@
 """Faulty rows of tables and logs, as `hsplan-stream faults` lists them: where, why, and what to do."""
 
-from __future__ import annotations
-
 import csv
 import itertools
 import re

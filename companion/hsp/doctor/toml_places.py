@@ -1,7 +1,5 @@
 """Where the blocks and the keys of settings stand."""
 
-from __future__ import annotations
-
 import re
 import tomllib
 from typing import Any, NamedTuple

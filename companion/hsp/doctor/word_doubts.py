@@ -1,7 +1,5 @@
 """What a command of hsplan accepts and people seldom mean: its handle, its inputs, and the rows of its log."""
 
-from __future__ import annotations
-
 import os
 from collections import defaultdict
 from collections.abc import Iterator

@@ -1,7 +1,5 @@
 """`hsp fleet demand`: a part for each log. Their tables are added up here, one after the other."""
 
-from __future__ import annotations
-
 import os
 import re
 from dataclasses import astuple, dataclass

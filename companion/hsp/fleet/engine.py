@@ -1,7 +1,5 @@
 """A cluster whose workers hold a run's files, and parts that are waited for."""
 
-from __future__ import annotations
-
 import contextlib
 import functools
 import importlib

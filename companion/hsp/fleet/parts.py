@@ -1,7 +1,5 @@
 """The parts of a run. A worker runs each in a Python of its own, with a request and a reply in JSON."""
 
-from __future__ import annotations
-
 import json
 import os
 import re

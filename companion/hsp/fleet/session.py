@@ -1,7 +1,5 @@
 """A run from its first worker to its last file, and the options that say where it runs."""
 
-from __future__ import annotations
-
 import contextlib
 import sys
 from collections.abc import Callable, Iterator

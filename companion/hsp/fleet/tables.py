@@ -1,7 +1,5 @@
 """What the parts of a count pass on: the pairs of a log with their counts, and what was passed over."""
 
-from __future__ import annotations
-
 import csv
 import io
 import itertools

@@ -1,7 +1,5 @@
 """The commands that bring a service in: `new`, `sites` and `demand`."""
 
-from __future__ import annotations
-
 import contextlib
 import os
 import re

@@ -1,7 +1,5 @@
 """The busiest hour of some logs. They are read once to find it, and once more to count its queries."""
 
-from __future__ import annotations
-
 import contextlib
 import os
 import stat

@@ -1,7 +1,5 @@
 """Sites that change or leave: the texts of a folder then, and what that does to handles, capacities and the plan."""
 
-from __future__ import annotations
-
 import csv
 import ipaddress
 import math

@@ -4,8 +4,6 @@ A log has lines that are alike: each has the same signs between its fields. Wher
 another form could be among them, there are no columns, and lines are looked at one by one.
 """
 
-from __future__ import annotations
-
 from collections.abc import Callable, Sequence
 from typing import NamedTuple
 

@@ -1,7 +1,5 @@
 """The forms of access logs: from a line to the client's address and the handle that it asks for."""
 
-from __future__ import annotations
-
 import csv
 import functools
 import json

@@ -1,7 +1,5 @@
 """The folders of hours: each has the demand of its hour."""
 
-from __future__ import annotations
-
 import contextlib
 import os
 from collections.abc import Iterator, Sequence

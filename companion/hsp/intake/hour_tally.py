@@ -3,8 +3,6 @@
 All of them have the same rows in the same order, with the count 0 where nothing came.
 """
 
-from __future__ import annotations
-
 import io
 from collections.abc import Callable, Iterable, Iterator, Mapping
 

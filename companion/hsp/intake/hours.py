@@ -3,8 +3,6 @@
 Logs are read once to find that, and once more to count. Hours are those of one clock: that of the first time.
 """
 
-from __future__ import annotations
-
 import datetime
 from collections import Counter
 from collections.abc import Iterable, Sequence

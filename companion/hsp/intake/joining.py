@@ -1,7 +1,5 @@
 """Sites that join a service: the blocks of its settings, and a row of capacity for each of their servers."""
 
-from __future__ import annotations
-
 import csv
 import io
 import json

@@ -1,7 +1,5 @@
 """The lines of a log, plain or packed, with their numbers: by themselves, or many in a block."""
 
-from __future__ import annotations
-
 import bz2
 import gzip
 import io

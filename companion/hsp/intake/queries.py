@@ -1,7 +1,5 @@
 """What the reading of logs needs: the form of each, and hsplan, which judges every handle."""
 
-from __future__ import annotations
-
 import itertools
 import re
 from collections.abc import Callable, Iterable

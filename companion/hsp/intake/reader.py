@@ -4,8 +4,6 @@ A line that gives no query is passed over and counted, with the reason. Lines of
 once.
 """
 
-from __future__ import annotations
-
 import contextlib
 import io
 import itertools

@@ -1,7 +1,5 @@
 """The record of a site (HS_SITE data) from its fields, in the order and the widths in which hsplan reads it."""
 
-from __future__ import annotations
-
 from dataclasses import dataclass
 
 OPTIONS = ("naming authority", "local name", "whole handle")

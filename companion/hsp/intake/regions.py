@@ -1,8 +1,6 @@
 """From a client's address to its region: by a table of networks, of which the longest prefix counts, or by a MaxMind
 database."""
 
-from __future__ import annotations
-
 import csv
 import importlib
 import io

@@ -3,8 +3,6 @@
 hsplan judges every record. A record that was made of JSON has to come back from it as it was.
 """
 
-from __future__ import annotations
-
 import binascii
 import itertools
 import json

@@ -1,7 +1,5 @@
 """Queries are counted by region and handle, and become a demand: a table, or a log where no table holds it."""
 
-from __future__ import annotations
-
 import csv
 import itertools
 import re

@@ -1,7 +1,5 @@
 """The command `hsp capacity`."""
 
-from __future__ import annotations
-
 import os
 import re
 from collections import defaultdict

@@ -1,7 +1,5 @@
 """The command `hsp costs`."""
 
-from __future__ import annotations
-
 from collections.abc import Sequence
 from typing import Any
 

@@ -1,8 +1,6 @@
 """Times in access logs: HAProxy's timers, Apache's %D, nginx's $request_time with $upstream_addr, and those of a
 handle server."""
 
-from __future__ import annotations
-
 import re
 from collections.abc import Callable
 

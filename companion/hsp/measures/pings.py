@@ -1,7 +1,5 @@
 """Times of pings: as fping prints them, as rrdtool fetches them from SmokePing, and in the results of RIPE Atlas."""
 
-from __future__ import annotations
-
 import re
 from collections.abc import Sequence
 from typing import Any

@@ -1,7 +1,5 @@
 """Sources of measured times: which region and site each is of, the form of each, and its times."""
 
-from __future__ import annotations
-
 import itertools
 import json
 import os

@@ -3,8 +3,6 @@
 A reader takes a line, or an object of JSON, and gives its times, or the reasons why it has none.
 """
 
-from __future__ import annotations
-
 import csv
 import math
 import re

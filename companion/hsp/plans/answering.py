@@ -1,7 +1,5 @@
 """How a log is answered by a plan that is kept, and what is kept beside a plan with a reserve or a bound of costs."""
 
-from __future__ import annotations
-
 import os
 import shlex
 

@@ -1,7 +1,5 @@
 """A demand that no table holds: a log with counts, of any number of rows. Its sums are taken in one pass."""
 
-from __future__ import annotations
-
 import csv
 import io
 import itertools

@@ -4,8 +4,6 @@ hsplan-stream says the servers of each handle, the prices and the classes. What 
 reports say of servers.
 """
 
-from __future__ import annotations
-
 from collections import Counter
 from collections.abc import Iterable
 from dataclasses import dataclass, field

@@ -4,8 +4,6 @@ What is planned of it has the cost and the loads of a plan of the log. A plan th
 itself, by hsplan-stream.
 """
 
-from __future__ import annotations
-
 from collections.abc import Iterable, Iterator
 
 from hsp.base.grammar import HEADERS

@@ -1,8 +1,6 @@
 """What a plan comes to: loads, shares, what room saves, and what would have to be bought. Each number is a plan's of
 hsplan, or a sum of its uses that is compared with its reports."""
 
-from __future__ import annotations
-
 import json
 import os
 from collections import Counter

@@ -1,7 +1,5 @@
 """How a service is proxied: the table `[proxy]` of hsp.toml."""
 
-from __future__ import annotations
-
 import ipaddress
 import re
 from dataclasses import dataclass, field, replace

@@ -1,7 +1,5 @@
 """A service: the files of a folder, and what hsplan says they hold."""
 
-from __future__ import annotations
-
 import csv
 import difflib
 import functools

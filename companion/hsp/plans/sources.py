@@ -1,7 +1,5 @@
 """What a page was made of: the time, and the name and the sum of each file."""
 
-from __future__ import annotations
-
 import datetime
 import hashlib
 import os

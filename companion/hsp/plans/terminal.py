@@ -1,7 +1,5 @@
 """What the terminal shows of a plan. Colour is only for a terminal; a pipe gets the same words without it."""
 
-from __future__ import annotations
-
 from collections import Counter
 from collections.abc import Iterator, Mapping
 

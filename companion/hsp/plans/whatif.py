@@ -1,7 +1,5 @@
 """The plan again with one thing changed, or several things together. Each line is a plan of hsplan."""
 
-from __future__ import annotations
-
 import re
 from collections.abc import Callable, Iterable, Iterator, Sequence
 from dataclasses import dataclass, replace

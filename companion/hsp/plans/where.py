@@ -1,7 +1,5 @@
 """Where the queries for one handle go by a plan: what hsplan or hsplan-stream answers, and what each server costs."""
 
-from __future__ import annotations
-
 from collections.abc import Iterator
 from dataclasses import dataclass, replace
 

@@ -1,7 +1,5 @@
 """The commands of `hsp export`: a plan as files of another program, which answers by it."""
 
-from __future__ import annotations
-
 import itertools
 import os
 from dataclasses import dataclass

@@ -8,8 +8,6 @@ prices of the server there and of its machine. Where it pays least at several se
 these gets.
 """
 
-from __future__ import annotations
-
 from collections import Counter
 from collections.abc import Iterable, Mapping
 from dataclasses import replace

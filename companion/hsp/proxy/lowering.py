@@ -6,8 +6,6 @@ row that was lowered is raised again as far as hsplan finds a plan. A row that c
 that fill their servers, and so are all rows of that set. Where no row can be raised, no plan serves more.
 """
 
-from __future__ import annotations
-
 from collections.abc import Callable, Iterable
 from dataclasses import replace
 

@@ -1,7 +1,5 @@
 """The region of each network, as a map that HAProxy looks through for the longest prefix."""
 
-from __future__ import annotations
-
 import ipaddress
 from collections.abc import Iterable, Iterator
 from dataclasses import dataclass

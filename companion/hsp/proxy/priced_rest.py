@@ -5,8 +5,6 @@ twice the room that servers and hosts still have. So the plan is that of the res
 time left.
 """
 
-from __future__ import annotations
-
 import math
 from collections.abc import Mapping
 from dataclasses import replace

@@ -1,7 +1,5 @@
 """The proxies of a service that are steered together. Each is a HAProxy with a folder and counts of its own."""
 
-from __future__ import annotations
-
 import os
 from collections.abc import Collection, Mapping, Sequence
 from dataclasses import dataclass

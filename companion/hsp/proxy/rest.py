@@ -4,8 +4,6 @@ One rule serves the start, a restart, a lost server and its return. The plan is 
 It counts in parts of a query, or in several queries, so that rounding makes no shortage.
 """
 
-from __future__ import annotations
-
 import math
 from collections import Counter
 from collections.abc import Collection, Iterable, Mapping

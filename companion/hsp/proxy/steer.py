@@ -1,7 +1,5 @@
 """`hsp steer`: keeps the plan by which HAProxy answers in step with what servers were given."""
 
-from __future__ import annotations
-
 import contextlib
 import fcntl
 import math

@@ -1,7 +1,5 @@
 """A plan kept in step: what each server was given is read, the rest is planned, and HAProxy's map is swapped."""
 
-from __future__ import annotations
-
 from collections.abc import Collection
 from contextlib import closing
 from dataclasses import replace

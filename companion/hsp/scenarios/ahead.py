@@ -1,7 +1,5 @@
 """What lies ahead of a plan: how far the demand can grow, the worst loss, and what was moved since the plan before."""
 
-from __future__ import annotations
-
 from collections.abc import Iterator, Sequence
 from dataclasses import dataclass
 

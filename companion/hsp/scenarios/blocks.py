@@ -4,8 +4,6 @@ The table of each row's greatest count in some hours has a plan: it serves each 
 is one too, so the longest blocks, one after the other, are the fewest.
 """
 
-from __future__ import annotations
-
 import itertools
 from collections.abc import Callable, Sequence
 from dataclasses import dataclass

@@ -1,7 +1,5 @@
 """The commands `hsp grow` and `hsp survive`."""
 
-from __future__ import annotations
-
 import os
 import sys
 import time

@@ -1,7 +1,5 @@
 """The command `hsp day`: a plan for each hour, and the fewest blocks of hours that one plan serves each."""
 
-from __future__ import annotations
-
 import contextlib
 import os
 import sys

@@ -1,7 +1,5 @@
 """What the terminal shows of a day, and the table of its hours."""
 
-from __future__ import annotations
-
 from collections import Counter
 from collections.abc import Collection, Iterator, Sequence
 from dataclasses import dataclass

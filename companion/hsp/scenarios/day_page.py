@@ -1,7 +1,5 @@
 """One page of a day: columns of hours, a grid of servers by hours, and the plan of the hour that is clicked."""
 
-from __future__ import annotations
-
 import os
 from collections.abc import Mapping, Sequence
 from dataclasses import dataclass

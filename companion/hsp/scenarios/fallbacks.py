@@ -1,7 +1,5 @@
 """The folder of fallback plans: for each loss that leaves a plan, this plan and the table that the loss changes."""
 
-from __future__ import annotations
-
 import contextlib
 import csv
 import io

@@ -1,7 +1,5 @@
 """The command `hsp forecast`: how well the last week in logs would have been planned by the weeks before it."""
 
-from __future__ import annotations
-
 import contextlib
 import functools
 from collections import Counter, defaultdict

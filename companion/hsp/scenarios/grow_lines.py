@@ -1,7 +1,5 @@
 """What the terminal shows of growth."""
 
-from __future__ import annotations
-
 from collections.abc import Iterator, Sequence
 
 from hsp.base.numbers import listed, queries_of, some

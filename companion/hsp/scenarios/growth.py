@@ -1,8 +1,6 @@
 """How far a demand can grow. A plan shows that a demand still fits; a short set of rows, that it doesn't from some
 factor on. Each short set says which factor to try next, so few plans are made."""
 
-from __future__ import annotations
-
 from collections import Counter
 from collections.abc import Callable, Sequence
 from dataclasses import dataclass, replace

@@ -1,7 +1,5 @@
 """The hours of a day or of a week, each with its own demand, and a plan of each."""
 
-from __future__ import annotations
-
 import csv
 import os
 from collections.abc import Callable, Sequence

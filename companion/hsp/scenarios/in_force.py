@@ -1,7 +1,5 @@
 """A plan in force: a certificate with the files for which it was made, which may be others than today's."""
 
-from __future__ import annotations
-
 import os
 import re
 from collections import Counter

@@ -1,7 +1,5 @@
 """Many plans, side by side, each of which the checker has judged."""
 
-from __future__ import annotations
-
 import contextlib
 import os
 import sys

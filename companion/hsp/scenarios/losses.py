@@ -1,7 +1,5 @@
 """What is lost, and what then remains: a plan near the one in force, or how much room lacks."""
 
-from __future__ import annotations
-
 from collections.abc import Callable, Mapping
 from dataclasses import dataclass, replace
 

@@ -1,7 +1,5 @@
 """A plan near the one in force, as `hsp plan --near` makes it: its lines, and the tables that show it."""
 
-from __future__ import annotations
-
 import os
 from dataclasses import dataclass, replace
 

@@ -5,8 +5,6 @@ new. Away from home a portion's query costs one more than many times the site's 
 is a cheapest plan of the rows and moves the fewest queries, and a certificate of each shows both.
 """
 
-from __future__ import annotations
-
 from collections import Counter
 from collections.abc import Iterable, Iterator, Mapping
 from dataclasses import dataclass

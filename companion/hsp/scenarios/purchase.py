@@ -5,8 +5,6 @@ more set. The weights of the sets show that no purchase is smaller: no server is
 together, so what each set lacks, times its weight, has to be bought.
 """
 
-from __future__ import annotations
-
 import importlib
 import itertools
 import math

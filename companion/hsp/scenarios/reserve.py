@@ -1,7 +1,5 @@
 """A part of each capacity and limit that is kept back."""
 
-from __future__ import annotations
-
 import os
 from dataclasses import replace
 from fractions import Fraction

@@ -1,7 +1,5 @@
 """What the terminal shows of losses, and of a purchase that serves all of them."""
 
-from __future__ import annotations
-
 from collections.abc import Iterator, Sequence
 
 from hsp.base.numbers import average, listed, part, queries_of, signed, some

@@ -1,7 +1,5 @@
 """A bound of what a query may cost: a plan within it, and the least bound that has a plan."""
 
-from __future__ import annotations
-
 import os
 from dataclasses import replace
 
