@@ -136,9 +136,7 @@ def _lock(descriptor: int, folder: str) -> None:
             return
         except BlockingIOError:
             if time.monotonic() > until:
-                raise Missing(
-                    f"{folder}: another run has it locked for {PATIENCE} seconds; try again later"
-                ) from None
+                raise Missing(f"{folder}: another run has it locked for {PATIENCE} seconds; try again later") from None
             time.sleep(0.02)
         except OSError:
             return

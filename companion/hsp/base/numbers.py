@@ -48,7 +48,6 @@ def some(number: int, word: str, many: str = "") -> str:
 
 
 def queries_of(number: int) -> str:
-    """A number of queries."""
     return some(number, "query", "queries")
 
 

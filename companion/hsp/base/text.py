@@ -21,9 +21,7 @@ def escaped(text: str) -> str:
     """The text with an escape in place of each sign that isn't seen, as `\\x1b`."""
     if text.isprintable():
         return text
-    signs = (
-        sign.encode("unicode_escape").decode() if unicodedata.category(sign) in UNSEEN else sign for sign in text
-    )
+    signs = (sign.encode("unicode_escape").decode() if unicodedata.category(sign) in UNSEEN else sign for sign in text)
     return "".join(signs)
 
 

@@ -19,17 +19,7 @@ from hsp.commands.shared import OUTPUT, ahead, progress
 from hsp.doctor.next_step import next_step
 from hsp.doctor.service_folder import read_in, sound, with_files
 from hsp.plans.answering import answer_lines, kept_beside
-from hsp.plans.plans import (
-    Planned,
-    Reference,
-    by_shares,
-    cheapest,
-    planned,
-    purchased,
-    shortage,
-    to_buy,
-    with_gains,
-)
+from hsp.plans.plans import Planned, Reference, by_shares, cheapest, planned, purchased, shortage, to_buy, with_gains
 from hsp.plans.service import Server, Service
 from hsp.plans.terminal import head, plan_lines, shortage_lines
 from hsp.scenarios.ahead import Ahead

@@ -52,9 +52,7 @@ def earlier(folder: str, programs: Programs, now: Service) -> tuple[Service, Ref
     numbers = {site.name: at for at, site in enumerate(now.sites)}
     names = [site.name for site in old.sites]
     shares = {
-        (region, numbers[names[at]]): queries
-        for (region, at), queries in found.shares.items()
-        if names[at] in numbers
+        (region, numbers[names[at]]): queries for (region, at), queries in found.shares.items() if names[at] in numbers
     }
     before = [loads.get((server.site, server.id), 0) for server in now.servers]
     words = f"in the plan of {name_of_earlier(old, now)}"
@@ -83,10 +81,7 @@ def view_of(service: Service, programs: Programs, before: str | None) -> View:
 @click.command()
 @with_files
 @click.option(
-    "--before",
-    metavar="DIR",
-    type=PathName(exists=True, file_okay=False),
-    help="the plan of another folder beside it",
+    "--before", metavar="DIR", type=PathName(exists=True, file_okay=False), help="the plan of another folder beside it"
 )
 @RESERVE
 @click.option("--more", is_flag=True, help="how far the demand can grow, and what each loss leaves")

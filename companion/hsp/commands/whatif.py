@@ -24,7 +24,9 @@ IDLE = {"--from", "--to", "--points", "--step"}
 
 @click.command()
 @with_files
-@click.option("--server", multiple=True, metavar="SITE:ID[=N]", help="the cost by the size of this server; or its size")
+@click.option(
+    "--server", multiple=True, metavar="SITE:ID[=N]", help="the cost by the size of this server; or its size"
+)
 @click.option("--lose", multiple=True, metavar="SITE", help="without this site")
 @click.option("--cost", multiple=True, metavar="REGION:SITE=N", help="another cost, or a first one")
 @click.option("--times", multiple=True, metavar="NAME=F", help="the demand of a region, or of a handle, times F")

@@ -90,7 +90,6 @@ def handle_words(handle: str) -> tuple[str, str]:
 
 
 def handles(read: Read) -> None:
-    """Handles that aren't bare."""
     for row in read.demand.rows:
         handle = row.fields[1]
         message, group = handle_words(handle)
@@ -179,9 +178,7 @@ def idle(read: Read) -> None:
         if region in asking or region in explained or not asking:
             continue
         meant = near(region, asking, 0.75)
-        remedy = (
-            f"write {meant}, if that is meant" if meant else "take its rows out, or leave them for a later demand"
-        )
+        remedy = f"write {meant}, if that is meant" if meant else "take its rows out, or leave them for a later demand"
         message = f"region {quoted(region)} has costs and asks for nothing"
         mark = f"did you mean {meant}?" if meant else ""
         words = Words(message, remedy, "its costs are never used", mark, "idle region", f"idle region {region}")
@@ -231,7 +228,6 @@ def hosts(read: Read) -> None:
 
 
 def zeros(read: Read) -> None:
-    """Counts and capacities of 0."""
     for row in read.demand.rows:
         if row.fields[2] == "0" and not is_of_hour(read.service.inputs.demand):
             message = f"{row.fields[0]} asks 0 times for {quoted(row.fields[1])}"

@@ -69,7 +69,6 @@ def first_of(*causes: tuple[object, str, str]) -> Words:
 
 
 def found(path: str, place: Place, words: Words, said: str = "", severity: str = ERROR) -> Finding:
-    """A finding at a place of a file."""
     return Finding(
         message=words.message,
         remedy=words.remedy,

@@ -77,7 +77,6 @@ def lines(findings: Iterable[Finding]) -> Iterator[str]:
 
 
 def json_of(findings: Iterable[Finding]) -> str:
-    """All findings, one object each."""
     objects = [
         {
             "severity": finding.severity,

@@ -197,7 +197,6 @@ def site_record(question: Question, said: Said) -> Explained:
 
 
 def bad_file(question: Question, said: Said, role: str) -> Explained:
-    """A file that is no record, or no value list."""
     draft = question.files[role]
     octets = draft.original.octets
     if role == "values" or any(option.startswith("--index") for option in question.options):

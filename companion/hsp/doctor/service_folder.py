@@ -34,9 +34,9 @@ class Folder(PathName):
         return super().convert(value, param, context)
 
 
-def with_files(command: Command) -> Command:
-    """Adds the folder, and the options for other files."""
-    for role in ("values", "capacity", "costs", "demand", "settings"):
+def with_files(command: Command, without: str = "") -> Command:
+    """Adds the folder, and the options for other files, of which one may be left out."""
+    for role in (role for role in ("values", "capacity", "costs", "demand", "settings") if role != without):
         words = "the value list that the settings refer to" if role == "values" else f"in place of DIR's {role}"
         command = click.option(f"--{role}", metavar="FILE", type=ANY_FILE, help=words)(command)
     return click.argument("folder", metavar="[DIR]", default=".", type=Folder())(command)

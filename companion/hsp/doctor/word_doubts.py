@@ -26,9 +26,7 @@ def of_handle(line: Line) -> Iterator[Finding]:
         if message:
             place = Place(1, word.column + 1, len(word.text), line.text)
             why = "other octets are hashed, so another server may be named"
-            yield found(
-                "", place, Words(message, f"write {bare(word.text)}", why, "", f"handle {group}"), "", WARNING
-            )
+            yield found("", place, Words(message, f"write {bare(word.text)}", why, "", f"handle {group}"), "", WARNING)
 
 
 def service_in(question: Question) -> Service | None:

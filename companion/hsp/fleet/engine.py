@@ -140,7 +140,6 @@ class Engine:
             self.local.close()
 
     def workers(self) -> dict[str, Any]:
-        """The workers by their addresses."""
         self._alive()
         try:
             found: dict[str, Any] = self._client.scheduler_info()["workers"]

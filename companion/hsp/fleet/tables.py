@@ -37,12 +37,10 @@ class Table:
 
     @property
     def text(self) -> str:
-        """The rows of a demand."""
         return (HEADER + b"".join(rows_of(self.counts.items()))).decode()
 
 
 def counts_in(text: str) -> dict[Query, int]:
-    """The counts of a table's text."""
     rows = itertools.islice(csv.reader(io.StringIO(text, newline="")), 1, None)
     return {(region.encode(), handle.encode()): int(count) for region, handle, count in rows}
 

@@ -25,8 +25,7 @@ from hsp.intake.changing import Changed, limit, moved_lines, planned, remove, up
 from hsp.intake.busiest import busiest_hour, refuse_pipes
 from hsp.intake.forms import NAMES as FORMS
 from hsp.intake.forms import Form, within
-from hsp.intake.hour_folders import folders_of, in_folders, tables_in, write_hours
-from hsp.intake.hour_tally import HourTally
+from hsp.intake.hour_tally import HourTally, folders_of, in_folders, tables_in, write_hours
 from hsp.intake.hours import CYCLES, Chosen, Cycle, asked_by_hour, chosen_of
 from hsp.intake.joining import block, capacity_rows, joined, lines_of, read_back
 from hsp.intake.lasting import clock_lines, lasting, twice_lines
@@ -42,7 +41,6 @@ from hsp.plans.titles import SECONDS, TITLES, noted_time, seconds_of, uncounted
 from hsp.plans.service import NAMES, VALUES
 
 FOLDER = PathName(exists=True, file_okay=False)
-FILE = PathName(exists=True, dir_okay=False)
 Command = TypeVar("Command", bound=Callable[..., Any])
 
 
@@ -179,7 +177,6 @@ def add_sites(paths: tuple[str, ...], into: str | None, names: tuple[str, ...], 
 
 
 def form_of(given: dict[str, Any]) -> Form:
-    """The form of the logs by the options."""
     if given["format"] in ("server", "proxy", "httplog"):
         refuse_fields(given["format"])
     refuse_time(given["by"])
@@ -224,7 +221,6 @@ class Moment(click.ParamType):
 
 
 def span_of(given: dict[str, Any]) -> Span:
-    """The span of time by the options."""
     first, last = given["first"], given["last"]
     span = Span(FIRST if first is None else first, LAST if last is None else last)
     if span.first >= span.last:
@@ -340,7 +336,6 @@ def stale_lines(folder: str | None, seconds: int) -> list[str]:
 
 
 def give_demand(own: Demand) -> None:
-    """Prints a demand."""
     for piece in own.pieces():
         give(piece)
 
@@ -373,7 +368,14 @@ def by_of(_: click.Context, __: click.Parameter, words: tuple[str, ...]) -> By:
 
 
 BY_FIELD = "continent.code"
-JOBS = "processes side by side; by default one a processor"
+# Options of several commands that count logs.
+REGIONS = click.option(
+    "--regions", metavar="FILE", type=ANY_FILE, required=True, help="a table network,region, or a MaxMind database"
+)
+INTO = click.option("--into", metavar="DIR", type=FOLDER, help="the folder whose demand.csv is written")
+OUTPUT = click.option("-o", "--output", metavar="FILE", type=ANY_FILE, help="the demand, in place of DIR/demand.csv")
+ONE_A_PROCESSOR = "processes side by side; by default one a processor"
+JOBS = click.option("--jobs", type=click.IntRange(1, MOST_JOBS), metavar="N", help=ONE_A_PROCESSOR)
 OF_DATABASE = click.option("--by", metavar="FIELD", default=BY_FIELD, show_default=True, help="of a MaxMind database")
 BY_HOURS = click.option(
     "--by",
@@ -467,20 +469,13 @@ def refuse_cycle(cycle: Cycle | None, kept: str | None, given: dict[str, Any]) -
 
 @click.command()
 @click.argument(
-    "logs",
-    metavar="LOG..",
-    nargs=-1,
-    required=True,
-    type=PathName(dir_okay=False, allow_dash=True),
-    callback=once,
+    "logs", metavar="LOG..", nargs=-1, required=True, type=PathName(dir_okay=False, allow_dash=True), callback=once
 )
-@click.option(
-    "--regions", metavar="FILE", type=ANY_FILE, required=True, help="a table network,region, or a MaxMind database"
-)
-@click.option("--into", metavar="DIR", type=FOLDER, help="the folder whose demand.csv is written")
-@click.option("-o", "--output", metavar="FILE", type=ANY_FILE, help="the demand, in place of DIR/demand.csv")
+@REGIONS
+@INTO
+@OUTPUT
 @click.option("--log", "kept", metavar="FILE", type=ANY_FILE, help="also the queries, as a log for hsplan dispatch")
-@click.option("--jobs", type=click.IntRange(1, MOST_JOBS), metavar="N", help=JOBS)
+@JOBS
 @click.option(
     "--percentile", metavar="P", type=PERCENTILE, help="of --by: what so many % of the days or weeks stay below"
 )

@@ -72,7 +72,6 @@ class Changed:
             return sites_of(self.programs, inputs, tomllib.loads(file.read().decode("utf-8-sig")))
 
     def blocks(self, kind: str) -> list[dict[str, Any]]:
-        """The blocks of a kind in the settings."""
         found: list[dict[str, Any]] = tomllib.loads(self.text("settings")).get(kind, [])
         return found
 

@@ -69,7 +69,6 @@ def of_proxy(text: bytes, number: int, is_timed: bool) -> Columns | None:
 
 
 def of_server(text: bytes, number: int, is_timed: bool) -> Columns | None:
-    """Of a handle server's own log."""
     fields = _Fields(text, number, b" ")
     if not fields.are_alike or fields.width != SERVER_WIDTH:
         return None
@@ -85,15 +84,6 @@ def of_server(text: bytes, number: int, is_timed: bool) -> Columns | None:
     return Columns(fields.column(0), asked, times)
 
 
-def _of_head(octets: bytes) -> Time | None:
-    """The time in what a proxy writes between the address and the request."""
-    return time_of(octets.partition(b"[")[2].partition(b"]")[0])
-
-
-def _of_quoted(octets: bytes) -> Time | None:
-    return time_of(octets[1:-1])
-
-
 class Usual(NamedTuple):
     """A usual form: the sign between its fields, the columns of so many lines, and how a time is read of them."""
 
@@ -102,4 +92,7 @@ class Usual(NamedTuple):
     time: Callable[[bytes], Time | None]
 
 
-USUAL = {"proxy": Usual(b'"', of_proxy, _of_head), "server": Usual(b" ", of_server, _of_quoted)}
+USUAL = {
+    "proxy": Usual(b'"', of_proxy, lambda octets: time_of(octets.partition(b"[")[2].partition(b"]")[0])),
+    "server": Usual(b" ", of_server, lambda octets: time_of(octets[1:-1])),
+}

@@ -93,11 +93,7 @@ class Chosen:
             names = listed(map(shown_zone, others))
             zone += f", the zone of the first time; {of_these} times of {names}, moved to it"
         hour = self.hours[self.busiest]
-        return [
-            zone,
-            self._days_line(),
-            busiest_line(hour * HOUR - self.zone, self.zone, self.queries[hour], all_of),
-        ]
+        return [zone, self._days_line(), busiest_line(hour * HOUR - self.zone, self.zone, self.queries[hour], all_of)]
 
     def _days_line(self) -> str:
         first, last = (_date(day) for day in (self.days[0], self.days[-1]))

@@ -104,9 +104,7 @@ def joined(folder: str, sites: list[Found], capacity: int, programs: Programs) -
             result.added.append(site)
     taken = _servers_in(capacities, texts[capacities])
     rows = [row for site in result.added for row in capacity_rows(site, capacity)]
-    fresh = table_text(
-        CAPACITY_HEAD, (fields for fields in rows if (fields[0], str(fields[1])) not in taken)
-    ).encode()
+    fresh = table_text(CAPACITY_HEAD, (fields for fields in rows if (fields[0], str(fields[1])) not in taken)).encode()
     texts[capacities] += fresh.partition(b"\n")[2] if texts[capacities] else fresh
     gap = b"\n" if texts[settings] else b""
     texts[settings] += gap + "\n".join(block(site) for site in result.added).encode() if result.added else b""
@@ -132,9 +130,7 @@ def refusal(own: Found, fault: Refused) -> str:
     return f"{own.file}: {says}{remedy}"
 
 
-def read_back(
-    settings: bytes, before: int, added: list[Found], programs: Programs, values: str | None = None
-) -> None:
+def read_back(settings: bytes, before: int, added: list[Found], programs: Programs, values: str | None = None) -> None:
     """Compares the sites that were added behind others with what hsplan reads from the settings."""
     inputs = Inputs(programs.put(settings, ".toml"), "", "", "", values)
     try:

@@ -143,7 +143,6 @@ def clock_of(path: str, form: Form, line: bytes) -> Clock:
 
 
 def first_time(path: str, reading: Reading) -> Time | None:
-    """The first time in a log."""
     lines = numbered(path, Skipped())
     first = list(itertools.islice(lines, SEEN_FIRST))
     if not first:

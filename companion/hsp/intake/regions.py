@@ -80,8 +80,6 @@ def ranges(networks: Iterable[Network], bits: int) -> tuple[list[int], list[byte
 
 
 class Networks:
-    """A table of networks."""
-
     def __init__(self, path: str, octets: bytes, elsewhere: bytes | None) -> None:
         self.elsewhere = elsewhere
         # The regions, each with the line of its first network.

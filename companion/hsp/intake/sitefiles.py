@@ -55,7 +55,6 @@ class Files:
         self._names: set[str] = set()
 
     def read(self, path: str, octets: bytes) -> list[Found]:
-        """The sites in the octets of a file."""
         notes = Notes(path)
         try:
             found = list(self._sites(notes, octets))

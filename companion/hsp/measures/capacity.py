@@ -221,9 +221,7 @@ def is_number(said: Said) -> bool:
 @click.option(
     "--below", type=click.FloatRange(0, min_open=True), metavar="MS", help="of load tests: an acceptable time"
 )
-@click.option(
-    "--share", metavar="P", type=PERCENTILE, default="99", show_default=True, help="so many % stay below it"
-)
+@click.option("--share", metavar="P", type=PERCENTILE, default="99", show_default=True, help="so many % stay below it")
 @SITE
 @click.option("--regex", metavar="PATTERN", help="of other lines: (?P<server>..), (?P<seconds>..), (?P<time>..)")
 @DURATION

@@ -56,11 +56,7 @@ def _of_server(line: bytes, unit: str) -> Behind:
     return time if isinstance(time, str) else ("", time, 200)
 
 
-BEHIND: dict[str, Callable[[bytes, str], Behind]] = {
-    "proxy": _of_proxy,
-    "httplog": _of_httplog,
-    "server": _of_server,
-}
+BEHIND: dict[str, Callable[[bytes, str], Behind]] = {"proxy": _of_proxy, "httplog": _of_httplog, "server": _of_server}
 
 
 def of_log(name: str, unit: str) -> Take:

@@ -98,7 +98,6 @@ def rows_of(path: str) -> Iterator[list[Asked]]:
 
 
 def counted_in(path: str) -> Counted:
-    """The sums of a log."""
     number, sums = 0, Counter[bytes]()
     for rows in rows_of(path):
         number += len(rows)
@@ -108,7 +107,6 @@ def counted_in(path: str) -> Counted:
 
 
 def row_text(row: Asked) -> bytes:
-    """A row as a log has it."""
     return b"%b,%b,%d\n" % row
 
 

@@ -113,6 +113,5 @@ def loads_of(service: Service, classes: Iterable[Class]) -> list[int]:
 
 
 def servers_of(service: Service) -> list[Server]:
-    """The servers of a shortage by prices."""
     assert isinstance(service.certificate, Prices)
     return [service.servers[number] for number in service.certificate.servers]

@@ -36,8 +36,6 @@ BOUGHT_SHOWN = 6
 
 @dataclass
 class ServerView:
-    """A server of the page."""
-
     site: int
     id: int
     label: str
@@ -105,8 +103,6 @@ class FactTable:
 
 @dataclass
 class View:
-    """All that the page shows."""
-
     service: Service
     plan: Planned | None
     reference: Reference | None
@@ -232,30 +228,21 @@ def changes_between(old: Service, new: Service) -> list[str]:
     said = _changed("capacity of {} {}", _texts(old.capacities), _texts(new.capacities))
     said += _changed("cost {} to {}", _texts(old.costs), _texts(new.costs))
     if old.log or new.log:
-        is_other = _octets_of(old) != _octets_of(new) and _asked_in(old) != _asked_in(new)
+        sums = [sum_of(service.inputs.demand) for service in (old, new)]  # a log is long
+        is_other = sums[0] != sums[1] and _asked_in(old) != _asked_in(new)
         said += [f"demand: {old.asked:,} → {new.asked:,} queries"] if is_other else []
         return said + _changed("limit of {}{}", _limits(old), _limits(new))
-    rows = [_counts(service) for service in (old, new)]
+    rows = [{(row.region, row.handle): row.count for row in service.rows} for service in (old, new)]
     other = sum(rows[0].get(key) != rows[1].get(key) for key in {*rows[0], *rows[1]})
     if other:
         said.append(f"demand: {some(other, 'row')}, {old.asked:,} → {new.asked:,} queries")
     return said + _changed("limit of {}{}", _limits(old), _limits(new))
 
 
-def _octets_of(service: Service) -> str:
-    """The sum of a demand's octets: a log is too long to be compared row by row."""
-    return sum_of(service.inputs.demand)
-
-
 def _asked_in(service: Service) -> int:
     """A sum of a demand that the order of its rows doesn't change, nor how they are split."""
     rows = (row for rows in rows_of_log(service.inputs.demand) for row in rows)
     return sum(hash((row.region, row.handle)) * row.queries for row in rows)
-
-
-def _counts(service: Service) -> dict[tuple[str, str], int]:
-    """How often each region asks for each handle."""
-    return {(row.region, row.handle): row.count for row in service.rows}
 
 
 def _texts(table: Mapping[tuple[str, str], int] | Mapping[tuple[str, int], int]) -> dict[tuple[str, str], int]:
@@ -314,7 +301,6 @@ def environment() -> jinja2.Environment:
 
 
 def render(view: View) -> str:
-    """The text of the page."""
     plan, names = view.plan, [site.name for site in view.service.sites]
     shown: dict[str, object] = {
         "view": view,
@@ -328,9 +314,7 @@ def render(view: View) -> str:
         "to_buy": to_buy(view.service, view.bought),
         "lacking": lacking(view.short) if view.short else [],
         "least": {
-            region: min(
-                (view.service.costs[region, names[at]] for at in view.service.sites_for(region)), default=None
-            )
+            region: min((view.service.costs[region, names[at]] for at in view.service.sites_for(region)), default=None)
             for region in view.service.regions
         },
     }
@@ -349,7 +333,6 @@ def left_alone(view: View, plan: Planned) -> str:
 
 
 def plan_shown(view: View, plan: Planned) -> dict[str, object]:
-    """What the page shows of a plan."""
     servers, regions, rows = servers_of(view, plan), regions_of(view, plan), rows_of(plan)
     top = max([1, *(max(server.capacity, server.load) for server in servers)])
     widest = min(max([top, *(server.before for server in servers)]), int(top * 1.3))

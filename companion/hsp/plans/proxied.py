@@ -100,7 +100,6 @@ def is_address(text: str) -> bool:
 
 
 def _place(text: str) -> tuple[str, int]:
-    """The host and the port of an address to listen at."""
     match = ADDRESS.fullmatch(text)
     assert match
     host = (match[1] or "*").strip("[]").lower()

@@ -72,7 +72,6 @@ class Row:
 
 
 def asked_by(rows: Iterable[Row]) -> Counter[str]:
-    """How many queries each region asks in some rows."""
     counts: Counter[str] = Counter()
     for row in rows:
         counts[row.region] += row.count
@@ -127,7 +126,6 @@ class Service:
 
     @property
     def kept_back(self) -> str:
-        """What is kept back, in words."""
         is_small = Fraction(1, 10_000) <= self.reserve < Fraction(1, 100)  # 0.15 is seldom meant as 0.15%
         beside = f" (not {percent_exactly(100 * self.reserve)})" if is_small else ""
         return f"{percent_exactly(self.reserve)}{beside} of each capacity kept back" if self.reserve else ""
@@ -145,7 +143,6 @@ class Service:
 
     @property
     def is_empty(self) -> bool:
-        """Whether the demand has no row."""
         return not self.rows and not self.log
 
     @property
@@ -174,12 +171,10 @@ class Service:
 
     @property
     def handles(self) -> int:
-        """How many handles there are."""
         return len({row.handle for row in self.rows})
 
     @property
     def asked(self) -> int:
-        """How many queries there are."""
         return sum(self.by_region.values())
 
     def capacity(self, server: Server) -> int:
@@ -191,7 +186,6 @@ class Service:
         return at.servers[self.places[handle, at.name]]
 
     def sites_for(self, region: str) -> list[int]:
-        """The numbers of the sites that a region may use."""
         return [at for at, site in enumerate(self.sites) if (region, site.name) in self.costs]
 
     def kind(self, row: Row) -> tuple[tuple[str, int], ...]:

@@ -29,7 +29,6 @@ def now() -> str:
 
 
 def sum_of(path: str) -> str:
-    """The SHA-256 of a file."""
     with open(path, "rb") as file:
         return hashlib.file_digest(file, "sha256").hexdigest()
 

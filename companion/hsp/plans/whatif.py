@@ -151,7 +151,6 @@ def standard(changes: Changes, step: float) -> list[Case]:
 
 
 def server_named(service: Service, words: str) -> Server:
-    """The server of the words `site:identifier`."""
     for server in service.servers:
         if words == f"{server.site}:{server.id}":
             return server
@@ -172,9 +171,7 @@ def sizes(changes: Changes, server: Server, low: int, high: int, points: int) ->
     steps = max(1, points - 1)
     rooms = {round(low + (high - low) * at / steps) for at in range(points)}
     own = changes.service.capacity(server)
-    return [
-        changes.with_room(SIZE, server, room) for room in sorted(rooms | ({own} if low <= own <= high else set()))
-    ]
+    return [changes.with_room(SIZE, server, room) for room in sorted(rooms | ({own} if low <= own <= high else set()))]
 
 
 def greatest(cases: Iterable[Case]) -> int:
@@ -216,7 +213,6 @@ def lines(service: Service, cases: list[Case], step: float) -> Iterator[str]:
 
 
 def size_lines(service: Service, cases: list[Case]) -> Iterator[str]:
-    """The cost by the size of a server."""
     if not cases:
         return
     own = next(server for server in service.servers if server.label == cases[0].what)

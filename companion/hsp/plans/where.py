@@ -131,8 +131,6 @@ def lines(service: Service, found: Where, region: str, handle: str) -> Iterator[
 
 def json_of(service: Service, found: Where, region: str, handle: str) -> dict[str, object]:
     """The same for other programs. What needs no reason has null."""
-    servers = [
-        {**it.server.said, "cost": it.cost, "price": it.price, "queries": it.queries} for it in found.choices
-    ]
+    servers = [{**it.server.said, "cost": it.cost, "price": it.price, "queries": it.queries} for it in found.choices]
     why = reason(service, found, region) or None
     return {"region": region, "handle": handle, "answer": found.answer, "why": why, "servers": servers}

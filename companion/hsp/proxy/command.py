@@ -68,7 +68,6 @@ class Words:
 
 
 def _networks(texts: tuple[str, ...]) -> tuple[str, ...]:
-    """The networks of trusted proxies."""
     found = [network_of(text) for text in texts]
     for text, network in zip(texts, found):
         if network is None:

@@ -88,9 +88,7 @@ def cost_lines(service: Service) -> list[str]:
 def server_lines(service: Service) -> list[str]:
     """The map from sites and places to servers."""
     return [
-        f"{site.name}/{place} {name_of(server)}"
-        for site in service.sites
-        for place, server in enumerate(site.servers)
+        f"{site.name}/{place} {name_of(server)}" for site in service.sites for place, server in enumerate(site.servers)
     ]
 
 
@@ -114,4 +112,6 @@ def _shares_of_classes(servers: list[Server], classes: Iterable[Class]) -> dict[
 def class_lines(service: Service) -> list[str]:
     """The map from classes to servers: a region, and the servers at which its queries pay least."""
     certificate = service.certificate
-    return plan_lines(_shares_of_classes(service.servers, certificate.classes if isinstance(certificate, Prices) else []))
+    return plan_lines(
+        _shares_of_classes(service.servers, certificate.classes if isinstance(certificate, Prices) else [])
+    )

@@ -32,9 +32,6 @@ class Lowering:
         lacking = {at: wanted - self.rows[at].count for at, wanted in enumerate(self._wanted)}
         return {at: number for at, number in lacking.items() if number}
 
-    def _with(self, at: int, count: int) -> list[Row]:
-        return [replace(row, count=count) if at == own else row for own, row in enumerate(self.rows)]
-
     def _ask(self, rows: list[Row]) -> Certificate:
         self._left -= 1
         return self._planned(rows)
@@ -69,7 +66,7 @@ class Lowering:
         """The plan in which a row is as high as can be, or the rows that fill their servers with this one."""
         count = self._wanted[at]
         while self._left > 0:
-            rows = self._with(at, count)
+            rows = [replace(row, count=count) if at == own else row for own, row in enumerate(self.rows)]
             certificate = self._ask(rows)
             if certificate.is_plan:
                 self.rows = rows

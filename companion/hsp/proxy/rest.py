@@ -2,14 +2,19 @@
 
 One rule serves the start, a restart, a lost server and its return. The plan is hsplan's, and hsplan checks it.
 It counts in parts of a query, or in several queries, so that rounding makes no shortage.
+
+Of a demand that no table holds, the log stays as it is. In place of it the room grows: where half of the period is
+left, the log of a whole period has twice the room that servers and hosts still have. So the plan, by prices, is that
+of the rest, and its numbers are those of it by the time left.
 """
 
 import math
 from collections import Counter
-from collections.abc import Collection, Iterable, Mapping
+from collections.abc import Callable, Collection, Iterable, Mapping
 from dataclasses import dataclass, replace
 
-from hsp.base.grammar import GREATEST_CAPACITY, GREATEST_COUNT, HEADERS, MOST_SERVERS, MOST_SITES
+from hsp.base.grammar import GREATEST_CAPACITY, GREATEST_COUNT, GREATEST_LIMIT, HEADERS, MOST_SERVERS, MOST_SITES
+from hsp.base.numbers import some
 from hsp.base.bounds import octets_of
 from hsp.base.programs import Certificate, Inputs, Missing, Programs
 from hsp.intake.addresses import name_of
@@ -17,13 +22,17 @@ from hsp.intake.records import ServerRecord, SiteRecord
 from hsp.plans.plans import capacity_file, costs_file, servers_at, settings_file
 from hsp.plans.service import Row, Server, Service
 from hsp.proxy.config import PLAN, PRICES
-from hsp.proxy.kinds import key_of, plan_lines, shares_by, shares_of
+from hsp.proxy.kinds import class_lines, key_of, plan_lines, price_lines, shares_by, shares_of
 from hsp.proxy.lowering import Lowering
 
 # A site that is nowhere, for what is left out.
 NOWHERE = "hsp-nowhere"
 # How many queries of which row are left out.
 _Lacking = dict[int, int]
+# So much room for the rest as room for a whole period, and at most so much.
+InRest = Callable[[int, int], int]
+# With less of a period left than this share of it, as much is taken to be left.
+LEAST_LEFT = 1e-6
 
 
 @dataclass(frozen=True)
@@ -47,6 +56,11 @@ class Rest:
         return {PLAN: self.lines, **({} if self.prices is None else {PRICES: self.prices})}
 
 
+def _whole(room: float, most: int) -> int:
+    """Room as a whole number. A part of a query is as good as a whole one."""
+    return min(most, math.ceil(max(0, room)))
+
+
 @dataclass(frozen=True)
 class _Parts:
     """How many parts a query has."""
@@ -55,7 +69,7 @@ class _Parts:
 
     def room(self, queries: int) -> int:
         """Room for so many queries. A part of a part is as good as a whole one, which no query notices."""
-        return min(GREATEST_CAPACITY, math.ceil(max(0, queries) * self.of_query))
+        return _whole(queries * self.of_query, GREATEST_CAPACITY)
 
     def queries(self, parts: int) -> int:
         return round(parts / self.of_query)
@@ -79,17 +93,13 @@ def _demand(rows: Iterable[Row], own: Programs) -> str:
     return own.put_table(HEADERS["demand"], ((row.region, row.handle, row.count) for row in rows))
 
 
-def _inputs(service: Service, rows: Iterable[Row], room: Mapping[str, int], parts: _Parts, own: Programs) -> Inputs:
+def _inputs(service: Service, demand: str, room: Mapping[str, int], rest: InRest, own: Programs) -> Inputs:
     """The files of the rest. None of the folder's is read again, since it may be edited meanwhile."""
-    capacities = {(server.site, server.id): parts.room(room[name_of(server)]) for server in service.servers}
-    hosts = [{**host, "limit": parts.room(room[host["address"]])} for host in service.settings.get("host", [])]
-    return Inputs(
-        settings_file(own, service.settings, *hosts),
-        _demand(rows, own),
-        costs_file(own, service.costs),
-        capacity_file(own, capacities),
-        service.inputs.values,
-    )
+    rooms = {(it.site, it.id): rest(room[name_of(it)], GREATEST_CAPACITY) for it in service.servers}
+    given = service.settings.get("host", [])
+    hosts = [{**host, "limit": rest(room[host["address"]], GREATEST_LIMIT)} for host in given]
+    settings, costs = settings_file(own, service.settings, *hosts), costs_file(own, service.costs)
+    return service.inputs.but(settings=settings, demand=demand, costs=costs, capacity=capacity_file(own, rooms))
 
 
 def room_of(service: Service, taken: Mapping[str, int], down: Collection[str]) -> dict[str, int]:
@@ -172,7 +182,7 @@ def _loads(service: Service, shares: dict[str, Counter[Server]], parts: _Parts) 
 def rest_of(service: Service, kinds: list[Row], left: float, room: Mapping[str, int], own: Programs) -> Rest:
     """The plan of the rest of a period, of which this share is left, where servers and hosts have this room."""
     parts, rows = _in_parts(kinds, left)
-    inputs = _inputs(service, rows, room, parts, own)
+    inputs = _inputs(service, _demand(rows, own), room, lambda queries, _: parts.room(queries), own)
     certificate, _ = own.judged(inputs)
     left_out: _Lacking = {}
     if not certificate.is_plan:
@@ -187,4 +197,31 @@ def rest_of(service: Service, kinds: list[Row], left: float, room: Mapping[str, 
         parts.queries(sum(left_out.values())),
         parts.queries(certificate.cost),
         _loads(service, planned, parts),
+    )
+
+
+def priced_rest(service: Service, left: float, room: Mapping[str, int], own: Programs) -> Rest:
+    """The plan of the rest of a period, of which this share is left, where servers and hosts have this room."""
+    left = max(left, LEAST_LEFT)
+    inputs = _inputs(service, service.inputs.demand, room, lambda own, most: _whole(own / left, most), own)
+    least = 0
+    certificate, path = own.judged(inputs)
+    if not certificate.is_plan:
+        if not has_place(service):
+            sizes = f"{some(len(service.sites), 'site')} and {some(len(service.servers), 'server')}"
+            raise Missing(f"a shortage, and with {sizes} hsplan has no place for what is left out; the map stays")
+        least = own.judged(with_nowhere(service, inputs, own, 0))[0].cost
+        inputs = with_nowhere(service, inputs, own, least)
+        certificate, path = own.judged(inputs)
+    if not certificate.is_plan:
+        raise Missing("a shortage that is larger than hsplan's limits; the map stays")
+    loads = [load.load for load in own.loads(inputs, path)[0]]
+    planned = replace(service, certificate=certificate)
+    return Rest(
+        class_lines(planned),
+        round(service.asked * left),
+        round(least * left),
+        round(certificate.cost * left),
+        {name_of(server): round(loads[server.number] * left) for server in service.servers},
+        price_lines(planned),
     )

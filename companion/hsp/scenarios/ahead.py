@@ -81,7 +81,6 @@ def _share(service: Service, moved: int) -> str:
 
 
 def moved_fact(service: Service, moved: int) -> Fact:
-    """How many queries are moved, as a tile of a page."""
     return Fact("Moves", _share(service, moved), f"{queries_of(moved)} since the plan before")
 
 
@@ -114,7 +113,6 @@ def loss_table(service: Service, losses: Sequence[After]) -> FactTable:
 
 
 def ahead_of(service: Service, programs: Judged) -> Ahead:
-    """What lies ahead of a service's plan."""
     if not service.asked:
         return Ahead(service, [], [])
     growths = grown(service, programs)

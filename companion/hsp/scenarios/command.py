@@ -140,9 +140,7 @@ def _first(service: Service, programs: Judged, portions: Portions | None) -> Non
 @click.command()
 @with_files
 @RESERVE
-@click.option(
-    "--near", metavar="OLD", type=PathName(), help="a certificate or its folder, in place of DIR/plan.txt"
-)
+@click.option("--near", metavar="OLD", type=PathName(), help="a certificate or its folder, in place of DIR/plan.txt")
 @click.option("--buy", is_flag=True, help="one purchase of room that serves every loss; needs python3-scipy")
 @click.option("--into", metavar="FOLDER", type=PathName(file_okay=False), help="in place of DIR/fallback")
 @click.option("--no-save", is_flag=True, help="keep no fallback plan")

@@ -5,6 +5,7 @@ import os
 import sys
 from collections.abc import Callable, Sequence
 from dataclasses import replace
+from functools import partial
 from typing import Any
 
 import click
@@ -13,11 +14,11 @@ from hsp.base.bounds import octets_of
 from hsp.base.ends import SHORTAGE
 from hsp.base.files import forget, locked, refuse_clashes, refuse_no_folder, replace_all
 from hsp.base.numbers import listed, some
-from hsp.base.options import ANY_FILE, LINES, PathName, apart, idle
+from hsp.base.options import LINES, PathName, apart, idle
 from hsp.base.paths import path_in
 from hsp.base.text import give, say
 from hsp.base.unfit import Unfit
-from hsp.doctor.service_folder import Folder, sound
+from hsp.doctor.service_folder import sound, with_files
 from hsp.plans.answering import kept_beside
 from hsp.plans.service import NAMES, VALUES, Service, titles_in
 from hsp.plans.terminal import head
@@ -106,7 +107,6 @@ def _forget(day: Day, folder: str) -> None:
 
 
 def _blocks_in(folder: str) -> list[str]:
-    """The folders of blocks that are there."""
     within = path_in(folder, BLOCKS)
     names = os.listdir(within) if os.path.isdir(within) else []
     return [path_in(within, name) for name in names if is_block(name)]
@@ -131,11 +131,7 @@ def _day(service: Service, hours: Sequence[Hour], is_near: bool, programs: Judge
 
 
 @click.command()
-@click.argument("folder", metavar="[DIR]", default=".", type=Folder())
-@click.option("--settings", metavar="FILE", type=ANY_FILE, help="in place of DIR's settings")
-@click.option("--costs", metavar="FILE", type=ANY_FILE, help="in place of DIR's costs")
-@click.option("--capacity", metavar="FILE", type=ANY_FILE, help="in place of DIR's capacity")
-@click.option("--values", metavar="FILE", type=ANY_FILE, help="the value list that the settings refer to")
+@partial(with_files, without="demand")
 @click.option("--week", "is_week", is_flag=True, default=None, help="the hours of a week, where DIR has both")
 @RESERVE
 @click.option("--near", "is_near", is_flag=True, help="each plan moves the fewest queries from the hour before")

@@ -36,8 +36,6 @@ class Column:
 
 @dataclass(frozen=True)
 class Cell:
-    """A server at an hour."""
-
     kind: str
     text: str
 
@@ -122,14 +120,9 @@ def _grid(day: Day) -> tuple[list[GridRow], str]:
     priced = {at: len([price for price in prices if price]) for at, prices in day.priced()}
     full = {at for plan in day.plans for at in plan.full} | set(priced)
     order = sorted(full, key=lambda at: (-priced.get(at, 0), at))
-    rows = [
-        GridRow(service.servers[at].label, [_cell(plan, at) for plan in day.plans])
-        for at in order[:ROWS_SHOWN]
-    ]
+    rows = [GridRow(service.servers[at].label, [_cell(plan, at) for plan in day.plans]) for at in order[:ROWS_SHOWN]]
     others = len(service.servers) - len(full)
-    note = (
-        f"{some(others, 'server is', 'servers are')} never full." if others else "Each server is full at some hour."
-    )
+    note = f"{some(others, 'server is', 'servers are')} never full." if others else "Each server is full at some hour."
     if len(order) > len(rows):
         note += f" {some(len(order) - len(rows), 'more server is', 'more servers are')} full at some hour."
     return rows, note

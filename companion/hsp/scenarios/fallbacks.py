@@ -69,7 +69,7 @@ class Fallbacks:
                     contents = self._contents(found)
                     replace_all(contents, self.root)
                     self._forget(found.loss.folder, set(OWN) - {os.path.basename(path) for path in contents})
-            replace_all({self.table: self._text(all_found).encode()}, self.root)
+            replace_all({self.table: csv_of(self.service, all_found, self).encode()}, self.root)
         return sum(found.cost is not None for found in all_found)
 
     def _contents(self, found: After) -> dict[str, bytes]:
@@ -97,9 +97,6 @@ class Fallbacks:
         forget(self.root, path, names)
         with contextlib.suppress(OSError):
             os.rmdir(path)
-
-    def _text(self, all_found: Sequence[After]) -> str:
-        return csv_of(self.service, all_found, self)
 
 
 def csv_of(service: Service, all_found: Sequence[After], kept: Fallbacks | None = None) -> str:

@@ -160,7 +160,6 @@ class Growing:
         self._programs.put_away(tried.inputs.demand, tried.plan_file)
 
     def purchase(self, percent: int) -> Purchase:
-        """The least purchase for so many percent more."""
         factor = STEP * (100 + percent) // 100
         asked = self._asked(Fraction(factor, STEP))
         if factor > self.most():

@@ -50,7 +50,6 @@ def files_beside(words: str) -> list[str]:
 
 
 def text_of(path: str) -> str:
-    """The text of a certificate by rows."""
     text = whole(path).decode("utf-8", "replace")
     if text.startswith(BY_PRICES):
         raise Unfit(f"{path}: a certificate by prices names no row, so no plan is near it")

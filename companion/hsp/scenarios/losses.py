@@ -101,12 +101,6 @@ def survived(
 ) -> list[After]:
     """What each loss leaves, the worst first: the greatest lack, then the dearest plan."""
     tasks: list[Callable[[], After]] = [
-        lambda loss=loss: after(service, loss, programs, portions)  # type: ignore[misc]
-        for loss in losses_of(service)
+        lambda loss=loss: after(service, loss, programs, portions) for loss in losses_of(service)  # type: ignore[misc]
     ]
-    return sorted(side_by_side(tasks, done), key=worst_first)
-
-
-def worst_first(found: After) -> tuple[int, int]:
-    """The order of losses: the greatest lack first, then the dearest plan."""
-    return (-found.lack, -found.cost if found.cost is not None else 0)
+    return sorted(side_by_side(tasks, done), key=lambda found: (-found.lack, -(found.cost or 0)))
