@@ -17,10 +17,9 @@ from hsp.base.programs import Programs
 from hsp.base.text import say
 from hsp.commands.shared import OUTPUT, ahead, progress, write
 from hsp.doctor.service_folder import read_in, sound, with_files
-from hsp.plans.page import Fact, View, changes_between, render
+from hsp.plans.page import Fact, View, changes_between, render, sources_of
 from hsp.plans.plans import Reference, cheapest, planned, purchased, shortage, with_gains
 from hsp.plans.service import Service
-from hsp.plans.sources import sources_of
 from hsp.scenarios.ahead import moved_fact, moved_since
 from hsp.scenarios.judged import Judged
 from hsp.scenarios.reserve import RESERVE, reserved

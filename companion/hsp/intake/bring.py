@@ -21,13 +21,23 @@ from hsp.base.programs import Programs
 from hsp.base.text import give, is_utf8, say, show_progress
 from hsp.base.unfit import Unfit
 from hsp.intake import skeleton
-from hsp.intake.changing import Changed, limit, moved_lines, planned, remove, update
-from hsp.intake.busiest import busiest_hour, refuse_pipes
+from hsp.intake.joining import (
+    Changed,
+    block,
+    capacity_rows,
+    joined,
+    limit,
+    lines_of,
+    moved_lines,
+    planned,
+    read_back,
+    remove,
+    update,
+)
+from hsp.intake.hours import CYCLES, Chosen, Cycle, asked_by_hour, busiest_hour, chosen_of, refuse_pipes
 from hsp.intake.forms import NAMES as FORMS
 from hsp.intake.forms import Form, within
 from hsp.intake.hour_tally import HourTally, folders_of, in_folders, tables_in, write_hours
-from hsp.intake.hours import CYCLES, Chosen, Cycle, asked_by_hour, chosen_of
-from hsp.intake.joining import block, capacity_rows, joined, lines_of, read_back
 from hsp.intake.lasting import clock_lines, lasting, twice_lines
 from hsp.intake.progress import Gauge, Progress
 from hsp.intake.queries import Judge, Reading

@@ -4,8 +4,10 @@ drawn number stands beside it as text."""
 from __future__ import annotations
 
 import base64
+import datetime
 import functools
 import hashlib
+import os
 from collections.abc import Iterable, Mapping
 from dataclasses import dataclass, field
 from typing import TYPE_CHECKING
@@ -14,12 +16,50 @@ from hsp import __version__
 from hsp.base.grammar import MOST_DEMAND_ROWS
 from hsp.base.numbers import average, listed, percent, queries_of, signed, some
 from hsp.base.paths import shell_word
+from hsp.base.programs import Inputs
 from hsp.base.text import escaped
 from hsp.plans.counted import rows_of as rows_of_log
 from hsp.plans.flows import beside_of
 from hsp.plans.plans import Gain, Host, Planned, Reference, Shortage, above, above_limits, by_shares, to_buy
 from hsp.plans.service import Row, Server, Service, dotted
-from hsp.plans.sources import Source, now, sum_of
+from hsp.plans.titles import TITLES
+
+
+EPOCH = "SOURCE_DATE_EPOCH"
+
+
+@dataclass(frozen=True)
+class Source:
+    """A file by its name, with the SHA-256 of its octets."""
+
+    name: str
+    sum: str
+
+
+def now() -> str:
+    """The present time; where SOURCE_DATE_EPOCH is set, that time, so that a page can be made again."""
+    said = os.environ.get(EPOCH, "")
+    moment = datetime.datetime.now(datetime.UTC)
+    if said.isascii() and said.isdigit():
+        moment = datetime.datetime.fromtimestamp(int(said), datetime.UTC)
+    return f"{moment.day} {moment:%B %Y, %H:%M} UTC"
+
+
+def sum_of(path: str) -> str:
+    with open(path, "rb") as file:
+        return hashlib.file_digest(file, "sha256").hexdigest()
+
+
+def sources_of(folder: str, inputs: Inputs) -> list[Source]:
+    """The files of a plan, and the titles where the folder has them."""
+    titles = os.path.join(folder, TITLES)
+    paths = [inputs.settings, inputs.values, inputs.demand, inputs.costs, inputs.capacity]
+    found = []
+    for path in [*paths, titles if os.path.isfile(titles) else None]:
+        if path:
+            found.append(Source(os.path.basename(path), sum_of(path)))
+    return found
+
 
 if TYPE_CHECKING:
     import jinja2

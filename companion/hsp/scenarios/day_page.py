@@ -8,9 +8,8 @@ from hsp.base.numbers import part, some
 from hsp.base.paths import path_in
 from hsp.base.programs import Inputs, Load
 from hsp.plans.answering import answer_command
-from hsp.plans.page import environment
+from hsp.plans.page import Source, environment, now, sources_of, sum_of
 from hsp.plans.service import NAMES, Service
-from hsp.plans.sources import Source, now, sources_of, sum_of
 from hsp.scenarios.blocks import Block
 from hsp.scenarios.day_lines import Day
 from hsp.scenarios.hours import HourPlan

@@ -19,9 +19,8 @@ from hsp.base.text import say
 from hsp.base.unfit import Unfit
 from hsp.doctor.service_folder import Folder, sound
 from hsp.intake.bring import JOBS, REGIONS, reading_of, some_in, span_of, with_hours
-from hsp.intake.busiest import refuse_pipes
+from hsp.intake.hours import Asked, CYCLES, Cycle, OF_DAY, asked_by_hour, chosen_of, refuse_pipes
 from hsp.intake.forms import OTHER_TIME
-from hsp.intake.hours import CYCLES, OF_DAY, Asked, Cycle, asked_by_hour, chosen_of
 from hsp.intake.queries import Reading, field_of
 from hsp.intake.regions import tag_of
 from hsp.intake.side_by_side import parts_of
