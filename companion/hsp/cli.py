@@ -1,7 +1,5 @@
 """The commands of hsp, and what ends it."""
 
-from __future__ import annotations
-
 import contextlib
 import sys
 from collections.abc import Iterator
@@ -99,8 +97,7 @@ def main(context: click.Context) -> None:
         if sys.stdout.isatty():
             from hsp.doctor.next_step import next_lines
 
-            for line in next_lines(".", Programs()):
-                say(line)
+            say(*next_lines(".", Programs()))
             say("help  hsp --help")
         else:
             click.echo(context.get_help())

@@ -19,8 +19,7 @@ from hsp.intake.addresses import name_of
 from hsp.plans.flows import beside_of
 from hsp.plans.service import Server, Service, read_service
 from hsp.proxy.kinds import kinds_of
-from hsp.proxy.priced_rest import priced_rest
-from hsp.proxy.rest import Rest, rest_of, room_of
+from hsp.proxy.rest import Rest, priced_rest, rest_of, room_of
 from hsp.proxy.steering import Steering
 
 from conftest import Hsp

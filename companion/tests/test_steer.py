@@ -26,6 +26,7 @@ import click
 import pytest
 
 from hsp.base.grammar import MOST_SITES
+from hsp.base.held import Watched
 from hsp.base.programs import Programs, Refused
 from hsp.base.unfit import Unfit
 from hsp.intake.addresses import name_of
@@ -40,7 +41,6 @@ from hsp.proxy.runtime import AT_ONCE, Reading, pieces
 from hsp.proxy.standing import Standing, State, kept, kept_in
 from hsp.proxy.steer import Seconds, _alone, _Loop, _text, read_anew
 from hsp.proxy.steering import Steering, state_of
-from hsp.proxy.watched import Watched
 
 from lib import examples
 

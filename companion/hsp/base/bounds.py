@@ -1,7 +1,5 @@
 """How much is held in memory: files that are read whole by their octets, and queries by theirs."""
 
-from __future__ import annotations
-
 import sys
 from collections.abc import Iterable, Iterator
 
@@ -25,6 +23,12 @@ def whole(path: str) -> bytes:
     if len(octets) > LARGEST:
         raise Unfit(f"{path}: more than {LARGEST:,} octets; a file that is read whole has at most so many")
     return octets
+
+
+def octets_of(path: str) -> bytes:
+    """The octets of a file that hsp or hsplan has made, however many they are."""
+    with open(path, "rb") as file:
+        return file.read()
 
 
 def weight(queries: Iterable[Query]) -> int:

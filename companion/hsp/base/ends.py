@@ -1,7 +1,5 @@
 """How hsp ends: with a status, and lines on standard error where these can be written."""
 
-from __future__ import annotations
-
 import os
 import sys
 from typing import NoReturn

@@ -3,8 +3,6 @@
 A file is written beside its place under a name of its own, and gets its name when it is whole.
 """
 
-from __future__ import annotations
-
 import contextlib
 import errno
 import fcntl
@@ -138,9 +136,7 @@ def _lock(descriptor: int, folder: str) -> None:
             return
         except BlockingIOError:
             if time.monotonic() > until:
-                raise Missing(
-                    f"{folder}: another run has it locked for {PATIENCE} seconds; try again later"
-                ) from None
+                raise Missing(f"{folder}: another run has it locked for {PATIENCE} seconds; try again later") from None
             time.sleep(0.02)
         except OSError:
             return

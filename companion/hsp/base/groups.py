@@ -1,7 +1,5 @@
 """Groups of commands that know what a misspelt word likely means, and import a command when it is wanted."""
 
-from __future__ import annotations
-
 import difflib
 import importlib
 from collections.abc import Mapping

@@ -1,7 +1,5 @@
 """Numbers and lists as people read them."""
 
-from __future__ import annotations
-
 from collections.abc import Iterable
 from fractions import Fraction
 
@@ -50,7 +48,6 @@ def some(number: int, word: str, many: str = "") -> str:
 
 
 def queries_of(number: int) -> str:
-    """A number of queries."""
     return some(number, "query", "queries")
 
 

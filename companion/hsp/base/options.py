@@ -3,8 +3,6 @@
 A command refuses an empty path, and what does nothing, in one line, with status 2.
 """
 
-from __future__ import annotations
-
 import functools
 import re
 from collections.abc import Callable
@@ -92,18 +90,3 @@ def apart(option: str, other: str, why: str) -> Callable[[Run], Run]:
     """Refuses two options of which only one can be followed."""
     line = f"{option} and {other} don't go together: {why}"
     return _before(lambda there: line if there.issuperset((option, other)) else "")
-
-
-__all__ = [
-    "ANY_FILE",
-    "LINES",
-    "PERCENTILE",
-    "PathName",
-    "Percent",
-    "Run",
-    "apart",
-    "given",
-    "idle",
-    "is_word",
-    "needs",
-]

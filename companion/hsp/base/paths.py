@@ -1,7 +1,5 @@
 """Paths of files, as the commands and the programs take them."""
 
-from __future__ import annotations
-
 import os
 import shlex
 

@@ -97,7 +97,6 @@ class Inputs:
         return "--prices" if self.is_log else "--plan"
 
     def files(self) -> list[str]:
-        """The paths of all files."""
         return [self.settings, *([self.values] if self.values else []), self.demand, self.costs, self.capacity]
 
     def of_sites(self) -> list[str]:
@@ -105,7 +104,6 @@ class Inputs:
         return ["--settings", self.settings, *(["--values", self.values] if self.values else [])]
 
     def words(self) -> list[str]:
-        """The options of all files."""
         tables = ["--costs", self.costs, "--capacity", self.capacity]
         own = [*tables, "--log", self.demand] if self.is_log else ["--demand", self.demand, *tables]
         return self.of_sites() + own
@@ -182,7 +180,6 @@ class Prices(Certificate):
 
     @property
     def classes(self) -> list[Class]:
-        """The classes of a plan."""
         lines = (line.split() for line in self.text.splitlines() if line.startswith("class "))
         return [
             Class(region, {int(at): int(number) for at, number in zip(own[::2], own[1::2])})

@@ -1,7 +1,5 @@
 """Signals that end a command. It takes away what it had begun, and its status is 128 and the signal's number."""
 
-from __future__ import annotations
-
 import contextlib
 import signal
 import threading

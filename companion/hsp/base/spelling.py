@@ -1,7 +1,5 @@
 """What a misspelt word likely means."""
 
-from __future__ import annotations
-
 import difflib
 from collections.abc import Iterable
 

@@ -1,7 +1,6 @@
 """Text as people see it. No sign of a file steers a terminal, ends a line, or turns the direction of what follows."""
 
-from __future__ import annotations
-
+import json
 import os
 import re
 import secrets
@@ -22,9 +21,7 @@ def escaped(text: str) -> str:
     """The text with an escape in place of each sign that isn't seen, as `\\x1b`."""
     if text.isprintable():
         return text
-    signs = (
-        sign.encode("unicode_escape").decode() if unicodedata.category(sign) in UNSEEN else sign for sign in text
-    )
+    signs = (sign.encode("unicode_escape").decode() if unicodedata.category(sign) in UNSEEN else sign for sign in text)
     return "".join(signs)
 
 
@@ -65,10 +62,10 @@ def colored(text: str, colour: str) -> str:
     return _styled(text, fg=colour, bold=True)
 
 
-def say(line: str, err: bool = False) -> None:
-    """Prints a line for people. Only colours of hsp's own stay, and none that stand in a file."""
-    parts = COLOUR.split(line)
-    click.echo("".join(f"\x1b{part}" if at % 2 else escaped(part) for at, part in enumerate(parts)), err=err)
+def say(*lines: str, err: bool = False) -> None:
+    """Prints lines for people. Only colours of hsp's own stay, and none that stand in a file."""
+    for parts in map(COLOUR.split, lines):
+        click.echo("".join(f"\x1b{part}" if at % 2 else escaped(part) for at, part in enumerate(parts)), err=err)
 
 
 def give(text: str | bytes) -> None:
@@ -79,6 +76,11 @@ def give(text: str | bytes) -> None:
     lines = text if isinstance(text, str) else text.decode("utf-8", "replace")
     for line in lines.removesuffix("\n").split("\n"):
         click.echo(escaped(line))
+
+
+def json_text(said: object) -> str:
+    """JSON for other programs, as people read it too."""
+    return json.dumps(said, indent=2, ensure_ascii=False) + "\n"
 
 
 def show_progress(line: str) -> None:

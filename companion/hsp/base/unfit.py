@@ -1,7 +1,5 @@
 """Inputs that a command can't use: one line, and status 1."""
 
-from __future__ import annotations
-
 from typing import Any
 
 import click

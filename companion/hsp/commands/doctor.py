@@ -1,7 +1,5 @@
 """The command `hsp doctor`."""
 
-from __future__ import annotations
-
 import os
 import sys
 
@@ -39,8 +37,7 @@ class WordsBehind(click.Command):
 
 def shown_findings(found: Examined, summary: str) -> None:
     """Prints findings, and what is there where no fault is."""
-    for line in finding_lines(found.findings):
-        say(line)
+    say(*finding_lines(found.findings))
     if found.is_cut_short:
         note = cut_short(found.findings)
         say(": ".join(filter(None, [note.message, note.remedy])))

@@ -1,10 +1,5 @@
 """The command `hsp plan`."""
 
-from __future__ import annotations
-
-import csv
-import io
-import json
 import os
 import sys
 from collections.abc import Mapping
@@ -18,23 +13,13 @@ from hsp.base.files import locked, refuse_clashes, replace_all
 from hsp.base.numbers import listed
 from hsp.base.options import LINES, PathName, apart, idle
 from hsp.base.paths import path_in
-from hsp.base.programs import Programs
-from hsp.base.text import colored, give, say
+from hsp.base.programs import Programs, table_text
+from hsp.base.text import colored, give, json_text, say
 from hsp.commands.shared import OUTPUT, ahead, progress
 from hsp.doctor.next_step import next_step
 from hsp.doctor.service_folder import read_in, sound, with_files
 from hsp.plans.answering import answer_lines, kept_beside
-from hsp.plans.plans import (
-    Planned,
-    Reference,
-    by_shares,
-    cheapest,
-    planned,
-    purchased,
-    shortage,
-    to_buy,
-    with_gains,
-)
+from hsp.plans.plans import Planned, Reference, by_shares, cheapest, planned, purchased, shortage, to_buy, with_gains
 from hsp.plans.service import Server, Service
 from hsp.plans.terminal import head, plan_lines, shortage_lines
 from hsp.scenarios.ahead import Ahead
@@ -61,33 +46,17 @@ def shares_of(plan: Planned) -> list[tuple[str, str, int, float]]:
 
 
 def csv_of(plan: Planned) -> str:
-    out = io.StringIO()
-    writer = csv.writer(out, lineterminator="\n")
-    writer.writerow(["region", "site", "queries", "share"])
-    writer.writerows(shares_of(plan))
-    return out.getvalue()
+    return table_text("region,site,queries,share", shares_of(plan))
 
 
 def json_of(plan: Planned, reference: Reference | None, near: Near | None, later: Ahead | None) -> str:
     """What the lines show, for other programs."""
-    servers = [
-        {
-            "site": server.site,
-            "server_id": server.id,
-            "load": plan.loads[server.number],
-            "capacity": plan.service.capacity(server),
-            "price": plan.prices[server.number],
-        }
-        for server in plan.service.servers
-    ]
+    servers = []
+    for server in plan.service.servers:
+        load, price = plan.loads[server.number], plan.prices[server.number]
+        servers.append({**server.said, "load": load, "capacity": plan.service.capacity(server), "price": price})
     gains = [
-        {
-            "site": gain.server.site,
-            "server_id": gain.server.id,
-            "one_query_saves": gain.one,
-            "room": gain.room,
-            "room_saves": gain.all,
-        }
+        {**gain.server.said, "one_query_saves": gain.one, "room": gain.room, "room_saves": gain.all}
         for gain in plan.gains
     ]
     shares = [{"region": a, "site": b, "queries": c, "share": d} for a, b, c, d in shares_of(plan)]
@@ -107,15 +76,15 @@ def json_of(plan: Planned, reference: Reference | None, near: Near | None, later
         **(near.report() if near else {}),
         **(later.report() if later else {}),
     }
-    return json.dumps(report, indent=2, ensure_ascii=False) + "\n"
+    return json_text(report)
 
 
 def purchase_of(service: Service, bought: Mapping[Server, int]) -> list[dict[str, object]]:
     """What has to be bought at each server; and how much of it remains, where a part of it is kept back."""
-    found = []
+    found: list[dict[str, object]] = []
     for server, more in to_buy(service, bought).items():
         remains = {"remains": bought[server]} if service.reserve else {}
-        found.append({"site": server.site, "server_id": server.id, "more": more, **remains})
+        found.append({**server.said, "more": more, **remains})
     return found
 
 
@@ -127,11 +96,9 @@ def show_shortage(service: Service, programs: Programs, as_json: bool) -> NoRetu
     if as_json:
         purchase = purchase_of(service, bought) if bought else []
         report = {"title": service.titles.title, "served": False, "queries": service.asked, "lack": short.lack}
-        give(json.dumps({**report, "least_purchase": purchase or None}, indent=2, ensure_ascii=False) + "\n")
+        give(json_text(report | {"least_purchase": purchase or None}))
     else:
-        say(head(service))
-        for line in shortage_lines(service, short, bought, after):
-            say(line)
+        say(head(service), *shortage_lines(service, short, bought, after))
     sys.exit(SHORTAGE)
 
 
@@ -212,12 +179,9 @@ def plan(folder: str, **given: Any) -> None:
     if said.as_csv or said.as_json:
         give(csv_of(found) if said.as_csv else json_of(found, reference, near, later))
         return
-    say(head(service))
     more = [*([near.line()] if near else []), *(later.lines() if later else [])]
-    for line in [*plan_lines(found, reference, said.every), *more]:
-        say(line)
+    say(head(service), *plan_lines(found, reference, said.every), *more)
     kept = "" if said.no_save else f"; kept in {path}"
-    for line in [f"check {colored('yes', 'green')}: no plan within these capacities costs less{kept}", *lines]:
-        say(line)
+    say(f"check {colored('yes', 'green')}: no plan within these capacities costs less{kept}", *lines)
     if (not service.sites or service.is_empty) and not any(given.values()):
         say(next_step(service, programs))

@@ -1,7 +1,5 @@
 """What several commands that plan have in common."""
 
-from __future__ import annotations
-
 import sys
 from collections.abc import Callable
 from contextlib import closing

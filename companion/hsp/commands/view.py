@@ -1,7 +1,5 @@
 """The command `hsp view`."""
 
-from __future__ import annotations
-
 import os
 import sys
 from contextlib import closing
@@ -19,10 +17,9 @@ from hsp.base.programs import Programs
 from hsp.base.text import say
 from hsp.commands.shared import OUTPUT, ahead, progress, write
 from hsp.doctor.service_folder import read_in, sound, with_files
-from hsp.plans.page import Fact, View, changes_between, render
+from hsp.plans.page import Fact, View, changes_between, render, sources_of
 from hsp.plans.plans import Reference, cheapest, planned, purchased, shortage, with_gains
 from hsp.plans.service import Service
-from hsp.plans.sources import sources_of
 from hsp.scenarios.ahead import moved_fact, moved_since
 from hsp.scenarios.judged import Judged
 from hsp.scenarios.reserve import RESERVE, reserved
@@ -54,9 +51,7 @@ def earlier(folder: str, programs: Programs, now: Service) -> tuple[Service, Ref
     numbers = {site.name: at for at, site in enumerate(now.sites)}
     names = [site.name for site in old.sites]
     shares = {
-        (region, numbers[names[at]]): queries
-        for (region, at), queries in found.shares.items()
-        if names[at] in numbers
+        (region, numbers[names[at]]): queries for (region, at), queries in found.shares.items() if names[at] in numbers
     }
     before = [loads.get((server.site, server.id), 0) for server in now.servers]
     words = f"in the plan of {name_of_earlier(old, now)}"
@@ -85,10 +80,7 @@ def view_of(service: Service, programs: Programs, before: str | None) -> View:
 @click.command()
 @with_files
 @click.option(
-    "--before",
-    metavar="DIR",
-    type=PathName(exists=True, file_okay=False),
-    help="the plan of another folder beside it",
+    "--before", metavar="DIR", type=PathName(exists=True, file_okay=False), help="the plan of another folder beside it"
 )
 @RESERVE
 @click.option("--more", is_flag=True, help="how far the demand can grow, and what each loss leaves")

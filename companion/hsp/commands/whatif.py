@@ -1,7 +1,5 @@
 """The command `hsp whatif`."""
 
-from __future__ import annotations
-
 from types import SimpleNamespace
 from typing import Any
 
@@ -26,7 +24,9 @@ IDLE = {"--from", "--to", "--points", "--step"}
 
 @click.command()
 @with_files
-@click.option("--server", multiple=True, metavar="SITE:ID[=N]", help="the cost by the size of this server; or its size")
+@click.option(
+    "--server", multiple=True, metavar="SITE:ID[=N]", help="the cost by the size of this server; or its size"
+)
 @click.option("--lose", multiple=True, metavar="SITE", help="without this site")
 @click.option("--cost", multiple=True, metavar="REGION:SITE=N", help="another cost, or a first one")
 @click.option("--times", multiple=True, metavar="NAME=F", help="the demand of a region, or of a handle, times F")
@@ -73,7 +73,6 @@ def whatif(folder: str, step: float, as_csv: bool, chart: str | None, **given: A
     if as_csv:
         give(cases_csv(cases))
     else:
-        for line in case_lines(service, cases, step):
-            say(line)
+        say(*case_lines(service, cases, step))
     if chart:
         write(chart, drawn(service, cases, step))

@@ -1,15 +1,12 @@
 """The command `hsp where`."""
 
-from __future__ import annotations
-
-import json
 import sys
 
 import click
 
 from hsp.base.ends import ended
 from hsp.base.programs import Programs
-from hsp.base.text import give, is_utf8, say
+from hsp.base.text import give, is_utf8, json_text, say
 from hsp.doctor.service_folder import Folder, refuse_shortage, sound
 from hsp.intake.forms import Form
 from hsp.plans.where import json_of as where_json
@@ -41,8 +38,7 @@ def where(folder: str, region: str, handle: str, as_json: bool) -> None:
     found = where_goes(service, programs, region, handle)
     programs.insist_held()
     if as_json:
-        give(json.dumps(where_json(service, found, region, handle), indent=2, ensure_ascii=False) + "\n")
+        give(json_text(where_json(service, found, region, handle)))
     else:
-        for line in where_lines(service, found, region, handle):
-            say(line)
+        say(*where_lines(service, found, region, handle))
     sys.exit(0 if found.servers else 1)

@@ -1,7 +1,5 @@
 """Faults of plans and of logs: what stands there in place of them, and what to do."""
 
-from __future__ import annotations
-
 import os
 import re
 from collections.abc import Iterator, Mapping

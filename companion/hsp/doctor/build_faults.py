@@ -1,7 +1,5 @@
 """Faults of the inputs together: names and identifiers that only one of the files has."""
 
-from __future__ import annotations
-
 import re
 from typing import NamedTuple
 

@@ -1,7 +1,5 @@
 """Words as they are given to a command of hsplan or hsplan-stream."""
 
-from __future__ import annotations
-
 from dataclasses import dataclass
 from typing import NamedTuple
 

@@ -1,7 +1,5 @@
 """What is said where time, memory or turns ended before all of the files was looked at."""
 
-from __future__ import annotations
-
 import os
 
 from hsp.base.bounds import LARGEST

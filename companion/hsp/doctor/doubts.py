@@ -1,14 +1,12 @@
 """What hsplan accepts and people seldom mean."""
 
-from __future__ import annotations
-
 import itertools
 import os
 import re
 import tomllib
 import unicodedata
 from collections import Counter, defaultdict
-from collections.abc import Iterable, Iterator
+from collections.abc import Iterable, Iterator, Set
 from dataclasses import dataclass, field, replace
 from typing import Any
 from urllib.parse import unquote
@@ -19,20 +17,21 @@ from hsp.base.paths import path_in, shell_word
 from hsp.base.programs import Programs
 from hsp.base.spelling import near
 from hsp.base.unfit import Unfit
-from hsp.doctor.accepting import is_named, needless
 from hsp.doctor.findings import WARNING, Finding, Place, Text, Words, decoded, found, quoted, read_text
-from hsp.doctor.proxy_doubts import proxy_doubts
 from hsp.doctor.rows import Row, Table, table_of
 from hsp.doctor.toml_places import value_of
+from hsp.intake.addresses import Target, targets_of, twins as url_twins
 from hsp.plans.answering import less_reserve
-from hsp.plans.proxied import PROXY, PROXY_KEYS, proxied_of
+from hsp.plans.proxied import PROXY, PROXY_KEYS, URLS, proxied_in, proxied_of
 from hsp.plans.service import ACCEPT, NAMES, TITLE_KEYS, VALUES, Service, dotted, is_of_hour, newer_than
-from hsp.plans.titles import SECONDS, TITLES
+from hsp.plans.titles import SECONDS, TITLES, titles_of
 
 # A demand beyond so many times all capacity, or a capacity beyond so many times the demand, has likely another unit.
 FAR_ABOVE, FAR_BELOW = 10, 1000
 # A capacity from here on stands for no limit, as in a what-if.
 NO_LIMIT = GREATEST_CAPACITY
+# The table of the titles that says how a service is proxied.
+OF_PROXY = r"^\s*\[?\"?(proxy)\b"
 # The group of the doubt about a plan that isn't one of its inputs.
 OLD_PLAN = "old plan"
 ADDRESS = re.compile(
@@ -91,7 +90,6 @@ def handle_words(handle: str) -> tuple[str, str]:
 
 
 def handles(read: Read) -> None:
-    """Handles that aren't bare."""
     for row in read.demand.rows:
         handle = row.fields[1]
         message, group = handle_words(handle)
@@ -180,9 +178,7 @@ def idle(read: Read) -> None:
         if region in asking or region in explained or not asking:
             continue
         meant = near(region, asking, 0.75)
-        remedy = (
-            f"write {meant}, if that is meant" if meant else "take its rows out, or leave them for a later demand"
-        )
+        remedy = f"write {meant}, if that is meant" if meant else "take its rows out, or leave them for a later demand"
         message = f"region {quoted(region)} has costs and asks for nothing"
         mark = f"did you mean {meant}?" if meant else ""
         words = Words(message, remedy, "its costs are never used", mark, "idle region", f"idle region {region}")
@@ -232,7 +228,6 @@ def hosts(read: Read) -> None:
 
 
 def zeros(read: Read) -> None:
-    """Counts and capacities of 0."""
     for row in read.demand.rows:
         if row.fields[2] == "0" and not is_of_hour(read.service.inputs.demand):
             message = f"{row.fields[0]} asks 0 times for {quoted(row.fields[1])}"
@@ -452,9 +447,59 @@ def odd_proxy(read: Read, text: Text, table: Any) -> None:
     try:
         proxied_of(table)
     except Unfit as fault:
-        place = text.match(r"^\s*\[?\"?(proxy)\b") or Place()
+        place = text.match(OF_PROXY) or Place()
         words = Words("hsp export refuses the table of a proxy", "mend it", fault.message, name="table of a proxy")
         read.doubt(text, place, words)
+
+
+def _one_url(targets: list[Target], named: Set[str]) -> Iterator[Words]:
+    """Servers that have one URL, where the titles name one of them. Records that have it are doubted with or without a
+    proxy."""
+    urls = {target.name: target.url.text for target in targets}
+    for names in (own for own in url_twins(targets) if not named.isdisjoint(own)):
+        message = f"{listed(names)} have one URL, {urls[names[0]]}"
+        remedy = f'write "{names[-1]}" = "https://mirror.example" below [{PROXY}.{URLS}]'
+        why = "no redirect tells them apart, so one of them may get what is planned for the other"
+        yield Words(message, remedy, why, group="one URL", name=f"one URL {names[0]}")
+
+
+def proxy_doubts(service: Service, programs: Programs) -> Iterator[Finding]:
+    """What `hsp export` refuses or warns of, where the folder has a table of a proxy."""
+    if PROXY not in titles_of(service.folder):
+        return
+    text = read_text(path_in(service.folder, TITLES))
+    place = text.match(OF_PROXY) or Place()
+    try:
+        said = proxied_in(service.folder)
+    except Unfit:  # the table itself is a doubt
+        return
+    try:
+        words = list(_one_url(targets_of(service, said.urls, programs), said.urls.keys()))
+    except Unfit as fault:
+        words = [Words("hsp export refuses the table of a proxy", "mend it", fault.message, name="URLs of a proxy")]
+    yield from (found(text.path, place, own, "", WARNING) for own in words)
+
+
+def is_named(finding: Finding, name: str) -> bool:
+    """Whether a name is that of a warning, or its first words: `idle region` names each idle region."""
+    return finding.name == name or finding.name.startswith(f"{name} ")
+
+
+def needless(service: Service, findings: Iterable[Finding]) -> Iterator[Finding]:
+    """Accepted names that no warning has."""
+    names = list(dict.fromkeys(finding.name for finding in findings))
+    for name in service.titles.accept:
+        if any(is_named(finding, name) for finding in findings):
+            continue
+        text = read_text(path_in(service.folder, TITLES))
+        meant = near(name, names, 0.8)
+        message = f"{TITLES} accepts {quoted(name)}, and no warning has this name"
+        remedy = f"write {meant}" if meant else "take it out, if what it names is mended"
+        why = "hsp doctor --json has the name of each warning"
+        words = Words(
+            message, remedy, why, f"did you mean {meant}?" if meant else "", "needless name", f"needless name {name}"
+        )
+        yield found(text.path, text.match(re.escape(name)) or Place(), words, "", WARNING)
 
 
 def first_rows(path: str) -> Text:

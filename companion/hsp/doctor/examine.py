@@ -1,7 +1,5 @@
 """The doctor: faults of a folder, or of the words of a command; and doubts where there is no fault."""
 
-from __future__ import annotations
-
 import contextlib
 import os
 import re

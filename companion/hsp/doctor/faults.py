@@ -1,7 +1,5 @@
 """All faults of a command and its files. Each is hsplan's: a mended copy of the files is asked again and again."""
 
-from __future__ import annotations
-
 import re
 import subprocess
 from collections.abc import Callable
@@ -264,7 +262,6 @@ def without_answers(question: Question) -> Question:
 
 
 def question_of(programs: Programs, line: Line) -> Question:
-    """The question that the words of a line ask."""
     options, others = split(line)
     values: dict[str, str] = {}
     for option in options:
@@ -295,7 +292,6 @@ def of_words(programs: Programs, words: list[str], show: Show = unheard) -> Diag
 
 
 def said_of_words(words: list[str]) -> Said:
-    """What the program says of words as they are."""
     line = line_of(words)
     printed = run(line.program, *[word.text for word in line.words])
     return said_of(printed.status, printed.line.removeprefix(f"{line.program}: "))
@@ -307,9 +303,7 @@ def _status(line: Line, question: Question) -> int:
     words = []
     for word in line.words:
         name, equals, value = word.text.partition("=")
-        words.append(
-            copies.get(word.text) or (f"{name}={copies[value]}" if equals and value in copies else word.text)
-        )
+        words.append(copies.get(word.text) or (f"{name}={copies[value]}" if equals and value in copies else word.text))
     quiet = subprocess.DEVNULL
     return subprocess.run([program(line.program), *words], stdin=quiet, stdout=quiet, stderr=quiet).returncode
 

@@ -1,7 +1,5 @@
 """Files that can't be read, each with the reason."""
 
-from __future__ import annotations
-
 import difflib
 import os
 import stat
@@ -34,9 +32,7 @@ def unreadable(path: str, role: str) -> Words | None:
             "no such file", "mend the path: a part of it is a file, not a folder", "a part of the path is a file"
         )
     except OSError as fault:
-        return Words(
-            "the file can't be looked at", "mend the path, or the rights of its folders", str(fault.strerror)
-        )
+        return Words("the file can't be looked at", "mend the path, or the rights of its folders", str(fault.strerror))
     return _of_mode(path, role, mode)
 
 

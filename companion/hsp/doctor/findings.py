@@ -1,7 +1,5 @@
 """Findings: what is wrong or seldom meant, where it stands, why, and what to do."""
 
-from __future__ import annotations
-
 import functools
 import os
 import re
@@ -71,7 +69,6 @@ def first_of(*causes: tuple[object, str, str]) -> Words:
 
 
 def found(path: str, place: Place, words: Words, said: str = "", severity: str = ERROR) -> Finding:
-    """A finding at a place of a file."""
     return Finding(
         message=words.message,
         remedy=words.remedy,

@@ -1,7 +1,5 @@
 """Explains in a process of its own, whose time and memory are bounded. What it found until then counts."""
 
-from __future__ import annotations
-
 import contextlib
 import gc
 import io

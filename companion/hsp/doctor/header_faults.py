@@ -1,7 +1,5 @@
 """Faults of a table as a whole: its first line, and how many rows it has."""
 
-from __future__ import annotations
-
 import gzip
 import re
 import zlib
@@ -27,7 +25,6 @@ class Cause(NamedTuple):
 
 
 def headers_of(question: Question, role: str) -> list[str]:
-    """The headers that a file may have."""
     if role != "log":
         return [HEADERS[role]]
     if question.command == "dispatch" and any(option.startswith("--fronts") for option in question.options):
@@ -124,9 +121,7 @@ def _of_fronts(first: str, wanted: list[str]) -> Cause | None:
 
 def _of_access(first: str) -> Cause | None:
     if re.search(r'"(GET|HEAD|POST|PUT) ', first):
-        remedy = (
-            f"hsp demand makes a table of its queries; a log for hsplan has the rows {LOG_HEADERS['dispatch'][0]}"
-        )
+        remedy = f"hsp demand makes a table of its queries; a log for hsplan has the rows {LOG_HEADERS['dispatch'][0]}"
         return Cause("the access log of a proxy", remedy)
     return None
 
@@ -178,7 +173,6 @@ def _of_pipes(question: Question, role: str) -> Cause | None:
 
 
 def header_fault(question: Question, role: str, said: Said) -> Explained:
-    """A first line that is no header."""
     draft = question.files[role]
     text, wanted = draft.text, headers_of(question, role)
     cause = _of_pipes(question, role) or cause_of(text, wanted)
@@ -216,7 +210,6 @@ def too_many(question: Question, role: str, said: Said) -> Explained:
 
 
 def log_too_long(question: Question, said: Said) -> Finding:
-    """A log that has more rows than dispatch takes."""
     message, why = "the log has more rows than dispatch takes", f"each run of dispatch takes {MOST_LOG_ROWS:,} rows"
     words = Words(message, "hsplan-stream answer takes a log of any length, by prices; or cut the log in parts", why)
     return found(question.files["log"].original.path, Place(), words, said.line)

@@ -1,7 +1,5 @@
 """What to do next in a folder."""
 
-from __future__ import annotations
-
 import os
 from collections.abc import Iterator
 

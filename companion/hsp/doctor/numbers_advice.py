@@ -1,7 +1,5 @@
 """What is likely meant by a text that is no whole number, and what to write."""
 
-from __future__ import annotations
-
 import re
 from decimal import Decimal
 from typing import NamedTuple

@@ -1,12 +1,9 @@
 """How findings are printed: for people at a terminal or in a pipe, and as JSON for editors."""
 
-from __future__ import annotations
-
-import json
 from collections.abc import Iterable, Iterator
 
 from hsp.base.numbers import listed
-from hsp.base.text import bold, colored, dim, visible
+from hsp.base.text import bold, colored, dim, json_text, visible
 from hsp.doctor.findings import ERROR, WARNING, Finding
 
 WIDE = 96
@@ -80,7 +77,6 @@ def lines(findings: Iterable[Finding]) -> Iterator[str]:
 
 
 def json_of(findings: Iterable[Finding]) -> str:
-    """All findings, one object each."""
     objects = [
         {
             "severity": finding.severity,
@@ -96,4 +92,4 @@ def json_of(findings: Iterable[Finding]) -> str:
         }
         for finding in findings
     ]
-    return json.dumps(objects, indent=2, ensure_ascii=False) + "\n"
+    return json_text(objects)

@@ -135,7 +135,6 @@ class Question:
     lacks_site: bool = False
 
     def arguments(self) -> list[str]:
-        """The words of the command."""
         found = [self.command]
         for role in ORDER:
             if role in self.files and role != "file":
@@ -166,7 +165,6 @@ class Question:
         return replace(self.with_file(role, draft), absent=self.absent | {role})
 
     def with_row(self, table: str, row: Row, fields: list[str]) -> Question:
-        """The same with other fields in a row."""
         return self.with_line(table, row.first, joined(fields), row.last)
 
     def with_mends(self, table: str, mends: Iterable[Mend]) -> Question:
@@ -185,9 +183,7 @@ class Question:
 
     def size(self) -> int:
         """How many lines with a text the files have."""
-        return sum(
-            bool(line.strip()) for draft in self.files.values() for line in draft.lines or draft.original.lines
-        )
+        return sum(bool(line.strip()) for draft in self.files.values() for line in draft.lines or draft.original.lines)
 
     def ask(self) -> Said:
         """What hsplan says. Its answer is the status only, since answers to a log may be long."""

@@ -1,7 +1,5 @@
 """Faults of site records and value lists. Which mend helps, hsplan says."""
 
-from __future__ import annotations
-
 import os
 import re
 from collections.abc import Iterable, Iterator
@@ -199,7 +197,6 @@ def site_record(question: Question, said: Said) -> Explained:
 
 
 def bad_file(question: Question, said: Said, role: str) -> Explained:
-    """A file that is no record, or no value list."""
     draft = question.files[role]
     octets = draft.original.octets
     if role == "values" or any(option.startswith("--index") for option in question.options):

@@ -1,7 +1,5 @@
 """Tables with the place of each row and field in their file."""
 
-from __future__ import annotations
-
 import csv
 import functools
 import io
@@ -49,7 +47,6 @@ class Table:
         return self.text.part(row.first, start, end - start)
 
     def at_line(self, line: int) -> Row | None:
-        """The row that begins in a line."""
         return next((row for row in self.rows if row.first == line), None)
 
     def number(self, line: int) -> int:
@@ -81,7 +78,6 @@ def spans_of(line: str) -> list[tuple[int, int]]:
 
 
 def joined(fields: Iterable[str]) -> str:
-    """The fields as a row."""
     out = io.StringIO()
     csv.writer(out, lineterminator="").writerow(list(fields))
     return out.getvalue()

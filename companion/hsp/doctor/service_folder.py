@@ -1,7 +1,5 @@
 """The folder of a service, as the commands take it that ask the doctor first."""
 
-from __future__ import annotations
-
 import os
 import sys
 from collections.abc import Callable, Mapping
@@ -36,9 +34,9 @@ class Folder(PathName):
         return super().convert(value, param, context)
 
 
-def with_files(command: Command) -> Command:
-    """Adds the folder, and the options for other files."""
-    for role in ("values", "capacity", "costs", "demand", "settings"):
+def with_files(command: Command, without: str = "") -> Command:
+    """Adds the folder, and the options for other files, of which one may be left out."""
+    for role in (role for role in ("values", "capacity", "costs", "demand", "settings") if role != without):
         words = "the value list that the settings refer to" if role == "values" else f"in place of DIR's {role}"
         command = click.option(f"--{role}", metavar="FILE", type=ANY_FILE, help=words)(command)
     return click.argument("folder", metavar="[DIR]", default=".", type=Folder())(command)
@@ -60,8 +58,7 @@ def sound(
     programs.hold(read_in(folder, given))
     found = examined(folder, programs, given, title, cost)
     if not found.service:
-        for line in list(finding_lines(found.errors))[:-1]:
-            say(line, err=True)
+        say(*list(finding_lines(found.errors))[:-1], err=True)
         sys.exit(found.status)
     warnings = [warning for warning in found.warnings if warning.group != OLD_PLAN]
     if warnings:

@@ -1,7 +1,5 @@
 """Faults of the settings: keys, sites and hosts."""
 
-from __future__ import annotations
-
 import functools
 import ipaddress
 import os
@@ -62,7 +60,6 @@ class Entry:
         return firsts.index(line) if line in firsts else self.number
 
     def with_value(self, key: str, value: str) -> Question:
-        """The settings with another value of a key."""
         place, text = value_of(self.text, self.kind, self.number, key), self.text
         begin, fence = place.text[: place.column - 1] + value, place.text[place.column - 1 :][:3]
         if fence in ('"' * 3, "'" * 3) and fence not in place.text[place.column + 2 :]:
@@ -96,7 +93,6 @@ def in_settings(question: Question, said: Said, place: Place, words: Words, *way
 
 
 def without_site(question: Question, table: str, name: str) -> Question:
-    """A table without the rows of a site."""
     read = table_of(question.text(table))
     at = read.header.index("site") if "site" in read.header else 0
     return question.without_rows(table, [row for row in read.rows if row.fields[at : at + 1] == [name]])
@@ -198,7 +194,6 @@ def _source_words(name: str, site: dict[str, Any], folder: str) -> Words:
 
 
 def bad_site(question: Question, said: Said) -> Explained:
-    """A site that isn't as it should be."""
     entry = Entry(question, "site", said.numbers.get("site", 0))
     if not isinstance((data_of(entry.text) or {}).get("site"), list):
         return _one_table(question, said, "site")
@@ -249,7 +244,6 @@ def _bad_site_name(entry: Entry, said: Said, name: object) -> Explained:
 
 
 def site_twice(question: Question, said: Said) -> Explained:
-    """Two sites of one name."""
     entry = Entry(question, "site", said.numbers["site"])
     names, name = [site.get("name") for site in listed_in(entry.text, "site")], str(entry.values.get("name", ""))
     first = Entry(question, "site", names.index(name) if name in names[: entry.number] else 0)
@@ -303,7 +297,6 @@ def _host_words(host: dict[str, Any]) -> tuple[str, Words, str]:
 
 
 def bad_host(question: Question, said: Said) -> Explained:
-    """A host that isn't as it should be."""
     entry = Entry(question, "host", said.numbers.get("host", 0))
     if not isinstance((data_of(entry.text) or {}).get("host"), list):
         return _one_table(question, said, "host")
@@ -322,7 +315,6 @@ def host_twice(question: Question, said: Said) -> Explained:
 
 
 def too_many_blocks(question: Question, said: Said) -> Explained:
-    """More sites or hosts than hsplan takes."""
     block, most, remedy = {
         "TooManySites": ("site", MOST_SITES, "plan in parts, each with the regions that use its sites"),
         "TooManyHosts": ("host", MOST_HOSTS, "keep hosts with several servers only"),

@@ -1,7 +1,5 @@
 """Faulty rows of tables and logs, as `hsplan-stream faults` lists them: where, why, and what to do."""
 
-from __future__ import annotations
-
 import csv
 import itertools
 import re
@@ -145,7 +143,6 @@ def _faulty(draft: Draft, table: str, listed_row: list[str]) -> Faulty:
 
 
 def row_at(draft: Draft, first: int) -> Row:
-    """The row that begins in a line."""
     lines = draft.text.lines
     reader = csv.reader(f"{line}\n" for line in itertools.islice(lines, first - 1, len(lines) - (not lines[-1])))
     fields: list[str] = next(reader, [])
@@ -347,9 +344,7 @@ def bad_fields(faulty: Faulty) -> Words:
 def alike(faulty: Faulty, at: int) -> list[Faulty]:
     """A row and those below it with the same text in a field, each with the words that hsplan would have for it."""
     return [
-        replace(
-            faulty, row=row, said=replace(faulty.said, line=re.sub(r"row \d+", f"row {number}", faulty.said.line))
-        )
+        replace(faulty, row=row, said=replace(faulty.said, line=re.sub(r"row \d+", f"row {number}", faulty.said.line)))
         for number, row in enumerate(table_of(faulty.draft.text).rows)
         if row.first >= faulty.row.first and row.fields[at : at + 1] == faulty.fields[at : at + 1]
     ]

@@ -1,7 +1,5 @@
 """Why settings aren't TOML: the line, what it likely should be, and the same settings without the fault."""
 
-from __future__ import annotations
-
 import json
 import re
 import tomllib

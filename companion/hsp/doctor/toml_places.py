@@ -1,7 +1,5 @@
 """Where the blocks and the keys of settings stand."""
 
-from __future__ import annotations
-
 import re
 import tomllib
 from typing import Any, NamedTuple
@@ -34,7 +32,6 @@ def listed_in(text: Text, block: str) -> list[dict[str, Any]]:
 
 
 def blocks(text: Text, block: str) -> list[Block]:
-    """The blocks of one name in their order."""
     heads = [(number, line) for number, line in enumerate(text.lines, 1) if re.match(r"\s*\[", line)]
     ends = [number - 1 for number, _ in heads[1:]] + [len(text.lines)]
     own = re.compile(rf"\s*\[\[?\s*[\"']?{block}[\"']?\s*\]\]?")

@@ -1,7 +1,5 @@
 """What a command of hsplan accepts and people seldom mean: its handle, its inputs, and the rows of its log."""
 
-from __future__ import annotations
-
 import os
 from collections import defaultdict
 from collections.abc import Iterator
@@ -28,9 +26,7 @@ def of_handle(line: Line) -> Iterator[Finding]:
         if message:
             place = Place(1, word.column + 1, len(word.text), line.text)
             why = "other octets are hashed, so another server may be named"
-            yield found(
-                "", place, Words(message, f"write {bare(word.text)}", why, "", f"handle {group}"), "", WARNING
-            )
+            yield found("", place, Words(message, f"write {bare(word.text)}", why, "", f"handle {group}"), "", WARNING)
 
 
 def service_in(question: Question) -> Service | None:

@@ -1,7 +1,5 @@
 """Words that are no command of hsplan: which of them is missing, misspelt, or given twice."""
 
-from __future__ import annotations
-
 from collections.abc import Iterator
 from dataclasses import replace
 

@@ -1,8 +1,6 @@
 """How a front's rows are answered: hsplan gets them with their front, and its faults are turned back to file and
 line."""
 
-from __future__ import annotations
-
 import contextlib
 import io
 import itertools

@@ -1,7 +1,5 @@
 """The commands of `hsp fleet`."""
 
-from __future__ import annotations
-
 import click
 
 from hsp.base.groups import Group

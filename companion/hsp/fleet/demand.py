@@ -1,7 +1,5 @@
 """`hsp fleet demand`: a part for each log. Their tables are added up here, one after the other."""
 
-from __future__ import annotations
-
 import os
 import re
 from dataclasses import astuple, dataclass
@@ -22,7 +20,9 @@ from hsp.fleet.progress import shown
 from hsp.fleet.session import Targets, place_of, session, with_cluster
 from hsp.fleet.tables import counts_in, skipped_of
 from hsp.intake.bring import (
-    FOLDER,
+    INTO,
+    OUTPUT,
+    REGIONS,
     form_of,
     give_demand,
     folder_of,
@@ -104,11 +104,9 @@ def _span(given: dict[str, Any]) -> Span:
 
 @click.command()
 @click.argument("logs", metavar="LOG..", nargs=-1, required=True, type=ANY_FILE)
-@click.option(
-    "--regions", metavar="FILE", type=ANY_FILE, required=True, help="a table network,region, or a MaxMind database"
-)
-@click.option("--into", metavar="DIR", type=FOLDER, help="the folder whose demand.csv is written")
-@click.option("-o", "--output", metavar="FILE", type=ANY_FILE, help="the demand, in place of DIR/demand.csv")
+@REGIONS
+@INTO
+@OUTPUT
 @click.option("--keep", metavar="SUFFIX", help="also the queries of each LOG, in LOG with this suffix")
 @with_forms
 @with_cluster
@@ -148,5 +146,4 @@ def demand(logs: tuple[str, ...], regions: str, into: str | None, keep: str | No
     if not output:
         give_demand(found)
     rows = [*rows_lines(output, found), *stale_lines(own_folder, 0)]
-    for line in [*summary(logs, reading, tally, not given["prefix"]), *rows, *lacking]:
-        say(line, err=output is None)
+    say(*summary(logs, reading, tally, not given["prefix"]), *rows, *lacking, err=output is None)

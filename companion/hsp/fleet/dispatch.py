@@ -1,7 +1,5 @@
 """`hsp fleet dispatch`: a part for each front, and its answers beside its log."""
 
-from __future__ import annotations
-
 import contextlib
 import os
 import re

@@ -1,7 +1,5 @@
 """A cluster whose workers hold a run's files, and parts that are waited for."""
 
-from __future__ import annotations
-
 import contextlib
 import functools
 import importlib
@@ -142,7 +140,6 @@ class Engine:
             self.local.close()
 
     def workers(self) -> dict[str, Any]:
-        """The workers by their addresses."""
         self._alive()
         try:
             found: dict[str, Any] = self._client.scheduler_info()["workers"]

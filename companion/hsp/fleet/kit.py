@@ -1,7 +1,5 @@
 """What a run's workers need: the programs, the files of the plan and hsp itself, under SHA-256 sums."""
 
-from __future__ import annotations
-
 import importlib.resources
 import importlib.util
 import io

@@ -3,8 +3,6 @@
 They listen by TLS with a key that is made for the run. So no other user of the machine can give them work.
 """
 
-from __future__ import annotations
-
 import json
 import os
 import shutil

@@ -1,7 +1,5 @@
 """The parts of a run. A worker runs each in a Python of its own, with a request and a reply in JSON."""
 
-from __future__ import annotations
-
 import json
 import os
 import re
@@ -32,7 +30,6 @@ def form_of(said: Request) -> Form:
 
 
 def fields_of_form(form: Form) -> Request:
-    """A form as a request has it."""
     pattern = os.fsdecode(form.pattern.pattern) if form.pattern else None
     prefixes = sorted(map(os.fsdecode, form.prefixes))
     names = {"name": form.name, "client": form.client, "handle": form.handle, "path": form.path, "time": form.time}

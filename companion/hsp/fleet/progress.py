@@ -1,7 +1,5 @@
 """How far a run is, on a terminal: parts, rows a second, workers."""
 
-from __future__ import annotations
-
 import sys
 import time
 from collections.abc import Callable

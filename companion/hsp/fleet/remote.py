@@ -1,7 +1,5 @@
 """What is sent to the workers by its value. It needs no other module of hsp there, so no worker holds an older one."""
 
-from __future__ import annotations
-
 import contextlib
 import errno
 import hashlib

@@ -1,7 +1,5 @@
 """A run from its first worker to its last file, and the options that say where it runs."""
 
-from __future__ import annotations
-
 import contextlib
 import sys
 from collections.abc import Callable, Iterator
@@ -24,10 +22,7 @@ OPTIONS = [
     click.option("--workers", type=click.IntRange(1, 256), metavar="N", help="of this machine; one a processor"),
     click.option("--scheduler", metavar="ADDRESS", help="tcp://HOST:PORT or tls://HOST:PORT that runs already"),
     click.option(
-        "--tls-ca",
-        metavar="FILE",
-        type=ANY_FILE,
-        help="the certificate of the authority that a tls scheduler trusts",
+        "--tls-ca", metavar="FILE", type=ANY_FILE, help="the certificate of the authority that a tls scheduler trusts"
     ),
     click.option("--tls-cert", metavar="FILE", type=ANY_FILE, help="this client's certificate"),
     click.option("--tls-key", metavar="FILE", type=ANY_FILE, help="its key"),
@@ -46,7 +41,6 @@ def with_cluster(command: Command) -> Command:
 
 
 def place_of(given: dict[str, Any]) -> Place:
-    """Where a run takes place by its options."""
     scheduler, workers = given["scheduler"], given["workers"]
     keys = given["tls_ca"], given["tls_cert"], given["tls_key"]
     if scheduler and workers:

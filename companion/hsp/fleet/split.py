@@ -1,7 +1,5 @@
 """One log of all fronts: a log for each front, and the answers again in the order of the log."""
 
-from __future__ import annotations
-
 import io
 import os
 

@@ -1,7 +1,5 @@
 """What the parts of a count pass on: the pairs of a log with their counts, and what was passed over."""
 
-from __future__ import annotations
-
 import csv
 import io
 import itertools
@@ -39,12 +37,10 @@ class Table:
 
     @property
     def text(self) -> str:
-        """The rows of a demand."""
         return (HEADER + b"".join(rows_of(self.counts.items()))).decode()
 
 
 def counts_in(text: str) -> dict[Query, int]:
-    """The counts of a table's text."""
     rows = itertools.islice(csv.reader(io.StringIO(text, newline="")), 1, None)
     return {(region.encode(), handle.encode()): int(count) for region, handle, count in rows}
 

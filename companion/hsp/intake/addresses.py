@@ -1,7 +1,5 @@
 """Where each server of a service is asked over HTTP."""
 
-from __future__ import annotations
-
 from dataclasses import dataclass
 
 from hsp.base.paths import path_in

@@ -1,7 +1,5 @@
 """The commands that bring a service in: `new`, `sites` and `demand`."""
 
-from __future__ import annotations
-
 import contextlib
 import os
 import re
@@ -23,14 +21,23 @@ from hsp.base.programs import Programs
 from hsp.base.text import give, is_utf8, say, show_progress
 from hsp.base.unfit import Unfit
 from hsp.intake import skeleton
-from hsp.intake.changing import Changed, limit, moved_lines, planned, remove, update
-from hsp.intake.busiest import busiest_hour, refuse_pipes
+from hsp.intake.joining import (
+    Changed,
+    block,
+    capacity_rows,
+    joined,
+    limit,
+    lines_of,
+    moved_lines,
+    planned,
+    read_back,
+    remove,
+    update,
+)
+from hsp.intake.hours import CYCLES, Chosen, Cycle, asked_by_hour, busiest_hour, chosen_of, refuse_pipes
 from hsp.intake.forms import NAMES as FORMS
 from hsp.intake.forms import Form, within
-from hsp.intake.hour_folders import folders_of, in_folders, tables_in, write_hours
-from hsp.intake.hour_tally import HourTally
-from hsp.intake.hours import CYCLES, Chosen, Cycle, asked_by_hour, chosen_of
-from hsp.intake.joining import block, capacity_rows, joined, lines_of, read_back
+from hsp.intake.hour_tally import HourTally, folders_of, in_folders, tables_in, write_hours
 from hsp.intake.lasting import clock_lines, lasting, twice_lines
 from hsp.intake.progress import Gauge, Progress
 from hsp.intake.queries import Judge, Reading
@@ -44,7 +51,6 @@ from hsp.plans.titles import SECONDS, TITLES, noted_time, seconds_of, uncounted
 from hsp.plans.service import NAMES, VALUES
 
 FOLDER = PathName(exists=True, file_okay=False)
-FILE = PathName(exists=True, dir_okay=False)
 Command = TypeVar("Command", bound=Callable[..., Any])
 
 
@@ -108,8 +114,7 @@ def change_sites(paths: tuple[str, ...], into: str, given: dict[str, Any]) -> No
         limit(changed, given["host"])
         notes = files.taken + [f"left out: {left}" for left in files.left]
         costs = f"plan  {planned(changed, False)} before, {planned(changed, True)} after"
-        for line in [*changed.lines, *moved_lines(changed), costs, *notes]:
-            say(line)
+        say(*changed.lines, *moved_lines(changed), costs, *notes)
         if given["no_save"]:
             say("nothing is written")
             return
@@ -164,16 +169,14 @@ def add_sites(paths: tuple[str, ...], into: str | None, names: tuple[str, ...], 
         for other in found:
             rows = "".join(f"# {site},{server},{room}\n" for site, server, room in capacity_rows(other, capacity))
             give(f"{block(other)}# its rows of capacity.csv:\n{rows}")
-        for line in notes:
-            say(line, err=True)
+        say(*notes, err=True)
         return
     with locked([into]):
         result = joined(into, found, capacity, programs)
         if result.added:
             replace_all(result.contents)
     notes += [f"left out: {known.file}: its record is in the settings already" for known in result.known]
-    for line in [line for added in result.added for line in lines_of(added)] + notes:
-        say(line)
+    say(*(line for added in result.added for line in lines_of(added)), *notes)
     if not result.added:
         say("nothing is added")
         return
@@ -184,7 +187,6 @@ def add_sites(paths: tuple[str, ...], into: str | None, names: tuple[str, ...], 
 
 
 def form_of(given: dict[str, Any]) -> Form:
-    """The form of the logs by the options."""
     if given["format"] in ("server", "proxy", "httplog"):
         refuse_fields(given["format"])
     refuse_time(given["by"])
@@ -229,7 +231,6 @@ class Moment(click.ParamType):
 
 
 def span_of(given: dict[str, Any]) -> Span:
-    """The span of time by the options."""
     first, last = given["first"], given["last"]
     span = Span(FIRST if first is None else first, LAST if last is None else last)
     if span.first >= span.last:
@@ -345,7 +346,6 @@ def stale_lines(folder: str | None, seconds: int) -> list[str]:
 
 
 def give_demand(own: Demand) -> None:
-    """Prints a demand."""
     for piece in own.pieces():
         give(piece)
 
@@ -378,7 +378,14 @@ def by_of(_: click.Context, __: click.Parameter, words: tuple[str, ...]) -> By:
 
 
 BY_FIELD = "continent.code"
-JOBS = "processes side by side; by default one a processor"
+# Options of several commands that count logs.
+REGIONS = click.option(
+    "--regions", metavar="FILE", type=ANY_FILE, required=True, help="a table network,region, or a MaxMind database"
+)
+INTO = click.option("--into", metavar="DIR", type=FOLDER, help="the folder whose demand.csv is written")
+OUTPUT = click.option("-o", "--output", metavar="FILE", type=ANY_FILE, help="the demand, in place of DIR/demand.csv")
+ONE_A_PROCESSOR = "processes side by side; by default one a processor"
+JOBS = click.option("--jobs", type=click.IntRange(1, MOST_JOBS), metavar="N", help=ONE_A_PROCESSOR)
 OF_DATABASE = click.option("--by", metavar="FIELD", default=BY_FIELD, show_default=True, help="of a MaxMind database")
 BY_HOURS = click.option(
     "--by",
@@ -472,20 +479,13 @@ def refuse_cycle(cycle: Cycle | None, kept: str | None, given: dict[str, Any]) -
 
 @click.command()
 @click.argument(
-    "logs",
-    metavar="LOG..",
-    nargs=-1,
-    required=True,
-    type=PathName(dir_okay=False, allow_dash=True),
-    callback=once,
+    "logs", metavar="LOG..", nargs=-1, required=True, type=PathName(dir_okay=False, allow_dash=True), callback=once
 )
-@click.option(
-    "--regions", metavar="FILE", type=ANY_FILE, required=True, help="a table network,region, or a MaxMind database"
-)
-@click.option("--into", metavar="DIR", type=FOLDER, help="the folder whose demand.csv is written")
-@click.option("-o", "--output", metavar="FILE", type=ANY_FILE, help="the demand, in place of DIR/demand.csv")
+@REGIONS
+@INTO
+@OUTPUT
 @click.option("--log", "kept", metavar="FILE", type=ANY_FILE, help="also the queries, as a log for hsplan dispatch")
-@click.option("--jobs", type=click.IntRange(1, MOST_JOBS), metavar="N", help=JOBS)
+@JOBS
 @click.option(
     "--percentile", metavar="P", type=PERCENTILE, help="of --by: what so many % of the days or weeks stay below"
 )
@@ -530,8 +530,4 @@ def demand(logs: tuple[str, ...], regions: str, into: str | None, kept: str | No
     lines += [*clock_lines(reading.times), *summary(logs, reading, tally, not given["prefix"])]
     lines += hours_lines(found, folders, output, own) if found else rows_lines(output, own)
     lines += stale_lines(own_folder, seconds)
-    for line in [*lines, *lacking]:
-        say(line, err=output is None)
-
-
-__all__ = ["demand", "new", "sites"]
+    say(*lines, *lacking, err=output is None)

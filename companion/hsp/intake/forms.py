@@ -1,7 +1,5 @@
 """The forms of access logs: from a line to the client's address and the handle that it asks for."""
 
-from __future__ import annotations
-
 import csv
 import functools
 import json
@@ -98,7 +96,7 @@ class Form:
 
     def handle_of_request(self, request: bytes) -> bytes | str:
         if b"\\" in request:
-            request = ESCAPED.sub(_unescaped, request)
+            request = ESCAPED.sub(lambda own: bytes([int(own[1], 16)]) if own[1] else own[2], request)
         match = REQUEST.fullmatch(request)
         if match:
             return self.handle_of_path(match[1])
@@ -213,9 +211,7 @@ class Form:
 
     def _field(self) -> tuple[str, Remembered]:
         """The name of the field with the handle or the path, and what its value gives."""
-        return (
-            (self.path, Remembered(self.handle_of_path)) if self.path else (self.handle, Remembered(self.handle_of))
-        )
+        return (self.path, Remembered(self.handle_of_path)) if self.path else (self.handle, Remembered(self.handle_of))
 
     def _of_table(self, first: bytes) -> Take:
         """Comma-separated values, a row in each line below a header."""
@@ -276,10 +272,6 @@ def as_others(request: bytes) -> bytes:
 def within(span: Span) -> Tag:
     """Has only the lines of a span of time counted, and doesn't tell them apart."""
     return lambda time: b"" if span.has(time.seconds) else OTHER_TIME
-
-
-def _unescaped(match: re.Match[bytes]) -> bytes:
-    return bytes([int(match[1], 16)]) if match[1] else match[2]
 
 
 def _row(line: bytes) -> list[str]:

@@ -1,19 +1,26 @@
 """Queries are counted by hour, region and handle, and become a demand of each hour.
 
-All of them have the same rows in the same order, with the count 0 where nothing came.
+All of them have the same rows in the same order, with the count 0 where nothing came. Each has a folder of its own.
 """
 
-from __future__ import annotations
-
+import contextlib
 import io
-from collections.abc import Callable, Iterable, Iterator, Mapping
+import os
+from collections.abc import Callable, Iterable, Iterator, Mapping, Sequence
+
+import click
 
 from hsp.base.bounds import BESIDE, MOST_HELD, Query
+from hsp.base.files import Outputs
 from hsp.base.grammar import MOST_DEMAND_ROWS
-from hsp.base.programs import Programs
-from hsp.intake.hours import Chosen
+from hsp.base.paths import path_in
+from hsp.base.programs import Missing, Programs
+from hsp.base.signals import uncut
+from hsp.intake.hours import Chosen, Cycle
 from hsp.intake.regions import tag_of
 from hsp.intake.tally import HEADER, MOST_PAIRS, Demand, Tally, most_first, rows_of
+from hsp.plans.service import NAMES
+from hsp.plans.titles import uncounted
 
 # So many rows of a log are passed on at once.
 AT_ONCE = 1 << 14
@@ -115,3 +122,49 @@ def _without_zeros(pieces: Iterable[bytes]) -> Iterator[bytes]:
     """The rows whose count isn't 0."""
     for piece in pieces:
         yield b"".join(row for row in io.BytesIO(piece) if not row.endswith(ZERO))
+
+
+def folders_of(into: str | None, cycle: Cycle | None) -> list[str]:
+    """The folders of the hours of a cycle. Refuses what can't be written there, before logs are read."""
+    if not cycle:
+        return []
+    if not into:
+        raise click.UsageError(f"--by {cycle.word} writes a table of each hour into a folder: give --into DIR")
+    folders = [path_in(into, name) for name in cycle.names]
+    for folder in folders:
+        if os.path.islink(folder) or os.path.lexists(folder) and not os.path.isdir(folder):
+            kind = "a link" if os.path.islink(folder) else "no folder"
+            raise Missing(f"{folder}: it is {kind}, and the table of an hour goes there; take it away")
+        uncounted(folder)
+    return folders
+
+
+def tables_in(folders: Sequence[str]) -> list[str]:
+    return [path_in(folder, NAMES["demand"]) for folder in folders]
+
+
+@contextlib.contextmanager
+def in_folders(folders: Sequence[str]) -> Iterator[None]:
+    """Makes the folders that aren't there, and takes them away again where what follows fails."""
+    made: list[str] = []
+    try:
+        for folder in folders:
+            with uncut(), contextlib.suppress(FileExistsError):
+                os.mkdir(folder)
+                made.append(folder)
+        yield
+    except BaseException:
+        for folder in made:
+            with contextlib.suppress(OSError):
+                os.rmdir(folder)
+        raise
+
+
+def write_hours(tally: HourTally, folders: Sequence[str], files: Outputs) -> None:
+    """Writes the demand of each hour, and the hsp.toml of its folder where that tells of another one."""
+    for hour, (folder, path) in enumerate(zip(folders, tables_in(folders))):
+        file = files.open(path, os.path.dirname(folder) or ".")
+        for piece in tally.table(hour):
+            file.write(piece)
+        for titles, octets in uncounted(folder).items():
+            files.open(titles, os.path.dirname(folder) or ".").write(octets)

@@ -1,7 +1,5 @@
 """How long the time is that logs are of, and by which clocks; and logs that begin as another one does."""
 
-from __future__ import annotations
-
 import os
 from collections.abc import Mapping, Sequence
 from typing import NamedTuple

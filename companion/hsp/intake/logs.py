@@ -1,8 +1,7 @@
 """The lines of a log, plain or packed, with their numbers: by themselves, or many in a block."""
 
-from __future__ import annotations
-
 import bz2
+import functools
 import gzip
 import io
 import itertools
@@ -95,19 +94,12 @@ class _Streams(io.RawIOBase):
         return len(octets)
 
 
-def _unpacked_xz(file: IO[bytes]) -> io.BufferedReader:
-    """In bounded memory, whatever the heads of the streams ask for."""
-    return io.BufferedReader(_Streams(file, lambda: lzma.LZMADecompressor(lzma.FORMAT_XZ, MOST_XZ)), BLOCK)
-
-
-def _unpacked_bzip2(file: IO[bytes]) -> io.BufferedReader:
-    return io.BufferedReader(_Streams(file, bz2.BZ2Decompressor), BLOCK)
-
-
+# How a packed file is unpacked; an xz file in bounded memory, whatever the heads of its streams ask for.
+XZ = functools.partial(lzma.LZMADecompressor, lzma.FORMAT_XZ, MOST_XZ)
 PACKED: dict[bytes, Callable[[IO[bytes]], Any]] = {
     b"\x1f\x8b": gzip.open,
-    b"BZh": _unpacked_bzip2,
-    b"\xfd7zXZ\x00": _unpacked_xz,
+    b"BZh": lambda file: io.BufferedReader(_Streams(file, bz2.BZ2Decompressor), BLOCK),
+    b"\xfd7zXZ\x00": lambda file: io.BufferedReader(_Streams(file, XZ), BLOCK),
 }
 
 

@@ -1,7 +1,5 @@
 """The prefixes of the handles of a log. A path of a proxy that is no handle, as `static/css`, has a rare one."""
 
-from __future__ import annotations
-
 from collections import Counter
 from collections.abc import Mapping
 

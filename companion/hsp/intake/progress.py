@@ -1,7 +1,5 @@
 """How far the reading of logs is, on a terminal: lines, how many a second, the part that is read, and when it ends."""
 
-from __future__ import annotations
-
 import os
 import stat
 import time

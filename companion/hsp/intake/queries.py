@@ -1,7 +1,5 @@
 """What the reading of logs needs: the form of each, and hsplan, which judges every handle."""
 
-from __future__ import annotations
-
 import itertools
 import re
 from collections.abc import Callable, Iterable
@@ -145,7 +143,6 @@ def clock_of(path: str, form: Form, line: bytes) -> Clock:
 
 
 def first_time(path: str, reading: Reading) -> Time | None:
-    """The first time in a log."""
     lines = numbered(path, Skipped())
     first = list(itertools.islice(lines, SEEN_FIRST))
     if not first:

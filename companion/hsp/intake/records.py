@@ -1,7 +1,5 @@
 """The record of a site (HS_SITE data) from its fields, in the order and the widths in which hsplan reads it."""
 
-from __future__ import annotations
-
 from dataclasses import dataclass
 
 OPTIONS = ("naming authority", "local name", "whole handle")
@@ -64,18 +62,9 @@ class SiteRecord:
 
     def fields(self) -> str:
         """What `hsplan site` has to print of this record."""
-        lines = [
-            f"version {self.version}",
-            f"protocol {self.protocol[0]} {self.protocol[1]}",
-            f"serial {self.serial}",
-            f"mask {self.mask}",
-            f"option {self.option}",
-            f"filter {len(self.filter)}",
-            f"attributes {len(self.attributes)}",
-            f"servers {len(self.servers)}",
-        ]
-        for place, server in enumerate(self.servers):
-            lines.append(
-                f"server {place} {server.id} {server.address.hex()} {len(server.key)} {len(server.interfaces)}"
-            )
+        lines = [f"version {self.version}", f"protocol {self.protocol[0]} {self.protocol[1]}"]
+        lines += [f"serial {self.serial}", f"mask {self.mask}", f"option {self.option}", f"filter {len(self.filter)}"]
+        lines += [f"attributes {len(self.attributes)}", f"servers {len(self.servers)}"]
+        for place, own in enumerate(self.servers):
+            lines.append(f"server {place} {own.id} {own.address.hex()} {len(own.key)} {len(own.interfaces)}")
         return "".join(f"{line}\n" for line in lines)

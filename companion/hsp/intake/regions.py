@@ -1,8 +1,6 @@
 """From a client's address to its region: by a table of networks, of which the longest prefix counts, or by a MaxMind
 database."""
 
-from __future__ import annotations
-
 import csv
 import importlib
 import io
@@ -82,8 +80,6 @@ def ranges(networks: Iterable[Network], bits: int) -> tuple[list[int], list[byte
 
 
 class Networks:
-    """A table of networks."""
-
     def __init__(self, path: str, octets: bytes, elsewhere: bytes | None) -> None:
         self.elsewhere = elsewhere
         # The regions, each with the line of its first network.

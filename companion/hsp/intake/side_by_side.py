@@ -4,8 +4,6 @@ A process takes the next piece as soon as it has passed on the last one. It wait
 wanted.
 """
 
-from __future__ import annotations
-
 import contextlib
 import gc
 import itertools

@@ -3,8 +3,6 @@
 hsplan judges every record. A record that was made of JSON has to come back from it as it was.
 """
 
-from __future__ import annotations
-
 import binascii
 import itertools
 import json
@@ -57,7 +55,6 @@ class Files:
         self._names: set[str] = set()
 
     def read(self, path: str, octets: bytes) -> list[Found]:
-        """The sites in the octets of a file."""
         notes = Notes(path)
         try:
             found = list(self._sites(notes, octets))

@@ -63,7 +63,6 @@ class Part:
         }
 
     def below(self, key: str) -> str:
-        """The path of a field."""
         return f"{self.path}.{key}".lstrip(".")
 
     def items(self) -> Iterator[Part]:
@@ -199,7 +198,6 @@ def attribute_of(part: Part) -> tuple[bytes, bytes]:
 
 
 def record_of(part: Part) -> SiteRecord:
-    """The record of a site in JSON."""
     said = part.fields(*SITE_FIELDS)
     if "servers" not in said or said["servers"].value == []:
         raise part.unfit("no servers")

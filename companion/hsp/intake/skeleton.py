@@ -1,7 +1,5 @@
 """The files of a new service: empty ones that say what goes into them, or those of a small example."""
 
-from __future__ import annotations
-
 import ipaddress
 from collections.abc import Sequence
 from importlib.resources import files

@@ -1,7 +1,5 @@
 """Queries are counted by region and handle, and become a demand: a table, or a log where no table holds it."""
 
-from __future__ import annotations
-
 import csv
 import itertools
 import re
@@ -18,10 +16,7 @@ from hsp.intake.queries import field_of
 from hsp.plans.service import table
 
 HEADER = f"{HEADERS['demand']}\n".encode()
-REMEDIES = {
-    "BadName": NAME_RULE,
-    "TooManyRegions": f"join networks to at most {MOST_LOG_REGIONS:,} regions",
-}
+REMEDIES = {"BadName": NAME_RULE, "TooManyRegions": f"join networks to at most {MOST_LOG_REGIONS:,} regions"}
 # So many pairs are counted in memory, before they are put into a file.
 MOST_PAIRS = 1 << 20
 # So many octets of a log are written at once.
@@ -32,7 +27,6 @@ LARGE_ROW = f"a row has more than {GREATEST_COUNT:,} queries"
 
 
 def rows_of(counts: Iterable[tuple[Query, int]]) -> Iterator[bytes]:
-    """The rows of a demand."""
     for (region, handle), count in counts:
         yield b"%b,%b,%d\n" % (field_of(region), field_of(handle), count)
 
@@ -166,7 +160,6 @@ def _remedy(line: str) -> str:
 
 
 def _blocks(path: str) -> Iterator[bytes]:
-    """A file in blocks."""
     with open(path, "rb") as file:
         while block := file.read(BLOCK):
             yield block

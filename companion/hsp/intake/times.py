@@ -1,7 +1,5 @@
 """Times of log lines, in seconds since 1970. The offset of a line counts; a time without one is UTC."""
 
-from __future__ import annotations
-
 import datetime
 import functools
 import math

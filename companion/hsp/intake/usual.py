@@ -3,8 +3,6 @@
 That is found for all queries of a region in an hour. The rows of the region share it as all days or weeks had them.
 """
 
-from __future__ import annotations
-
 import functools
 import math
 from collections import Counter

@@ -1,7 +1,5 @@
 """The command `hsp capacity`."""
 
-from __future__ import annotations
-
 import os
 import re
 from collections import defaultdict
@@ -223,9 +221,7 @@ def is_number(said: Said) -> bool:
 @click.option(
     "--below", type=click.FloatRange(0, min_open=True), metavar="MS", help="of load tests: an acceptable time"
 )
-@click.option(
-    "--share", metavar="P", type=PERCENTILE, default="99", show_default=True, help="so many % stay below it"
-)
+@click.option("--share", metavar="P", type=PERCENTILE, default="99", show_default=True, help="so many % stay below it")
 @SITE
 @click.option("--regex", metavar="PATTERN", help="of other lines: (?P<server>..), (?P<seconds>..), (?P<time>..)")
 @DURATION
@@ -249,5 +245,4 @@ def capacity(said: tuple[Said, ...], into: str, **given: Any) -> None:
         found = Found(bare, given["seconds"] or seconds_of(into), known)
         fill(found, said, given, ends, reading)
         last = bare.write("capacity", found.text(), {SECONDS: given["seconds"]} if given["seconds"] else {})
-    for line in [*found.lines(), *reading.lines(), last]:
-        say(line)
+    say(*found.lines(), *reading.lines(), last)

@@ -1,8 +1,6 @@
 """A table of costs that were measured: a figure for each region and site, what stands behind it, and guesses by
 distance, as far as light comes in glass."""
 
-from __future__ import annotations
-
 import functools
 import math
 from collections import Counter

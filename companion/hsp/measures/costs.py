@@ -1,7 +1,5 @@
 """The command `hsp costs`."""
 
-from __future__ import annotations
-
 from collections.abc import Sequence
 from typing import Any
 
@@ -35,7 +33,6 @@ def of_source(source: Source, timed: Timed) -> Timed:
 
 
 def gather(sources: Sequence[Source], reading: Reading, ends: Ends, found: CostTable) -> None:
-    """Adds the times of all sources to a table."""
     for source in sources:
         for timed in reading.times(source.path):
             own = of_source(source, timed)
@@ -82,9 +79,7 @@ def with_sites(sources: Sequence[Source], sites: Sequence[str]) -> list[Source]:
 @OF_DATABASE
 @click.option("--elsewhere", metavar="REGION", help="of clients that have no region")
 @SITE
-@click.option(
-    "--percentile", metavar="P", type=PERCENTILE, default="50", show_default=True, help="the figure of many"
-)
+@click.option("--percentile", metavar="P", type=PERCENTILE, default="50", show_default=True, help="the figure of many")
 @click.option("--by-distance", "places", metavar="PLACES", type=PathName(), help="guess what isn't measured")
 @click.option("--regex", metavar="PATTERN", help="of other lines: (?P<address>..), (?P<server>..), (?P<seconds>..)")
 @DURATION
@@ -117,5 +112,4 @@ def costs(sources: tuple[Source, ...], into: str, regions: str | None, **given: 
         gather(own_sources, reading, ends, found)
         refuse_unfit(found, bare, reading)
         last = bare.write("costs", found.text(), {COST: UNIT})
-    for line in [*found.lines(), *reading.lines(), last]:
-        say(line)
+    say(*found.lines(), *reading.lines(), last)

@@ -1,7 +1,5 @@
 """Which region and which servers the words of a source mean."""
 
-from __future__ import annotations
-
 import functools
 import re
 from collections import defaultdict

@@ -1,7 +1,5 @@
 """What is there already in a folder for which costs and capacities are measured."""
 
-from __future__ import annotations
-
 import csv
 import json
 import os

@@ -5,8 +5,6 @@ Fitted is the logarithm of the middle time of each second. The line is compared 
 other rates, by how likely each makes what was measured.
 """
 
-from __future__ import annotations
-
 import math
 import statistics
 from collections.abc import Mapping, Sequence

@@ -1,7 +1,5 @@
 """What load tests report: how many answers a second there were, and how many of them came within a time."""
 
-from __future__ import annotations
-
 import math
 import re
 from typing import Any, NamedTuple

@@ -1,7 +1,5 @@
 """Sources of measured times: which region and site each is of, the form of each, and its times."""
 
-from __future__ import annotations
-
 import itertools
 import json
 import os
@@ -19,8 +17,7 @@ from hsp.intake.forms import Form, fits
 from hsp.intake.logs import Skipped, blocks, numbered
 from hsp.intake.queries import SEEN_FIRST
 from hsp.measures.load_tests import is_h2load, of_h2load_log
-from hsp.measures.logs import of_log
-from hsp.measures.pings import is_fping, of_atlas, of_fping, of_smokeping
+from hsp.measures.logs import is_fping, of_atlas, of_fping, of_log, of_smokeping
 from hsp.measures.timed import UNITS, Take, Timed, of_object, of_pattern, of_table
 
 SPEC = re.compile(r"([A-Za-z0-9_.-]*)(:[A-Za-z0-9_.-]*)?=(.+)", re.DOTALL)

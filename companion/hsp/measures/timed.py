@@ -3,8 +3,6 @@
 A reader takes a line, or an object of JSON, and gives its times, or the reasons why it has none.
 """
 
-from __future__ import annotations
-
 import csv
 import math
 import re
@@ -76,7 +74,6 @@ def times_of(words: Iterable[str], known: Timed, unit: float = 1.0) -> Iterator[
 
 
 def of_fields(fields: Mapping[str, str]) -> Found:
-    """The time in fields by their names."""
     time, client, server, moment = (
         next((name for name in names if name in fields), "") for names in (TIMES, CLIENTS, SERVERS, MOMENTS)
     )

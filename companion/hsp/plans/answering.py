@@ -1,10 +1,9 @@
 """How a log is answered by a plan that is kept, and what is kept beside a plan with a reserve or a bound of costs."""
 
-from __future__ import annotations
-
 import os
 import shlex
 
+from hsp.base.bounds import octets_of
 from hsp.base.numbers import percent_exactly
 from hsp.base.paths import named, path_in
 from hsp.base.programs import Inputs
@@ -47,8 +46,7 @@ def kept_beside(service: Service, plan: str) -> tuple[Inputs, dict[str, bytes]]:
     for role in roles:
         path, beside = getattr(service.inputs, role), path_in(os.path.dirname(plan), KEPT[role])
         if path != getattr(service.own_inputs, role):
-            with open(path, "rb") as file:
-                contents[beside] = file.read()
+            contents[beside] = octets_of(path)
             chosen = chosen.but(**{role: beside})
     return chosen, contents
 

@@ -1,7 +1,5 @@
 """Pictures of what-if cases, as SVG that reads in light and dark."""
 
-from __future__ import annotations
-
 from html import escape
 
 from hsp.base.numbers import queries_of, signed

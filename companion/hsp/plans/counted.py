@@ -1,7 +1,5 @@
 """A demand that no table holds: a log with counts, of any number of rows. Its sums are taken in one pass."""
 
-from __future__ import annotations
-
 import csv
 import io
 import itertools
@@ -100,7 +98,6 @@ def rows_of(path: str) -> Iterator[list[Asked]]:
 
 
 def counted_in(path: str) -> Counted:
-    """The sums of a log."""
     number, sums = 0, Counter[bytes]()
     for rows in rows_of(path):
         number += len(rows)
@@ -110,7 +107,6 @@ def counted_in(path: str) -> Counted:
 
 
 def row_text(row: Asked) -> bytes:
-    """A row as a log has it."""
     return b"%b,%b,%d\n" % row
 
 
@@ -139,6 +135,3 @@ def times(number: int, factor: Fraction) -> int:
 def examples(rows: Iterable[Asked]) -> list[bytes]:
     """The handles of some rows, each once."""
     return list(dict.fromkeys(row.handle for row in rows))
-
-
-__all__ = ["Asked", "Counted", "counted_in", "examples", "grown", "is_log", "rows_of", "times"]

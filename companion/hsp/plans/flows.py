@@ -4,8 +4,6 @@ hsplan-stream says the servers of each handle, the prices and the classes. What 
 reports say of servers.
 """
 
-from __future__ import annotations
-
 from collections import Counter
 from collections.abc import Iterable
 from dataclasses import dataclass, field
@@ -115,9 +113,5 @@ def loads_of(service: Service, classes: Iterable[Class]) -> list[int]:
 
 
 def servers_of(service: Service) -> list[Server]:
-    """The servers of a shortage by prices."""
     assert isinstance(service.certificate, Prices)
     return [service.servers[number] for number in service.certificate.servers]
-
-
-__all__ = ["Flows", "beside_of", "classes_of", "flows_of", "loads_of", "servers_of", "shares_of"]

@@ -4,8 +4,6 @@ What is planned of it has the cost and the loads of a plan of the log. A plan th
 itself, by hsplan-stream.
 """
 
-from __future__ import annotations
-
 from collections.abc import Iterable, Iterator
 
 from hsp.base.grammar import HEADERS
@@ -57,6 +55,3 @@ def _log(programs: Programs, rows: Iterable[Asked]) -> str:
     path = programs.put(f"{HEADERS['demand']}\n", ".csv")
     programs.add(path, map(row_text, rows))
     return path
-
-
-__all__ = ["Kind", "Placed", "joined", "placed"]

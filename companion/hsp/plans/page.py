@@ -4,8 +4,10 @@ drawn number stands beside it as text."""
 from __future__ import annotations
 
 import base64
+import datetime
 import functools
 import hashlib
+import os
 from collections.abc import Iterable, Mapping
 from dataclasses import dataclass, field
 from typing import TYPE_CHECKING
@@ -14,12 +16,50 @@ from hsp import __version__
 from hsp.base.grammar import MOST_DEMAND_ROWS
 from hsp.base.numbers import average, listed, percent, queries_of, signed, some
 from hsp.base.paths import shell_word
+from hsp.base.programs import Inputs
 from hsp.base.text import escaped
 from hsp.plans.counted import rows_of as rows_of_log
 from hsp.plans.flows import beside_of
 from hsp.plans.plans import Gain, Host, Planned, Reference, Shortage, above, above_limits, by_shares, to_buy
 from hsp.plans.service import Row, Server, Service, dotted
-from hsp.plans.sources import Source, now, sum_of
+from hsp.plans.titles import TITLES
+
+
+EPOCH = "SOURCE_DATE_EPOCH"
+
+
+@dataclass(frozen=True)
+class Source:
+    """A file by its name, with the SHA-256 of its octets."""
+
+    name: str
+    sum: str
+
+
+def now() -> str:
+    """The present time; where SOURCE_DATE_EPOCH is set, that time, so that a page can be made again."""
+    said = os.environ.get(EPOCH, "")
+    moment = datetime.datetime.now(datetime.UTC)
+    if said.isascii() and said.isdigit():
+        moment = datetime.datetime.fromtimestamp(int(said), datetime.UTC)
+    return f"{moment.day} {moment:%B %Y, %H:%M} UTC"
+
+
+def sum_of(path: str) -> str:
+    with open(path, "rb") as file:
+        return hashlib.file_digest(file, "sha256").hexdigest()
+
+
+def sources_of(folder: str, inputs: Inputs) -> list[Source]:
+    """The files of a plan, and the titles where the folder has them."""
+    titles = os.path.join(folder, TITLES)
+    paths = [inputs.settings, inputs.values, inputs.demand, inputs.costs, inputs.capacity]
+    found = []
+    for path in [*paths, titles if os.path.isfile(titles) else None]:
+        if path:
+            found.append(Source(os.path.basename(path), sum_of(path)))
+    return found
+
 
 if TYPE_CHECKING:
     import jinja2
@@ -36,8 +76,6 @@ BOUGHT_SHOWN = 6
 
 @dataclass
 class ServerView:
-    """A server of the page."""
-
     site: int
     id: int
     label: str
@@ -105,8 +143,6 @@ class FactTable:
 
 @dataclass
 class View:
-    """All that the page shows."""
-
     service: Service
     plan: Planned | None
     reference: Reference | None
@@ -232,30 +268,21 @@ def changes_between(old: Service, new: Service) -> list[str]:
     said = _changed("capacity of {} {}", _texts(old.capacities), _texts(new.capacities))
     said += _changed("cost {} to {}", _texts(old.costs), _texts(new.costs))
     if old.log or new.log:
-        is_other = _octets_of(old) != _octets_of(new) and _asked_in(old) != _asked_in(new)
+        sums = [sum_of(service.inputs.demand) for service in (old, new)]  # a log is long
+        is_other = sums[0] != sums[1] and _asked_in(old) != _asked_in(new)
         said += [f"demand: {old.asked:,} → {new.asked:,} queries"] if is_other else []
         return said + _changed("limit of {}{}", _limits(old), _limits(new))
-    rows = [_counts(service) for service in (old, new)]
+    rows = [{(row.region, row.handle): row.count for row in service.rows} for service in (old, new)]
     other = sum(rows[0].get(key) != rows[1].get(key) for key in {*rows[0], *rows[1]})
     if other:
         said.append(f"demand: {some(other, 'row')}, {old.asked:,} → {new.asked:,} queries")
     return said + _changed("limit of {}{}", _limits(old), _limits(new))
 
 
-def _octets_of(service: Service) -> str:
-    """The sum of a demand's octets: a log is too long to be compared row by row."""
-    return sum_of(service.inputs.demand)
-
-
 def _asked_in(service: Service) -> int:
     """A sum of a demand that the order of its rows doesn't change, nor how they are split."""
     rows = (row for rows in rows_of_log(service.inputs.demand) for row in rows)
     return sum(hash((row.region, row.handle)) * row.queries for row in rows)
-
-
-def _counts(service: Service) -> dict[tuple[str, str], int]:
-    """How often each region asks for each handle."""
-    return {(row.region, row.handle): row.count for row in service.rows}
 
 
 def _texts(table: Mapping[tuple[str, str], int] | Mapping[tuple[str, int], int]) -> dict[tuple[str, str], int]:
@@ -314,23 +341,20 @@ def environment() -> jinja2.Environment:
 
 
 def render(view: View) -> str:
-    """The text of the page."""
     plan, names = view.plan, [site.name for site in view.service.sites]
     shown: dict[str, object] = {
         "view": view,
         "service": view.service,
         "plan": plan,
         "reference": view.reference,
-        "unit": f" {view.service.titles.cost}" if view.service.titles.cost else "",
+        "unit": view.service.unit,
         "where": f"hsp where {shell_word(view.service.folder)}",
         "names": names,
         "bought_shown": BOUGHT_SHOWN,
         "to_buy": to_buy(view.service, view.bought),
         "lacking": lacking(view.short) if view.short else [],
         "least": {
-            region: min(
-                (view.service.costs[region, names[at]] for at in view.service.sites_for(region)), default=None
-            )
+            region: min((view.service.costs[region, names[at]] for at in view.service.sites_for(region)), default=None)
             for region in view.service.regions
         },
     }
@@ -349,7 +373,6 @@ def left_alone(view: View, plan: Planned) -> str:
 
 
 def plan_shown(view: View, plan: Planned) -> dict[str, object]:
-    """What the page shows of a plan."""
     servers, regions, rows = servers_of(view, plan), regions_of(view, plan), rows_of(plan)
     top = max([1, *(max(server.capacity, server.load) for server in servers)])
     widest = min(max([top, *(server.before for server in servers)]), int(top * 1.3))

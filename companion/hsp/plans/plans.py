@@ -1,8 +1,7 @@
 """What a plan comes to: loads, shares, what room saves, and what would have to be bought. Each number is a plan's of
 hsplan, or a sum of its uses that is compared with its reports."""
 
-from __future__ import annotations
-
+import json
 import os
 from collections import Counter
 from collections.abc import Callable, Iterable, Mapping, Sequence
@@ -14,11 +13,10 @@ from typing import Any
 from hsp.base.grammar import GREATEST_COST, HEADERS, MOST_SERVERS, MOST_SITES
 from hsp.base.numbers import some
 from hsp.base.programs import BOUNDLESS, Bound, Certificate, Class, Inputs, Missing, Programs
-from hsp.base.settings import hosts_text, settings_text
 from hsp.plans.flows import classes_of, flows_of, loads_of, servers_of
 from hsp.plans.flows import shares_of as shares_of_classes
 from hsp.plans.joined import joined
-from hsp.plans.service import Row, Server, Service, dotted
+from hsp.plans.service import Row, Server, Service, asked_by, dotted
 
 # At most so many full servers are asked what room there saves, those with the greatest prices.
 MOST_GAINS = 40
@@ -126,6 +124,26 @@ def capacity_file(programs: Programs, capacities: dict[tuple[str, int], int]) ->
     return programs.put_table(HEADERS["capacity"], ((site, at, room) for (site, at), room in capacities.items()))
 
 
+def costs_file(programs: Programs, costs: Mapping[tuple[str, str], int]) -> str:
+    return programs.put_table(HEADERS["costs"], ((region, site, cost) for (region, site), cost in costs.items()))
+
+
+def _sites_text(settings: Mapping[str, Any], prefix: str = "") -> str:
+    """The blocks of the settings' sites, with a prefix before their names."""
+    lines = []
+    for site in settings.get("site", []):
+        source = f"record = {json.dumps(site['record'])}" if "record" in site else f"index = {site['index']}"
+        lines.append(f"[[site]]\nname = {json.dumps(prefix + site['name'])}\n{source}\n")
+    return "".join(lines)
+
+
+def settings_file(programs: Programs, settings: Mapping[str, Any], *hosts: Mapping[str, Any], twins: str = "") -> str:
+    """Settings in the form that hsplan reads: their sites, and twins of these by a prefix, with some hosts."""
+    blocks = [f'[[host]]\naddress = "{host["address"]}"\nlimit = {host["limit"]}\n' for host in hosts]
+    sites = _sites_text(settings) + (_sites_text(settings, twins) if twins else "")
+    return programs.put("".join([sites, *blocks]), ".toml")
+
+
 def _shares(service: Service, certificate: Certificate) -> Shares:
     """How many queries each region sends to each site."""
     shares: Counter[tuple[str, int]] = Counter()
@@ -202,7 +220,7 @@ def _priced(service: Service, programs: Programs) -> Planned:
 def cheapest(service: Service, programs: Programs) -> Reference | None:
     """Where all queries go to their cheapest site: the plan without any limit. None where a region has no site."""
     everywhere = {key: BOUNDLESS for key in service.capacities}
-    settings = programs.put(settings_text(service.settings), ".toml")
+    settings = settings_file(programs, service.settings)
     inputs = joined(service, programs).but(settings=settings, capacity=capacity_file(programs, everywhere))
     certificate, plan = programs.plan(inputs)
     if not certificate.is_plan:
@@ -235,8 +253,7 @@ def _with_one(programs: Programs, plan: Planned, host: Host) -> Host:
         return host
     service, own = plan.service, plan.service.settings
     hosts = [{**it, "limit": it["limit"] + (dotted(it["address"]) == host.address)} for it in own["host"]]
-    settings = programs.put(settings_text(own) + hosts_text({"host": hosts}), ".toml")
-    more, _ = programs.plan(joined(service, programs).but(settings=settings))
+    more, _ = programs.plan(joined(service, programs).but(settings=settings_file(programs, own, *hosts)))
     return replace(host, one=plan.cost - more.cost)
 
 
@@ -269,14 +286,9 @@ def reached_by(short: Service, programs: Programs) -> list[Server]:
 
 def shortage(service: Service, programs: Programs) -> Shortage:
     """Who lacks what, and the servers that these rows may use."""
-    certificate, rows, servers = service.certificate, list[Row](), reached_by(service, programs)
-    asked: Counter[str] = Counter()
-    if service.log:
-        asked = flows_of(service, programs).caught
-    else:
-        rows = [service.rows[number] for number in certificate.rows]
-        for row in rows:
-            asked[row.region] += row.count
+    certificate, servers = service.certificate, reached_by(service, programs)
+    rows = [] if service.log else [service.rows[number] for number in certificate.rows]
+    asked = flows_of(service, programs).caught if service.log else asked_by(rows)
     if sum(asked.values()) != certificate.demand:
         raise Missing(DIFFERS.format("the shortage"))
     stranded = sorted(region for region in asked if asked[region] and not service.sites_for(region))
@@ -287,14 +299,13 @@ def _twinned(
     service: Service, programs: Programs, cost: Callable[[int], int], dear: int
 ) -> tuple[Certificate, Counter[Server]]:
     """A plan where each site has a twin without limits, at a cost that is `dear` higher, and the loads of twins."""
-    sites = settings_text(service.settings) + settings_text(service.settings, "hsp-twin-")
-    rows: list[tuple[str, str, int]] = []
+    settings, rows = service.settings, list[tuple[str, str, int]]()
     for (region, site), price in service.costs.items():
         rows += [(region, site, cost(price)), (region, f"hsp-twin-{site}", cost(price) + dear)]
     room = dict(service.capacities)
     room.update({(f"hsp-twin-{site}", at): BOUNDLESS for site, at in service.capacities})
     inputs = joined(service, programs).but(
-        settings=programs.put(sites + hosts_text(service.settings), ".toml"),
+        settings=settings_file(programs, settings, *settings.get("host", []), twins="hsp-twin-"),
         costs=programs.put_table(HEADERS["costs"], rows),
         capacity=capacity_file(programs, room),
     )

@@ -1,7 +1,5 @@
 """How a service is proxied: the table `[proxy]` of hsp.toml."""
 
-from __future__ import annotations
-
 import ipaddress
 import re
 from dataclasses import dataclass, field, replace
@@ -102,7 +100,6 @@ def is_address(text: str) -> bool:
 
 
 def _place(text: str) -> tuple[str, int]:
-    """The host and the port of an address to listen at."""
     match = ADDRESS.fullmatch(text)
     assert match
     host = (match[1] or "*").strip("[]").lower()

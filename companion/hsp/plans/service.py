@@ -1,7 +1,5 @@
 """A service: the files of a folder, and what hsplan says they hold."""
 
-from __future__ import annotations
-
 import csv
 import difflib
 import functools
@@ -10,6 +8,7 @@ import ipaddress
 import os
 import re
 import tomllib
+from collections import Counter
 from collections.abc import Iterable
 from dataclasses import dataclass, field
 from fractions import Fraction
@@ -48,6 +47,11 @@ class Server:
     def label(self) -> str:
         return f"{self.site} {self.id}"
 
+    @property
+    def said(self) -> dict[str, Any]:
+        """It as JSON names it."""
+        return {"site": self.site, "server_id": self.id}
+
 
 @dataclass(frozen=True)
 class Site:
@@ -65,6 +69,13 @@ class Row:
     region: str
     handle: str
     count: int
+
+
+def asked_by(rows: Iterable[Row]) -> Counter[str]:
+    counts: Counter[str] = Counter()
+    for row in rows:
+        counts[row.region] += row.count
+    return counts
 
 
 @dataclass(frozen=True)
@@ -104,13 +115,17 @@ class Service:
     within: int | None = None
 
     @property
+    def unit(self) -> str:
+        """The unit of costs behind a blank, where there is one."""
+        return f" {self.titles.cost}" if self.titles.cost else ""
+
+    @property
     def own_inputs(self) -> Inputs:
         """The inputs as they were given, with what is kept back and with costs that are too high."""
         return self.given or self.inputs
 
     @property
     def kept_back(self) -> str:
-        """What is kept back, in words."""
         is_small = Fraction(1, 10_000) <= self.reserve < Fraction(1, 100)  # 0.15 is seldom meant as 0.15%
         beside = f" (not {percent_exactly(100 * self.reserve)})" if is_small else ""
         return f"{percent_exactly(self.reserve)}{beside} of each capacity kept back" if self.reserve else ""
@@ -118,8 +133,7 @@ class Service:
     @property
     def limits(self) -> list[str]:
         """What is kept back, and what a query may cost, in words."""
-        unit = f" {self.titles.cost}" if self.titles.cost else ""
-        within = [] if self.within is None else [f"no query costs more than {self.within:,}{unit}"]
+        within = [] if self.within is None else [f"no query costs more than {self.within:,}{self.unit}"]
         return [*([self.kept_back] if self.reserve else []), *within]
 
     @property
@@ -129,7 +143,6 @@ class Service:
 
     @property
     def is_empty(self) -> bool:
-        """Whether the demand has no row."""
         return not self.rows and not self.log
 
     @property
@@ -147,19 +160,22 @@ class Service:
         text = table_text("", ((row.region, row.handle, "") for row in self.rows))
         return text.split("\n")[1:-1]
 
+    @functools.cached_property
+    def by_region(self) -> dict[str, int]:
+        """How many queries there are of each region, in the order of their rows."""
+        return self.log.regions if self.log else asked_by(self.rows)
+
     @property
     def regions(self) -> list[str]:
-        return list(self.log.regions) if self.log else list(dict.fromkeys(row.region for row in self.rows))
+        return list(self.by_region)
 
     @property
     def handles(self) -> int:
-        """How many handles there are."""
         return len({row.handle for row in self.rows})
 
     @property
     def asked(self) -> int:
-        """How many queries there are."""
-        return sum(self.log.regions.values()) if self.log else sum(row.count for row in self.rows)
+        return sum(self.by_region.values())
 
     def capacity(self, server: Server) -> int:
         return self.capacities[server.site, server.id]
@@ -170,7 +186,6 @@ class Service:
         return at.servers[self.places[handle, at.name]]
 
     def sites_for(self, region: str) -> list[int]:
-        """The numbers of the sites that a region may use."""
         return [at for at, site in enumerate(self.sites) if (region, site.name) in self.costs]
 
     def kind(self, row: Row) -> tuple[tuple[str, int], ...]:
@@ -320,25 +335,3 @@ def service_of(folder: str, programs: Programs, inputs: Inputs, titles: Titles) 
         {} if inputs.is_log else programs.places(inputs, dict.fromkeys(row.handle for row in rows)),
         counted_in(inputs.demand) if inputs.is_log else None,
     )
-
-
-__all__ = [
-    "Refused",
-    "Row",
-    "Server",
-    "Service",
-    "Site",
-    "Titles",
-    "dotted",
-    "OF_DAY",
-    "OF_WEEK",
-    "inputs_in",
-    "is_of_hour",
-    "newer_than",
-    "read_service",
-    "service_of",
-    "site_of",
-    "sites_of",
-    "table",
-    "titles_in",
-]

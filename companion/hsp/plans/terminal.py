@@ -1,7 +1,5 @@
 """What the terminal shows of a plan. Colour is only for a terminal; a pipe gets the same words without it."""
 
-from __future__ import annotations
-
 from collections import Counter
 from collections.abc import Iterator, Mapping
 
@@ -26,10 +24,6 @@ def head(service: Service) -> str:
     return bold(service.titles.title) + dim(f"  {', '.join(sizes)}{time}")
 
 
-def _unit(service: Service) -> str:
-    return f" {service.titles.cost}" if service.titles.cost else ""
-
-
 def _verdict(plan: Planned, reference: Reference) -> str:
     count, queries = above(plan.service, reference.loads)
     hosts = above_limits(plan.hosts, reference.loads)
@@ -39,13 +33,13 @@ def _verdict(plan: Planned, reference: Reference) -> str:
     share = 100 * extra / max(1, reference.cost)
     words = "<0.1%" if 0 < share < 0.05 else f"{share:.1f}%"
     too_many = f"{some(count, 'server')} would get {queries_of(queries)} too many" if count else ""
-    kept = f"keeping to {'limits' if hosts else 'capacity'} costs {extra:,}{_unit(plan.service)} ({words})"
+    kept = f"keeping to {'limits' if hosts else 'capacity'} costs {extra:,}{plan.service.unit} ({words})"
     return f"left alone, {too_full(too_many, hosts)}; {kept}"
 
 
 def plan_lines(plan: Planned, reference: Reference | None, every: bool) -> Iterator[str]:
     """The verdict, the cost, the full servers with what room there saves, machines, and where regions go."""
-    service, unit = plan.service, _unit(plan.service)
+    service, unit = plan.service, plan.service.unit
     if reference:
         yield f"{colored('fits', 'green')}  {_verdict(plan, reference)}"
     beside = f"; {average(reference.cost, reference.asked)} {reference.words}" if reference else ""
@@ -61,7 +55,7 @@ def plan_lines(plan: Planned, reference: Reference | None, every: bool) -> Itera
 
 def full_lines(plan: Planned, every: bool) -> Iterator[str]:
     """The full servers at which room saves something."""
-    unit = _unit(plan.service)
+    unit = plan.service.unit
     worth = [gain for gain in plan.gains if gain.all > 0]
     full, idle = len(plan.full), len(plan.full) - len(worth)
     words = f"full  {full} of {some(len(plan.service.servers), 'server')}"
@@ -108,7 +102,7 @@ def region_lines(plan: Planned, reference: Reference | None, every: bool) -> Ite
 
 
 def shortage_lines(
-    service: Service, short: Shortage, bought: dict[Server, int] | None, after: Service | None
+    service: Service, short: Shortage, bought: dict[Server, int] | None = None, after: Service | None = None
 ) -> Iterator[str]:
     """How many queries cannot be served, who asks them, where room lacks, and what has to be bought."""
     lack = bold(queries_of(short.lack))
@@ -122,7 +116,7 @@ def shortage_lines(
         if service.within is None:
             yield f"why   {why}: give costs, or mend the name"
         else:
-            yield f"why   {listed(short.stranded)} {verb} no site within {service.within:,}{_unit(service)}"
+            yield f"why   {listed(short.stranded)} {verb} no site within {service.within:,}{service.unit}"
     yield f"who   {_who(service, short)}"
     if service.within is not None and not service.log:
         most = sorted(short.regions.items(), key=lambda pair: -pair[1])
@@ -176,9 +170,6 @@ def purchase_lines(
     whole = bold(f"room for {queries_of(sum(bought.values()))} more")
     cost = after.certificate.cost
     each = f"{average(cost, service.asked)} a query"
-    yield f"buy   {whole}, the least that suffices; then the cost is {cost:,}{_unit(service)}, {each}"
+    yield f"buy   {whole}, the least that suffices; then the cost is {cost:,}{service.unit}, {each}"
     yield from bought_lines(service, bought)
     yield from reserve_lines(service, bought, True)
-
-
-__all__ = ["Gain", "bought_lines", "head", "plan_lines", "reserve_lines", "shortage_lines"]

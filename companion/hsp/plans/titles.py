@@ -1,7 +1,5 @@
 """The file hsp.toml: what a service is called, and a demand that hsp once joined or counted in units."""
 
-from __future__ import annotations
-
 import json
 import os
 import re

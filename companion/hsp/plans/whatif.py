@@ -1,9 +1,5 @@
 """The plan again with one thing changed, or several things together. Each line is a plan of hsplan."""
 
-from __future__ import annotations
-
-import csv
-import io
 import re
 from collections.abc import Callable, Iterable, Iterator, Sequence
 from dataclasses import dataclass, replace
@@ -11,12 +7,12 @@ from fractions import Fraction
 
 from hsp.base.grammar import HEADERS
 from hsp.base.numbers import average, listed, queries_of, signed
-from hsp.base.programs import Missing, Programs
+from hsp.base.programs import Missing, Programs, table_text
 from hsp.base.spelling import near
 from hsp.base.text import bold, colored
 from hsp.plans.counted import grown, is_log, rows_of, times
 from hsp.plans.joined import joined
-from hsp.plans.plans import capacity_file
+from hsp.plans.plans import capacity_file, costs_file
 from hsp.plans.service import Row, Server, Service, table
 
 # What is changed: room at a full server, a lost site, all demand, the size of one server, or what is named.
@@ -66,8 +62,8 @@ class Changes:
 
     def without(self, site: str) -> Case:
         """No region may use the site."""
-        costs = ((region, name, cost) for (region, name), cost in self.service.costs.items() if name != site)
-        return self.planned(LOST, site, costs=self.programs.put_table(HEADERS["costs"], costs))
+        costs = {key: cost for key, cost in self.service.costs.items() if key[1] != site}
+        return self.planned(LOST, site, costs=costs_file(self.programs, costs))
 
     def with_demand(self, percent: float) -> Case:
         """Each row asks for more queries, rounded up; those of a log all together."""
@@ -76,7 +72,7 @@ class Changes:
 
     def together(self, servers: Words, lost: Words, costs: Words, demand: Words) -> Case:
         """All of these changes in one plan."""
-        service, put_table = self.service, self.programs.put_table
+        service = self.service
         rooms, paid = dict(service.capacities), dict(service.costs)
         for name, room in map(_change, servers):
             own = server_named(service, name)
@@ -90,10 +86,9 @@ class Changes:
             path = demand_times(service, self.programs, factor, _asked(service, name))
             rows = [] if service.log else [Row(region, handle, int(count)) for region, handle, count in table(path)]
             service = replace(service, inputs=service.inputs.but(demand=path), rows=rows)
-        left = ((*key, cost) for key, cost in paid.items() if key[1] not in lost)
-        costs_file, room_file = put_table(HEADERS["costs"], left), capacity_file(self.programs, rooms)
-        asked = joined(service, self.programs).demand
-        return self.planned(TOGETHER, "these changes", costs=costs_file, demand=asked, capacity=room_file)
+        paid = {key: cost for key, cost in paid.items() if key[1] not in lost}
+        files = {"costs": costs_file(self.programs, paid), "capacity": capacity_file(self.programs, rooms)}
+        return self.planned(TOGETHER, "these changes", 0, demand=joined(service, self.programs).demand, **files)
 
 
 def _change(words: str, numbers: re.Pattern[str] = WHOLE) -> tuple[str, Fraction]:
@@ -156,7 +151,6 @@ def standard(changes: Changes, step: float) -> list[Case]:
 
 
 def server_named(service: Service, words: str) -> Server:
-    """The server of the words `site:identifier`."""
     for server in service.servers:
         if words == f"{server.site}:{server.id}":
             return server
@@ -177,9 +171,7 @@ def sizes(changes: Changes, server: Server, low: int, high: int, points: int) ->
     steps = max(1, points - 1)
     rooms = {round(low + (high - low) * at / steps) for at in range(points)}
     own = changes.service.capacity(server)
-    return [
-        changes.with_room(SIZE, server, room) for room in sorted(rooms | ({own} if low <= own <= high else set()))
-    ]
+    return [changes.with_room(SIZE, server, room) for room in sorted(rooms | ({own} if low <= own <= high else set()))]
 
 
 def greatest(cases: Iterable[Case]) -> int:
@@ -204,8 +196,7 @@ def _line(case: Case, most: int) -> str:
 
 def lines(service: Service, cases: list[Case], step: float) -> Iterator[str]:
     """The cases, each kind under its head."""
-    unit = f" {service.titles.cost}" if service.titles.cost else ""
-    now = service.certificate
+    unit, now = service.unit, service.certificate
     if now.is_plan:
         yield f"now   {bold(f'{now.cost:,}{unit}')}, {average(now.cost, service.asked)}{unit} a query"
     else:
@@ -222,7 +213,6 @@ def lines(service: Service, cases: list[Case], step: float) -> Iterator[str]:
 
 
 def size_lines(service: Service, cases: list[Case]) -> Iterator[str]:
-    """The cost by the size of a server."""
     if not cases:
         return
     own = next(server for server in service.servers if server.label == cases[0].what)
@@ -236,10 +226,5 @@ def size_lines(service: Service, cases: list[Case]) -> Iterator[str]:
 
 
 def csv_of(cases: list[Case]) -> str:
-    out = io.StringIO()
-    writer = csv.writer(out, lineterminator="\n")
-    writer.writerow(["case", "what", "room", "cost", "change", "lack"])
-    for case in cases:
-        cost, change = ("" if value is None else value for value in (case.cost, case.change))
-        writer.writerow([case.variant, case.what, case.room or "", cost, change, case.lack or ""])
-    return out.getvalue()
+    rows = ((it.variant, it.what, it.room or "", it.cost, it.change, it.lack or "") for it in cases)
+    return table_text("case,what,room,cost,change,lack", rows)

@@ -1,7 +1,5 @@
 """Where the queries for one handle go by a plan: what hsplan or hsplan-stream answers, and what each server costs."""
 
-from __future__ import annotations
-
 from collections.abc import Iterator
 from dataclasses import dataclass, replace
 
@@ -123,26 +121,16 @@ def lines(service: Service, found: Where, region: str, handle: str) -> Iterator[
     if why:
         yield f"  why  {escaped(why)}"
     wide = max((len(choice.server.label) for choice in found.choices), default=0)
-    unit = f" {service.titles.cost}" if service.titles.cost else ""
     whole = sum(choice.queries or 0 for choice in found.choices)
     for choice in found.choices:
         price = f" and its price {choice.price:,}" if choice.price else ""
         is_split = choice.queries and len(found.servers) > 1
         part = f"; {percent(choice.queries or 0, whole)} of such queries" if is_split else ""
-        yield f"  {choice.server.label.ljust(wide)}  pays {choice.pays:,}{unit}: cost {choice.cost:,}{price}{part}"
+        yield f"  {choice.server.label.ljust(wide)}  pays {choice.pays:,}{service.unit}: cost {choice.cost:,}{price}{part}"
 
 
 def json_of(service: Service, found: Where, region: str, handle: str) -> dict[str, object]:
     """The same for other programs. What needs no reason has null."""
-    servers = [
-        {
-            "site": choice.server.site,
-            "server_id": choice.server.id,
-            "cost": choice.cost,
-            "price": choice.price,
-            "queries": choice.queries,
-        }
-        for choice in found.choices
-    ]
+    servers = [{**it.server.said, "cost": it.cost, "price": it.price, "queries": it.queries} for it in found.choices]
     why = reason(service, found, region) or None
     return {"region": region, "handle": handle, "answer": found.answer, "why": why, "servers": servers}

@@ -1,7 +1,5 @@
 """The commands of `hsp export`: a plan as files of another program, which answers by it."""
 
-from __future__ import annotations
-
 import itertools
 import os
 from dataclasses import dataclass
@@ -70,7 +68,6 @@ class Words:
 
 
 def _networks(texts: tuple[str, ...]) -> tuple[str, ...]:
-    """The networks of trusted proxies."""
     found = [network_of(text) for text in texts]
     for text, network in zip(texts, found):
         if network is None:

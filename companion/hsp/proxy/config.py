@@ -18,9 +18,8 @@ from hsp.base.programs import Missing
 from hsp.base.unfit import Unfit
 from hsp.intake.addresses import Target
 from hsp.plans.service import Service, Site
-from hsp.proxy.kinds import LOTS, cost_lines, plan_lines, server_lines, shares_of, site_lines
+from hsp.proxy.kinds import LOTS, class_lines, cost_lines, plan_lines, price_lines, server_lines, shares_of, site_lines
 from hsp.proxy.networks import trusted_lines
-from hsp.proxy.pricing import class_lines, price_lines
 
 if TYPE_CHECKING:
     import jinja2
@@ -109,7 +108,6 @@ def line_of_server(target: Target) -> str:
 
 
 def config_of(service: Service, targets: list[Target], frame: Frame) -> str:
-    """The configuration of HAProxy."""
     options = sorted({site.option for site in service.sites})
     return (
         _environment()
@@ -146,11 +144,7 @@ def text_of(lines: Iterable[str]) -> str:
 def maps_of(service: Service) -> dict[str, list[str]]:
     """The maps that say which servers a kind may have, and which of them is the cheapest."""
     regions = dict.fromkeys(region for region, _ in service.costs)
-    return {
-        SITES: site_lines(service, regions),
-        COSTS: cost_lines(service),
-        SERVERS: server_lines(service),
-    }
+    return {SITES: site_lines(service, regions), COSTS: cost_lines(service), SERVERS: server_lines(service)}
 
 
 def answers_of(service: Service) -> dict[str, list[str]]:
@@ -161,7 +155,6 @@ def answers_of(service: Service) -> dict[str, list[str]]:
 
 
 def files_of(service: Service, targets: list[Target], networks: list[str], frame: Frame) -> dict[str, bytes]:
-    """All files, by their names."""
     lines = {
         **answers_of(service),
         "regions.map": networks,

@@ -1,7 +1,5 @@
 """What each server was given in a period, whatever ended in between."""
 
-from __future__ import annotations
-
 from collections import Counter
 from collections.abc import Iterable
 from dataclasses import dataclass

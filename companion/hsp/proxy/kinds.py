@@ -2,16 +2,19 @@
 
 A kind is a region, and the place of the handle's server at each site that the region may use. hsplan says these
 places, and HAProxy computes them for each request. A kind of several servers is drawn by lot.
-"""
 
-from __future__ import annotations
+A demand that no table holds has any number of kinds, and is answered by prices. A query pays a site's cost, and the
+prices of the server there and of its machine. Where it pays least at several servers, its class says what part each of
+these gets.
+"""
 
 from collections import Counter
 from collections.abc import Iterable, Mapping
 from dataclasses import replace
 
-from hsp.base.programs import Use
+from hsp.base.programs import Class, Prices, Use
 from hsp.intake.addresses import name_of
+from hsp.plans.flows import beside_of
 from hsp.plans.service import Row, Server, Service
 
 # One of so many lots is drawn for a request.
@@ -85,7 +88,30 @@ def cost_lines(service: Service) -> list[str]:
 def server_lines(service: Service) -> list[str]:
     """The map from sites and places to servers."""
     return [
-        f"{site.name}/{place} {name_of(server)}"
-        for site in service.sites
-        for place, server in enumerate(site.servers)
+        f"{site.name}/{place} {name_of(server)}" for site in service.sites for place, server in enumerate(site.servers)
     ]
+
+
+def price_lines(service: Service) -> list[str]:
+    """The map from servers to what a query pays there beside the cost of the site."""
+    beside = beside_of(service)
+    return [f"{name_of(server)} {beside[server.number]}" for server in service.servers if beside[server.number]]
+
+
+def _shares_of_classes(servers: list[Server], classes: Iterable[Class]) -> dict[str, Counter[Server]]:
+    """How many queries of each class go to each of its servers. A server that isn't among these has none."""
+    found: dict[str, Counter[Server]] = {}
+    for region, amounts in classes:
+        own = Counter({servers[at]: amounts[at] for at in sorted(amounts) if at < len(servers)})
+        if len(own) > 1 and own.total():
+            key = BETWEEN.join([region, *map(name_of, own)])
+            found[key] = found.get(key, Counter()) + own
+    return found
+
+
+def class_lines(service: Service) -> list[str]:
+    """The map from classes to servers: a region, and the servers at which its queries pay least."""
+    certificate = service.certificate
+    return plan_lines(
+        _shares_of_classes(service.servers, certificate.classes if isinstance(certificate, Prices) else [])
+    )

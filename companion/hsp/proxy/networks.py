@@ -1,7 +1,5 @@
 """The region of each network, as a map that HAProxy looks through for the longest prefix."""
 
-from __future__ import annotations
-
 import ipaddress
 from collections.abc import Iterable, Iterator
 from dataclasses import dataclass
@@ -47,7 +45,6 @@ def trusted_lines(networks: Iterable[str]) -> list[str]:
 
 
 def map_of(path: str, elsewhere: str, programs: Programs) -> Map:
-    """The map of a table of networks."""
     table = networks_in(path, elsewhere or None, programs)
     networks = [(family, *key, region.decode()) for family, own in table.found.items() for key, region in own.items()]
     named = dict.fromkeys([*table.names, *([elsewhere] if elsewhere else [])])

@@ -1,7 +1,5 @@
 """The proxies of a service that are steered together. Each is a HAProxy with a folder and counts of its own."""
 
-from __future__ import annotations
-
 import os
 from collections.abc import Collection, Mapping, Sequence
 from dataclasses import dataclass
@@ -36,8 +34,6 @@ class Unwritten(Missing):
 
 
 class Proxy:
-    """A proxy that is steered."""
-
     def __init__(self, folder: str) -> None:
         self.folder, self.name = folder, os.path.abspath(folder)
         self.runtime = Runtime(socket_in(folder))
@@ -132,4 +128,6 @@ class Proxies:
             except OSError as fault:
                 faults.append(f"{fault.filename}: {fault.strerror}")
         if faults:
-            raise Unwritten(f"{'; '.join(faults)}; HAProxy has the new plan, and begins by an older one if it restarts")
+            raise Unwritten(
+                f"{'; '.join(faults)}; HAProxy has the new plan, and begins by an older one if it restarts"
+            )

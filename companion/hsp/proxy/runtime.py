@@ -1,7 +1,5 @@
 """What a running HAProxy says at its socket, and how its map is swapped."""
 
-from __future__ import annotations
-
 import os
 import re
 import socket

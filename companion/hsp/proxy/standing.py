@@ -57,20 +57,15 @@ class State:
     def given(self, counts: Counts, down: frozenset[str]) -> State:
         """The same plan with the counts of now."""
         servers = {
-            name: replace(own, load=counts.taken.get(name, 0), down=name in down)
-            for name, own in self.servers.items()
+            name: replace(own, load=counts.taken.get(name, 0), down=name in down) for name, own in self.servers.items()
         }
         return replace(self, servers=servers)
 
 
-def time_text(seconds: float) -> str:
-    """A time as JSON has it."""
-    return datetime.datetime.fromtimestamp(seconds, datetime.UTC).strftime("%Y-%m-%dT%H:%M:%SZ")
-
-
 def line_of(state: State) -> str:
     """A state as one line of JSON."""
-    said = {"time": time_text(state.made), **asdict(state), "left": round(state.left, 4)}
+    made = datetime.datetime.fromtimestamp(state.made, datetime.UTC)
+    said = {"time": f"{made:%Y-%m-%dT%H:%M:%SZ}", **asdict(state), "left": round(state.left, 4)}
     for key in ("made", "every", "fault"):
         del said[key]
     return f"{json.dumps(said)}\n"
@@ -122,7 +117,6 @@ def state_in(folder: str) -> tuple[State, Counts]:
 
 
 def _figure(name: str, meaning: str, values: dict[str, float]) -> str:
-    """A figure with its values by their labels."""
     head = f"# HELP hsp_steer_{name} {meaning}\n# TYPE hsp_steer_{name} gauge\n"
     return head + "".join(f"hsp_steer_{name}{labels} {value:.15g}\n" for labels, value in values.items())
 

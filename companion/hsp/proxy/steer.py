@@ -1,7 +1,5 @@
 """`hsp steer`: keeps the plan by which HAProxy answers in step with what servers were given."""
 
-from __future__ import annotations
-
 import contextlib
 import fcntl
 import math
@@ -18,6 +16,7 @@ import click
 
 from hsp.base.ends import ended
 from hsp.base.files import refuse_clashes, refuse_no_file, replace_all
+from hsp.base.held import Watched
 from hsp.base.numbers import queries_of, some
 from hsp.base.options import ANY_FILE, PathName, Run, idle, is_word
 from hsp.base.paths import path_in, shell_word
@@ -31,7 +30,6 @@ from hsp.proxy.proxies import Proxies, Unwritten
 from hsp.proxy.standing import STATE, line_of, metrics_text, state_in, table_lines
 from hsp.plans.titles import seconds_of
 from hsp.proxy.steering import FAULTS, Steering
-from hsp.proxy.watched import Watched
 from hsp.scenarios.reserve import RESERVE, forgotten, reserved
 
 LOCK, NOTHING = "steer.lock", Fraction(0)
@@ -237,8 +235,7 @@ def _show(folders: Collection[str]) -> None:
     proxies = Proxies(dict.fromkeys([os.path.abspath(folder) for folder in folders] + others))
     now = proxies.read(counts.length, len(state.servers))
     counts = proxies.counts(now.at, counts.length)
-    for line in table_lines(state.given(counts, now.down), counts, now.at):
-        say(line)
+    say(*table_lines(state.given(counts, now.down), counts, now.at))
     for own in (own for own in proxies.all if not own.now):
         say(f"{own.folder} doesn't answer; its last counts are among these")
     age = now.at - state.made

@@ -1,7 +1,5 @@
 """A plan kept in step: what each server was given is read, the rest is planned, and HAProxy's map is swapped."""
 
-from __future__ import annotations
-
 from collections.abc import Collection
 from contextlib import closing
 from dataclasses import replace
@@ -15,9 +13,8 @@ from hsp.plans.service import Service
 from hsp.proxy.config import COSTS, SITES, maps_of, refuse_other_sites
 from hsp.proxy.counts import Counts
 from hsp.proxy.kinds import kinds_of
-from hsp.proxy.priced_rest import priced_rest
 from hsp.proxy.proxies import Look, Proxies, Proxy
-from hsp.proxy.rest import Rest, rest_of, room_of
+from hsp.proxy.rest import Rest, priced_rest, rest_of, room_of
 from hsp.proxy.standing import Standing, State
 
 # What isn't as it has to be: a program or a proxy that doesn't answer, files, or the system.
@@ -44,7 +41,6 @@ class Held:
         return path
 
     def rest(self, counts: Counts, at: float, down: Collection[str]) -> Rest:
-        """The plan of the rest of the period."""
         room = room_of(self.service, counts.taken, down)
         with closing(Programs()) as own:
             if self.service.log:
@@ -68,8 +64,6 @@ def state_of(service: Service, rest: Rest, counts: Counts, now: Look, proxies: d
 
 
 class Steering:
-    """Proxies whose plan is kept in step."""
-
     def __init__(self, folders: Collection[str], service: Service, length: float, every: float = 0.0) -> None:
         self._length, self._every, self._proxies = length, every, Proxies(folders)
         self._held = self._fit(service)

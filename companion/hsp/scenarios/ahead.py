@@ -1,7 +1,5 @@
 """What lies ahead of a plan: how far the demand can grow, the worst loss, and what was moved since the plan before."""
 
-from __future__ import annotations
-
 from collections.abc import Iterator, Sequence
 from dataclasses import dataclass
 
@@ -83,7 +81,6 @@ def _share(service: Service, moved: int) -> str:
 
 
 def moved_fact(service: Service, moved: int) -> Fact:
-    """How many queries are moved, as a tile of a page."""
     return Fact("Moves", _share(service, moved), f"{queries_of(moved)} since the plan before")
 
 
@@ -116,7 +113,6 @@ def loss_table(service: Service, losses: Sequence[After]) -> FactTable:
 
 
 def ahead_of(service: Service, programs: Judged) -> Ahead:
-    """What lies ahead of a service's plan."""
     if not service.asked:
         return Ahead(service, [], [])
     growths = grown(service, programs)
@@ -134,6 +130,3 @@ def moved_since(path: str, service: Service, programs: Judged) -> int | None:
     except (Missing, Unfit, OSError):
         return None
     return moved_between(service, held.homes, service.certificate)
-
-
-__all__ = ["Ahead", "ahead_of", "moved_fact", "moved_since"]

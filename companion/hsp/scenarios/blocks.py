@@ -4,13 +4,10 @@ The table of each row's greatest count in some hours has a plan: it serves each 
 is one too, so the longest blocks, one after the other, are the fewest.
 """
 
-from __future__ import annotations
-
 import itertools
 from collections.abc import Callable, Sequence
 from dataclasses import dataclass
 from fractions import Fraction
-from functools import partial
 
 from hsp.base.grammar import HEADERS
 from hsp.base.programs import Certificate, Inputs
@@ -54,7 +51,6 @@ class Block:
 
 
 def is_block(name: str) -> bool:
-    """Whether a folder has the name of a block."""
     first, _, last = name.partition("-to-")
     return any(form.fullmatch(first) and form.fullmatch(last) for form in (OF_DAY, OF_WEEK))
 
@@ -99,14 +95,14 @@ class _Search:
         """The ends of the longest blocks, one after the other from the first hour on."""
         found, known = [0], dict[tuple[int, int], Block | None]()
         while (at := found[-1]) < len(self._hours):
-            found.append(at + self._longest(partial(_from, at), len(self._hours) - at, known))
+            found.append(at + self._longest(lambda size: (at, at + size), len(self._hours) - at, known))
         return found[1:], known
 
     def _begins(self) -> tuple[list[int], Known]:
         """The begins of the longest blocks, one before the other from the last hour on, the first one first."""
         found, known = [len(self._hours)], dict[tuple[int, int], Block | None]()
         while at := found[0]:
-            found.insert(0, at - self._longest(partial(_up_to, at), at, known))
+            found.insert(0, at - self._longest(lambda size: (at - size, at), at, known))
         return found[:-1], known
 
     def fewest(self) -> list[Block]:
@@ -124,14 +120,6 @@ class _Search:
         raise AssertionError("the longest blocks have plans")
 
 
-def _from(at: int, size: int) -> tuple[int, int]:
-    return at, at + size
-
-
-def _up_to(at: int, size: int) -> tuple[int, int]:
-    return at - size, at
-
-
 def fewest(service: Service, plans: Sequence[HourPlan], programs: Judged) -> list[Block]:
     """The fewest blocks that serve all hours that have a plan. None goes over an hour that has no demand."""
     blocks: list[Block] = []
@@ -147,6 +135,3 @@ def price(service: Service, plans: Sequence[HourPlan], blocks: Sequence[Block]) 
     least = sum(plan.certificate.cost for plan in plans if plan.is_plan)
     whole = sum((block.cost(service) for block in blocks), Fraction(0))
     return (whole - least) / least if least else Fraction(0)
-
-
-__all__ = ["Block", "block_of", "fewest", "is_block", "price"]

@@ -1,7 +1,5 @@
 """The commands `hsp grow` and `hsp survive`."""
 
-from __future__ import annotations
-
 import os
 import sys
 import time
@@ -98,8 +96,7 @@ def grow(folder: str, percents: tuple[int, ...], unit: str | None, as_json: bool
         give(grow_lines.json_of(service, growths, purchases))
         return
     say(head(service))
-    for line in grow_lines.lines(service, growths, purchases):
-        say(line)
+    say(*grow_lines.lines(service, growths, purchases))
     say(yes_line(programs))
 
 
@@ -143,9 +140,7 @@ def _first(service: Service, programs: Judged, portions: Portions | None) -> Non
 @click.command()
 @with_files
 @RESERVE
-@click.option(
-    "--near", metavar="OLD", type=PathName(), help="a certificate or its folder, in place of DIR/plan.txt"
-)
+@click.option("--near", metavar="OLD", type=PathName(), help="a certificate or its folder, in place of DIR/plan.txt")
 @click.option("--buy", is_flag=True, help="one purchase of room that serves every loss; needs python3-scipy")
 @click.option("--into", metavar="FOLDER", type=PathName(file_okay=False), help="in place of DIR/fallback")
 @click.option("--no-save", is_flag=True, help="keep no fallback plan")
@@ -184,12 +179,8 @@ def survive(folder: str, **given: Any) -> None:
         give(csv_of(service, found, None if own["no_save"] else kept))
     else:
         say(head(service))
-        for line in [*survive_lines.lines(service, found, own["every"]), *bought]:
-            say(line)
+        say(*survive_lines.lines(service, found, own["every"]), *bought)
         if not own["no_save"]:
             say(f"kept  {some(number, 'fallback plan')} in {kept.folder}, {near}")
         say(yes_line(programs))
     sys.exit(SHORTAGE if any(it.cost is None for it in found) else 0)
-
-
-__all__ = ["grow", "survive"]

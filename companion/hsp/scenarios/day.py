@@ -1,24 +1,24 @@
 """The command `hsp day`: a plan for each hour, and the fewest blocks of hours that one plan serves each."""
 
-from __future__ import annotations
-
 import contextlib
 import os
 import sys
 from collections.abc import Callable, Sequence
 from dataclasses import replace
+from functools import partial
 from typing import Any
 
 import click
 
+from hsp.base.bounds import octets_of
 from hsp.base.ends import SHORTAGE
 from hsp.base.files import forget, locked, refuse_clashes, refuse_no_folder, replace_all
 from hsp.base.numbers import listed, some
-from hsp.base.options import ANY_FILE, LINES, PathName, apart, idle
+from hsp.base.options import LINES, PathName, apart, idle
 from hsp.base.paths import path_in
 from hsp.base.text import give, say
 from hsp.base.unfit import Unfit
-from hsp.doctor.service_folder import Folder, sound
+from hsp.doctor.service_folder import sound, with_files
 from hsp.plans.answering import kept_beside
 from hsp.plans.service import NAMES, VALUES, Service, titles_in
 from hsp.plans.terminal import head
@@ -26,7 +26,6 @@ from hsp.scenarios import day_lines
 from hsp.scenarios.blocks import Block, fewest, is_block, price
 from hsp.scenarios.day_lines import Day
 from hsp.scenarios.day_page import block_view, command_of, render_day
-from hsp.scenarios.day_table import csv_of
 from hsp.scenarios.earlier import forget_of_hours
 from hsp.scenarios.hours import Faulty, Hour, HourPlan, all_planned, names_in, of_hour, read_hour
 from hsp.scenarios.in_force import PLAN
@@ -81,21 +80,16 @@ def _chained(
     return found
 
 
-def _octets(path: str) -> bytes:
-    with open(path, "rb") as file:
-        return file.read()
-
-
 def _kept(day: Day, folder: str) -> dict[str, bytes]:
     """What is kept: the plan of each hour, the demand and the plan of each block, and the inputs less a reserve."""
     _, contents = kept_beside(day.service, path_in(folder, PLAN))
     for plan in day.plans:
         if plan.is_plan:
-            contents[path_in(plan.hour.folder, PLAN)] = _octets(plan.plan_file)
+            contents[path_in(plan.hour.folder, PLAN)] = octets_of(plan.plan_file)
     for block in day.blocks:
         own = path_in(folder, os.path.join(BLOCKS, block.name))
-        contents[path_in(own, NAMES["demand"])] = _octets(block.inputs.demand)
-        contents[path_in(own, PLAN)] = _octets(block.plan_file)
+        contents[path_in(own, NAMES["demand"])] = octets_of(block.inputs.demand)
+        contents[path_in(own, PLAN)] = octets_of(block.plan_file)
     return contents
 
 
@@ -113,7 +107,6 @@ def _forget(day: Day, folder: str) -> None:
 
 
 def _blocks_in(folder: str) -> list[str]:
-    """The folders of blocks that are there."""
     within = path_in(folder, BLOCKS)
     names = os.listdir(within) if os.path.isdir(within) else []
     return [path_in(within, name) for name in names if is_block(name)]
@@ -138,11 +131,7 @@ def _day(service: Service, hours: Sequence[Hour], is_near: bool, programs: Judge
 
 
 @click.command()
-@click.argument("folder", metavar="[DIR]", default=".", type=Folder())
-@click.option("--settings", metavar="FILE", type=ANY_FILE, help="in place of DIR's settings")
-@click.option("--costs", metavar="FILE", type=ANY_FILE, help="in place of DIR's costs")
-@click.option("--capacity", metavar="FILE", type=ANY_FILE, help="in place of DIR's capacity")
-@click.option("--values", metavar="FILE", type=ANY_FILE, help="the value list that the settings refer to")
+@partial(with_files, without="demand")
 @click.option("--week", "is_week", is_flag=True, default=None, help="the hours of a week, where DIR has both")
 @RESERVE
 @click.option("--near", "is_near", is_flag=True, help="each plan moves the fewest queries from the hour before")
@@ -179,11 +168,10 @@ def day(folder: str, **given: Any) -> None:
     programs.insist_held()
     old = [] if given["no_save"] else _save(found, folder, page, programs)
     if given["as_csv"]:
-        give(csv_of(found))
+        give(day_lines.csv_of(found))
     else:
         say(f"{head(found.service).partition('  ')[0]}  {_sizes(found)}")
-        for line in day_lines.lines(found, given["every"]):
-            say(line)
+        say(*day_lines.lines(found, given["every"]))
         if given["is_near"] and service.log:
             say("near  no: the rows of a log have no portions; each hour has its plain plan")
         if not given["no_save"]:
@@ -227,6 +215,3 @@ def _save(found: Day, folder: str, page: str, programs: Judged) -> list[str]:
         replace_all({**contents, page: text.encode()}, folder)
         _forget(found, folder)
         return forget_of_hours(folder, contents, found.service.own_inputs.files())
-
-
-__all__ = ["day"]

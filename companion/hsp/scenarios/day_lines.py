@@ -1,6 +1,4 @@
-"""What the terminal shows of a day."""
-
-from __future__ import annotations
+"""What the terminal shows of a day, and the table of its hours."""
 
 from collections import Counter
 from collections.abc import Collection, Iterator, Sequence
@@ -8,6 +6,7 @@ from dataclasses import dataclass
 from fractions import Fraction
 
 from hsp.base.numbers import listed, part, queries_of, some
+from hsp.base.programs import table_text
 from hsp.base.text import bold, colored, dim
 from hsp.intake.hours import CYCLES
 from hsp.plans.service import Service
@@ -19,6 +18,7 @@ from hsp.scenarios.hours import HourPlan, label_of
 SHOWN = 6
 # So many blocks are named.
 NAMED = 12
+HEADER = "hour,queries,served,cost,lack,full,dearest_site,dearest_server_id,price,moved,block"
 
 
 @dataclass(frozen=True)
@@ -98,8 +98,7 @@ def _servers(day: Day, every: bool) -> Iterator[str]:
 def verdicts(day: Day) -> Iterator[str]:
     """The worst hour, the busiest one, and the blocks."""
     worst, busiest = day.worst, day.busiest
-    unit = f" {day.service.titles.cost}" if day.service.titles.cost else ""
-    then = f"{worst.each:.1f}{unit} a query" if worst.is_plan else f"short by {queries_of(worst.lack)}"
+    then = f"{worst.each:.1f}{day.service.unit} a query" if worst.is_plan else f"short by {queries_of(worst.lack)}"
     yield f"worst {worst.hour.clock}: {then}; the busiest is {busiest.hour.clock} with {queries_of(busiest.hour.asked)}"
     short = [plan.hour.label for plan in day.plans if not plan.is_plan]
     if short:
@@ -147,4 +146,16 @@ def _blocks(day: Day) -> str:
     return f"block {serve}: {names}; {above}; fewer blocks of hours in a row don't serve them"
 
 
-__all__ = ["Day", "lines", "planned_hours", "verdicts"]
+def csv_of(day: Day) -> str:
+    """A row for each hour, for other programs."""
+    rows = []
+    block_of = {hour.name: block.name for block in day.blocks for hour in block.hours}
+    for plan in day.plans:
+        dearest: list[object] = ["", "", ""]
+        if plan.dearest is not None:
+            server = day.service.servers[plan.dearest]
+            dearest = [server.site, server.id, plan.loads[plan.dearest].price]
+        own = [plan.certificate.cost, "", len(plan.full)] if plan.is_plan else ["", plan.lack, ""]
+        head = [plan.hour.name, plan.hour.asked, str(plan.is_plan).lower()]
+        rows.append([*head, *own, *dearest, plan.moved, block_of.get(plan.hour.name, "")])
+    return table_text(HEADER, rows)

@@ -1,7 +1,5 @@
 """One page of a day: columns of hours, a grid of servers by hours, and the plan of the hour that is clicked."""
 
-from __future__ import annotations
-
 import os
 from collections.abc import Mapping, Sequence
 from dataclasses import dataclass
@@ -10,9 +8,8 @@ from hsp.base.numbers import part, some
 from hsp.base.paths import path_in
 from hsp.base.programs import Inputs, Load
 from hsp.plans.answering import answer_command
-from hsp.plans.page import environment
+from hsp.plans.page import Source, environment, now, sources_of, sum_of
 from hsp.plans.service import NAMES, Service
-from hsp.plans.sources import Source, now, sources_of, sum_of
 from hsp.scenarios.blocks import Block
 from hsp.scenarios.day_lines import Day
 from hsp.scenarios.hours import HourPlan
@@ -38,8 +35,6 @@ class Column:
 
 @dataclass(frozen=True)
 class Cell:
-    """A server at an hour."""
-
     kind: str
     text: str
 
@@ -124,14 +119,9 @@ def _grid(day: Day) -> tuple[list[GridRow], str]:
     priced = {at: len([price for price in prices if price]) for at, prices in day.priced()}
     full = {at for plan in day.plans for at in plan.full} | set(priced)
     order = sorted(full, key=lambda at: (-priced.get(at, 0), at))
-    rows = [
-        GridRow(service.servers[at].label, [_cell(plan, at) for plan in day.plans])
-        for at in order[:ROWS_SHOWN]
-    ]
+    rows = [GridRow(service.servers[at].label, [_cell(plan, at) for plan in day.plans]) for at in order[:ROWS_SHOWN]]
     others = len(service.servers) - len(full)
-    note = (
-        f"{some(others, 'server is', 'servers are')} never full." if others else "Each server is full at some hour."
-    )
+    note = f"{some(others, 'server is', 'servers are')} never full." if others else "Each server is full at some hour."
     if len(order) > len(rows):
         note += f" {some(len(order) - len(rows), 'more server is', 'more servers are')} full at some hour."
     return rows, note
@@ -162,7 +152,6 @@ def render_day(day: Day, folder: str, commands: Mapping[str, str], blocks: Seque
     """The text of the page. The commands are those of hours, by their names."""
     service, worst = day.service, day.worst
     grid, note = _grid(day)
-    unit = f" {service.titles.cost}" if service.titles.cost else ""
     several = (
         "1 plan for a block of hours costs"
         if len(day.blocks) == 1
@@ -174,7 +163,7 @@ def render_day(day: Day, folder: str, commands: Mapping[str, str], blocks: Seque
         "span": "week" if "-" in day.plans[0].hour.name else "day",
         "time": now(),
         "names": [site.name for site in service.sites],
-        "unit": unit,
+        "unit": service.unit,
         "plans": day.plans,
         "worst": worst,
         "busiest": day.busiest,
@@ -190,7 +179,7 @@ def render_day(day: Day, folder: str, commands: Mapping[str, str], blocks: Seque
         "sources": _sources(day, folder),
         "judged": judged,
         "data": {
-            "unit": unit,
+            "unit": service.unit,
             "sites": [site.name for site in service.sites],
             "servers": [[server.label, service.capacity(server)] for server in service.servers],
             "worst": list(day.plans).index(worst),
@@ -198,6 +187,3 @@ def render_day(day: Day, folder: str, commands: Mapping[str, str], blocks: Seque
         },
     }
     return environment().get_template("day.html").render(**shown)
-
-
-__all__ = ["block_view", "command_of", "render_day"]

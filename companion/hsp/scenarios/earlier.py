@@ -1,7 +1,5 @@
 """What an earlier run kept beside plans of DIR, and by which the plans that are there now don't stand."""
 
-from __future__ import annotations
-
 import contextlib
 import os
 from collections.abc import Collection
@@ -65,6 +63,3 @@ def _remove(paths: Collection[str]) -> None:
     for path in paths:
         with contextlib.suppress(FileNotFoundError):
             os.unlink(path)
-
-
-__all__ = ["forget", "forget_of_hours"]

@@ -1,7 +1,5 @@
 """The folder of fallback plans: for each loss that leaves a plan, this plan and the table that the loss changes."""
 
-from __future__ import annotations
-
 import contextlib
 import csv
 import io
@@ -10,9 +8,10 @@ import re
 from collections.abc import Iterable, Sequence
 from dataclasses import dataclass
 
-from hsp.base.bounds import whole
+from hsp.base.bounds import octets_of, whole
 from hsp.base.files import forget, locked, refuse_clashes, refuse_no_folder, replace_all
 from hsp.base.paths import path_in
+from hsp.base.programs import table_text
 from hsp.base.unfit import Unfit
 from hsp.plans.answering import LESS_CAPACITY, LESS_SETTINGS, kept_beside
 from hsp.plans.service import NAMES, Service
@@ -21,7 +20,7 @@ from hsp.scenarios.judged import Judged
 from hsp.scenarios.losses import HOST, SERVER, SITE, After, Loss
 
 FOLDER, TABLE = "fallback", "losses.csv"
-HEADER = ["kind", "what", "served", "cost", "change", "lack", "moved", "lost", "plan"]
+HEADER = "kind,what,served,cost,change,lack,moved,lost,plan"
 # The name of a folder of a loss.
 NAME = re.compile(rf"({SITE}|{SERVER}|{HOST})-[A-Za-z0-9._-]+")
 # The names of the files that a fallback may have.
@@ -70,7 +69,7 @@ class Fallbacks:
                     contents = self._contents(found)
                     replace_all(contents, self.root)
                     self._forget(found.loss.folder, set(OWN) - {os.path.basename(path) for path in contents})
-            replace_all({self.table: self._text(all_found).encode()}, self.root)
+            replace_all({self.table: csv_of(self.service, all_found, self).encode()}, self.root)
         return sum(found.cost is not None for found in all_found)
 
     def _contents(self, found: After) -> dict[str, bytes]:
@@ -79,8 +78,7 @@ class Fallbacks:
         plan = self.path(found, PLAN)
         _, contents = kept_beside(found.service, plan)
         for name, source in ((PLAN, found.service.plan_file), (NAMES[role], getattr(found.service.inputs, role))):
-            with open(source, "rb") as file:
-                contents[self.path(found, name)] = file.read()
+            contents[self.path(found, name)] = octets_of(source)
         return contents
 
     def _earlier(self) -> set[str]:
@@ -100,23 +98,15 @@ class Fallbacks:
         with contextlib.suppress(OSError):
             os.rmdir(path)
 
-    def _text(self, all_found: Sequence[After]) -> str:
-        return csv_of(self.service, all_found, self)
-
 
 def csv_of(service: Service, all_found: Sequence[After], kept: Fallbacks | None = None) -> str:
     """What each loss leaves, as a table for other programs: the worst first."""
-    out = io.StringIO()
-    writer = csv.writer(out, lineterminator="\n")
-    writer.writerow(HEADER)
+    rows = []
     for found in all_found:
         loss, is_served = found.loss, found.cost is not None
         change = found.cost - service.certificate.cost if found.cost is not None else ""
         plan = os.path.join(loss.folder, PLAN) if kept and is_served else ""
-        cost, moved = ("" if value is None else value for value in (found.cost, found.moved))
         lost = found.forced if found.moved is not None else ""
-        writer.writerow([loss.kind, loss.name, str(is_served).lower(), cost, change, found.lack, moved, lost, plan])
-    return out.getvalue()
-
-
-__all__ = ["FOLDER", "Fallbacks", "TABLE", "csv_of"]
+        sums = found.cost, change, found.lack, found.moved, lost
+        rows.append((loss.kind, loss.name, str(is_served).lower(), *sums, plan))
+    return table_text(HEADER, rows)

@@ -1,7 +1,5 @@
 """The command `hsp forecast`: how well the last week in logs would have been planned by the weeks before it."""
 
-from __future__ import annotations
-
 import contextlib
 import functools
 from collections import Counter, defaultdict
@@ -15,18 +13,17 @@ import click
 from hsp.base.bounds import Query
 from hsp.base.grammar import MOST_DEMAND_ROWS
 from hsp.base.numbers import average, duration, listed, percent, queries_of
-from hsp.base.options import ANY_FILE, PathName
+from hsp.base.options import PathName
 from hsp.base.programs import Missing, Programs
 from hsp.base.text import say
 from hsp.base.unfit import Unfit
 from hsp.doctor.service_folder import Folder, sound
-from hsp.intake.bring import JOBS, reading_of, some_in, span_of, with_hours
-from hsp.intake.busiest import refuse_pipes
+from hsp.intake.bring import JOBS, REGIONS, reading_of, some_in, span_of, with_hours
+from hsp.intake.hours import Asked, CYCLES, Cycle, OF_DAY, asked_by_hour, chosen_of, refuse_pipes
 from hsp.intake.forms import OTHER_TIME
-from hsp.intake.hours import CYCLES, OF_DAY, Asked, Cycle, asked_by_hour, chosen_of
 from hsp.intake.queries import Reading, field_of
 from hsp.intake.regions import tag_of
-from hsp.intake.side_by_side import MOST_JOBS, parts_of
+from hsp.intake.side_by_side import parts_of
 from hsp.intake.tally import HEADER, most_first, rows_of
 from hsp.intake.times import HOUR, Time, shown_time, shown_zone
 from hsp.intake.usual import usual_of
@@ -186,10 +183,8 @@ def lines(weeks: Weeks, found: Mapping[str, Sequence[Kept]]) -> list[str]:
 @click.command()
 @click.argument("folder", metavar="DIR", type=Folder())
 @click.argument("logs", metavar="LOG..", nargs=-1, required=True, type=PathName(dir_okay=False))
-@click.option(
-    "--regions", metavar="FILE", type=ANY_FILE, required=True, help="a table network,region, or a MaxMind database"
-)
-@click.option("--jobs", type=click.IntRange(1, MOST_JOBS), metavar="N", help=JOBS)
+@REGIONS
+@JOBS
 @with_hours
 def forecast(folder: str, logs: tuple[str, ...], regions: str, **given: Any) -> None:
     """Shows how well the last week would have been planned.
@@ -210,6 +205,4 @@ def forecast(folder: str, logs: tuple[str, ...], regions: str, **given: Any) -> 
     if not service.sites:
         raise Missing(f"{service.inputs.settings}: no site, so nothing is planned")
     say(head(service))
-    for line in lines(weeks, tried(service, weeks, programs)):
-        say(line)
-    say(yes_line(programs))
+    say(*lines(weeks, tried(service, weeks, programs)), yes_line(programs))

@@ -1,12 +1,9 @@
 """What the terminal shows of growth."""
 
-from __future__ import annotations
-
-import json
 from collections.abc import Iterator, Sequence
 
 from hsp.base.numbers import listed, queries_of, some
-from hsp.base.text import bold, colored, escaped
+from hsp.base.text import bold, colored, escaped, json_text
 from hsp.plans.service import Server, Service
 from hsp.scenarios.growth import STEP, Growth, Purchase, Short, percent_of
 
@@ -79,7 +76,7 @@ def lines(service: Service, all_growths: Sequence[Growth], purchases: Sequence[P
 
 def _need(service: Service, purchase: Purchase) -> str:
     head = f"{colored(f'+{purchase.percent}%', 'yellow')}  {_rounded(service, purchase)}"
-    cost = f"the cost is then {purchase.cost or 0:,}{' ' if service.titles.cost else ''}{service.titles.cost}"
+    cost = f"the cost is then {purchase.cost or 0:,}{service.unit}"
     if purchase.is_beyond:
         return f"{head}more than a demand can count"
     if purchase.bought is None:
@@ -111,9 +108,6 @@ def json_of(service: Service, all_growths: Sequence[Growth], purchases: Sequence
     def factor(number: int | None) -> float | None:
         return None if number is None else number / STEP
 
-    def servers(own: Sequence[Server]) -> list[dict[str, object]]:
-        return [{"site": it.site, "server_id": it.id} for it in own]
-
     growths = [
         {
             "region": growth.region,
@@ -121,7 +115,7 @@ def json_of(service: Service, all_growths: Sequence[Growth], purchases: Sequence
             "short_from": factor(growth.short_from),
             "rows": len(growth.short.rows) if growth.short else None,
             "capacity": growth.short.capacity if growth.short else None,
-            "servers": servers(growth.short.servers) if growth.short else [],
+            "servers": [it.said for it in growth.short.servers] if growth.short else [],
         }
         for growth in all_growths
     ]
@@ -133,9 +127,9 @@ def json_of(service: Service, all_growths: Sequence[Growth], purchases: Sequence
             "cost": purchase.cost,
             "least_purchase": None
             if purchase.bought is None
-            else [{"site": it.site, "server_id": it.id, "more": more} for it, more in purchase.bought.items()],
+            else [{**it.said, "more": more} for it, more in purchase.bought.items()],
         }
         for purchase in purchases
     ]
     report = {"title": service.titles.title, "queries": service.asked, "growth": growths, "purchases": needs}
-    return json.dumps(report, indent=2, ensure_ascii=False) + "\n"
+    return json_text(report)

@@ -1,8 +1,6 @@
 """How far a demand can grow. A plan shows that a demand still fits; a short set of rows, that it doesn't from some
 factor on. Each short set says which factor to try next, so few plans are made."""
 
-from __future__ import annotations
-
 from collections import Counter
 from collections.abc import Callable, Sequence
 from dataclasses import dataclass, replace
@@ -13,7 +11,7 @@ from hsp.base.programs import Certificate
 from hsp.plans.counted import times
 from hsp.plans.flows import flows_of
 from hsp.plans.plans import purchased, reached_by
-from hsp.plans.service import Row, Server, Service
+from hsp.plans.service import Server, Service, asked_by
 from hsp.plans.whatif import demand_times
 from hsp.scenarios.judged import Judged, side_by_side
 
@@ -89,11 +87,7 @@ class Growing:
         """The rows of a short set, none where a log has them, and what they ask for now, by region."""
         if self._service.log:
             return [], dict(flows_of(replace(short, inputs=self._service.inputs), self._programs).caught)
-        counts: dict[str, int] = {}
-        for at in short.certificate.rows:
-            row = self._service.rows[at]
-            counts[row.region] = counts.get(row.region, 0) + row.count
-        return short.certificate.rows, counts
+        return short.certificate.rows, asked_by(self._service.rows[at] for at in short.certificate.rows)
 
     def _short(self, tried: Service, region: str | None) -> Short | None:
         """What a shortage says of other factors. None where its rows lack room without those that grow."""
@@ -119,8 +113,7 @@ class Growing:
 
     def _first(self, region: str | None) -> int:
         """A factor above which nothing has to be tried: all rows together are short, or no table holds the counts."""
-        service = self._service
-        counts = service.log.regions if service.log else _by_region(service.rows)
+        service, counts = self._service, self._service.by_region
         now = sum(count for name, count in counts.items() if region in (None, name))
         room = sum(map(service.capacity, service.servers)) - sum(counts.values()) + now
         return min(self.most(region), STEP * max(0, room) // max(1, now) + 1)
@@ -167,7 +160,6 @@ class Growing:
         self._programs.put_away(tried.inputs.demand, tried.plan_file)
 
     def purchase(self, percent: int) -> Purchase:
-        """The least purchase for so many percent more."""
         factor = STEP * (100 + percent) // 100
         asked = self._asked(Fraction(factor, STEP))
         if factor > self.most():
@@ -198,22 +190,11 @@ def at_least(purchases: Sequence[Purchase]) -> list[Purchase]:
     return found
 
 
-def _by_region(rows: Sequence[Row]) -> dict[str, int]:
-    counts: dict[str, int] = {}
-    for row in rows:
-        counts[row.region] = counts.get(row.region, 0) + row.count
-    return counts
-
-
 def grown(service: Service, programs: Judged, done: Callable[[], None] = lambda: None) -> list[Growth]:
     """The growth of all demand together, and then of each region that asks for something, by their names."""
     own = Growing(service, programs)
-    asked = service.log.regions if service.log else _by_region(service.rows)
-    regions = sorted(region for region, count in asked.items() if count)
+    regions = sorted(region for region, count in service.by_region.items() if count)
     tasks: list[Callable[[], Growth]] = [own.growth]
     if len(regions) > 1:
         tasks += [lambda region=region: own.growth(region) for region in regions]  # type: ignore[misc]
     return side_by_side(tasks, done)
-
-
-__all__ = ["STEP", "Growing", "Growth", "Purchase", "Short", "at_least", "grown", "percent_of"]

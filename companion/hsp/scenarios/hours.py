@@ -1,7 +1,5 @@
 """The hours of a day or of a week, each with its own demand, and a plan of each."""
 
-from __future__ import annotations
-
 import csv
 import os
 from collections.abc import Callable, Sequence
@@ -11,11 +9,10 @@ from hsp.base.files import refuse_no_file
 from hsp.base.paths import path_in
 from hsp.base.programs import Certificate, Load, Missing, Refused
 from hsp.base.unfit import Unfit
+from hsp.intake.hours import DAYS
 from hsp.plans.service import NAMES, OF_DAY, OF_WEEK, Row, Service, table
 from hsp.plans.titles import insist_counted
 from hsp.scenarios.judged import Judged, side_by_side
-
-DAYS = ("mon", "tue", "wed", "thu", "fri", "sat", "sun")
 
 
 class Faulty(Exception):
@@ -42,7 +39,6 @@ class Hour:
 
     @property
     def label(self) -> str:
-        """The hour as people write it."""
         return label_of(self.name)
 
     @property
@@ -175,11 +171,7 @@ def planned(service: Service, hour: Hour, programs: Judged) -> HourPlan:
 def all_planned(
     service: Service, hours: Sequence[Hour], programs: Judged, done: Callable[[], None] = lambda: None
 ) -> list[HourPlan]:
-    """The plans of all hours, side by side."""
     tasks: list[Callable[[], HourPlan]] = [
         lambda hour=hour: planned(service, hour, programs) for hour in hours  # type: ignore[misc]
     ]
     return side_by_side(tasks, done)
-
-
-__all__ = ["Faulty", "Hour", "HourPlan", "all_planned", "label_of", "names_in", "of_hour", "planned", "read_hour"]

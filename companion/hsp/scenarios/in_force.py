@@ -1,7 +1,5 @@
 """A plan in force: a certificate with the files for which it was made, which may be others than today's."""
 
-from __future__ import annotations
-
 import os
 import re
 from collections import Counter
@@ -11,9 +9,8 @@ from hsp.base.bounds import whole
 from hsp.base.numbers import some
 from hsp.base.paths import path_in
 from hsp.base.programs import Certificate, Inputs, Missing, Programs, Refused
-from hsp.base.settings import hosts_text, settings_text
 from hsp.base.unfit import Unfit
-from hsp.plans.plans import capacity_file, servers_at
+from hsp.plans.plans import capacity_file, servers_at, settings_file
 from hsp.plans.service import NAMES, VALUES, Service, service_of
 from hsp.plans.titles import TITLES, insist_counted
 from hsp.scenarios.nearest import PRICED, Homes, homes_of
@@ -53,7 +50,6 @@ def files_beside(words: str) -> list[str]:
 
 
 def text_of(path: str) -> str:
-    """The text of a certificate by rows."""
     text = whole(path).decode("utf-8", "replace")
     if text.startswith(BY_PRICES):
         raise Unfit(f"{path}: a certificate by prices names no row, so no plan is near it")
@@ -108,8 +104,7 @@ def _as_full(service: Service, certificate: Certificate, programs: Programs) -> 
         {**host, "limit": sum(loads[server.site, server.id] for server in servers_at(service, host))}
         for host in service.settings["host"]
     ]
-    text = settings_text(service.settings) + hosts_text({"host": hosts})
-    return inputs.but(settings=programs.put(text, ".toml"))
+    return inputs.but(settings=settings_file(programs, service.settings, *hosts))
 
 
 def _refuse_others(service: Service, certificate: Certificate, path: str, programs: Programs) -> None:
@@ -132,6 +127,3 @@ def in_force(words: str, now: Service, programs: Programs) -> InForce:
     certificate = _of_rows(old, text, path)
     _refuse_others(old, certificate, path, programs)
     return InForce(path, homes_of(old, certificate))
-
-
-__all__ = ["InForce", "PLAN", "files_beside", "in_force", "plan_named"]

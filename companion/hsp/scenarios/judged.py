@@ -1,7 +1,5 @@
 """Many plans, side by side, each of which the checker has judged."""
 
-from __future__ import annotations
-
 import contextlib
 import os
 import sys
@@ -74,10 +72,6 @@ def lanes() -> int:
     return max(1, len(os.sched_getaffinity(0)))
 
 
-def _answer(task: Callable[[], Answer]) -> Answer:
-    return task()
-
-
 def side_by_side(tasks: Sequence[Callable[[], Answer]], done: Callable[[], None] = lambda: None) -> list[Answer]:
     """The answers of the tasks, in their order. A task mostly waits for a program."""
     from concurrent.futures import ThreadPoolExecutor  # loaded only here, as it takes others with it
@@ -85,8 +79,8 @@ def side_by_side(tasks: Sequence[Callable[[], Answer]], done: Callable[[], None]
     found: list[Answer] = []
     pool = ThreadPoolExecutor(min(lanes(), max(1, len(tasks))))
     try:
-        for answer in pool.map(_answer, tasks):
-            found.append(answer)
+        for answer in [pool.submit(task) for task in tasks]:
+            found.append(answer.result())
             done()
     finally:
         pool.shutdown(cancel_futures=True)

@@ -1,13 +1,10 @@
 """What is lost, and what then remains: a plan near the one in force, or how much room lacks."""
 
-from __future__ import annotations
-
 from collections.abc import Callable, Mapping
 from dataclasses import dataclass, replace
 
-from hsp.base.grammar import HEADERS
 from hsp.plans.joined import joined
-from hsp.plans.plans import capacity_file
+from hsp.plans.plans import capacity_file, costs_file
 from hsp.plans.service import Server, Service, dotted
 from hsp.scenarios.judged import Judged, side_by_side
 from hsp.scenarios.nearest import Portions
@@ -64,8 +61,7 @@ def without(service: Service, loss: Loss, programs: Judged, more: Mapping[Server
     costs, inputs = service.costs, service.inputs
     if loss.kind == SITE:
         costs = {key: cost for key, cost in costs.items() if key[1] != loss.name}
-        rows = ((region, site, cost) for (region, site), cost in costs.items())
-        inputs = inputs.but(costs=programs.put_table(HEADERS["costs"], rows))
+        inputs = inputs.but(costs=costs_file(programs, costs))
     else:
         room.update({(server.site, server.id): 0 for server in loss.servers})
     if more or loss.kind != SITE:
@@ -105,15 +101,6 @@ def survived(
 ) -> list[After]:
     """What each loss leaves, the worst first: the greatest lack, then the dearest plan."""
     tasks: list[Callable[[], After]] = [
-        lambda loss=loss: after(service, loss, programs, portions)  # type: ignore[misc]
-        for loss in losses_of(service)
+        lambda loss=loss: after(service, loss, programs, portions) for loss in losses_of(service)  # type: ignore[misc]
     ]
-    return sorted(side_by_side(tasks, done), key=worst_first)
-
-
-def worst_first(found: After) -> tuple[int, int]:
-    """The order of losses: the greatest lack first, then the dearest plan."""
-    return (-found.lack, -found.cost if found.cost is not None else 0)
-
-
-__all__ = ["After", "HOST", "Loss", "SERVER", "SITE", "after", "losses_of", "survived", "without"]
+    return sorted(side_by_side(tasks, done), key=lambda found: (-found.lack, -(found.cost or 0)))

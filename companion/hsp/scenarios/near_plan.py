@@ -1,10 +1,9 @@
 """A plan near the one in force, as `hsp plan --near` makes it: its lines, and the tables that show it."""
 
-from __future__ import annotations
-
 import os
 from dataclasses import dataclass, replace
 
+from hsp.base.bounds import octets_of
 from hsp.base.files import refuse_no_folder
 from hsp.base.numbers import part
 from hsp.base.paths import path_in
@@ -66,11 +65,8 @@ class Near:
             return {}
         folder = path_in(os.path.dirname(plan), FOLDER)
         refuse_no_folder(folder, "what shows that a plan is near is written")
-        found = {}
-        for name, source in zip(KEPT, (self.portions.demand, self.portions.costs, self.portions_plan)):
-            with open(source, "rb") as file:
-                found[path_in(folder, name)] = file.read()
-        return found
+        sources = zip(KEPT, (self.portions.demand, self.portions.costs, self.portions_plan))
+        return {path_in(folder, name): octets_of(source) for name, source in sources}
 
     def shown_by(self, plan: str) -> str:
         """What shows that no cheapest plan moves fewer."""
@@ -97,6 +93,3 @@ def near_plan(words: str, service: Service, programs: Judged) -> Near:
         return Near(service, held, plain, plain, "the portions' plan isn't a cheapest one")
     own = replace(service, certificate=near.certificate, plan_file=near.plan_file)
     return Near(own, held, near.moved, plain, "", near.portions, near.portions_plan)
-
-
-__all__ = ["Near", "near_plan"]

@@ -5,8 +5,6 @@ new. Away from home a portion's query costs one more than many times the site's 
 is a cheapest plan of the rows and moves the fewest queries, and a certificate of each shows both.
 """
 
-from __future__ import annotations
-
 from collections import Counter
 from collections.abc import Iterable, Iterator, Mapping
 from dataclasses import dataclass
@@ -229,16 +227,3 @@ def moved_between(service: Service, homes: Homes, certificate: Certificate) -> i
     at_home = {(it.row, it.home): it.queries for it in portions_of(service, homes) if it.home is not None}
     kept = sum(min(queries, at_home.get((row, site), 0)) for row, site, queries in zip(*certificate.use_columns))
     return gone_of(service, homes) + sum(at_home.values()) - kept
-
-
-__all__ = [
-    "Homes",
-    "Nearest",
-    "Portions",
-    "TooMany",
-    "gone_of",
-    "homes_of",
-    "moved_between",
-    "portions_of",
-    "shared",
-]

@@ -5,8 +5,6 @@ more set. The weights of the sets show that no purchase is smaller: no server is
 together, so what each set lacks, times its weight, has to be bought.
 """
 
-from __future__ import annotations
-
 import importlib
 import itertools
 import math
@@ -251,6 +249,3 @@ class Purchases:
             text = re.sub(r"(?m)^capacity \d+$", f"capacity {lack.capacity}", lack.text)
             self._programs.insist(joined(lost, self._programs), self._programs.put(text))
         return found
-
-
-__all__ = ["Lack", "Purchase", "Purchases"]

@@ -1,7 +1,5 @@
 """A part of each capacity and limit that is kept back."""
 
-from __future__ import annotations
-
 import os
 from dataclasses import replace
 from fractions import Fraction
@@ -11,9 +9,8 @@ import click
 from hsp.base.options import Percent
 from hsp.base.paths import path_in
 from hsp.base.programs import Programs
-from hsp.base.settings import hosts_text, settings_text
 from hsp.plans.answering import less_reserve
-from hsp.plans.plans import capacity_file
+from hsp.plans.plans import capacity_file, settings_file
 from hsp.plans.service import Service
 from hsp.scenarios.in_force import PLAN
 
@@ -32,7 +29,7 @@ def reserved(service: Service, part: Fraction, programs: Programs) -> Service:
     if "host" in settings:
         hosts = [{**host, "limit": int(host["limit"] * (1 - part))} for host in settings["host"]]
         settings = {**settings, "host": hosts}
-        inputs = inputs.but(settings=programs.put(settings_text(settings) + hosts_text(settings), ".toml"))
+        inputs = inputs.but(settings=settings_file(programs, settings, *hosts))
     certificate, path = programs.plan(inputs)
     return replace(
         service,
@@ -58,6 +55,3 @@ def forgotten(service: Service, programs: Programs) -> str:
     if less.costs != service.inputs.costs:
         return f"{path} uses no site above a cost, and this plan does: hsp plan --within made it"
     return f"{path} keeps a part of each capacity back, and this plan doesn't: give --reserve, as hsp plan had it"
-
-
-__all__ = ["RESERVE", "forgotten", "reserved"]

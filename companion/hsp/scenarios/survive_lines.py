@@ -1,7 +1,5 @@
 """What the terminal shows of losses, and of a purchase that serves all of them."""
 
-from __future__ import annotations
-
 from collections.abc import Iterator, Sequence
 
 from hsp.base.numbers import average, listed, part, queries_of, signed, some
@@ -47,8 +45,7 @@ def _line(service: Service, found: After, wide: int) -> str:
 
 def lines(service: Service, all_found: Sequence[After], every: bool) -> Iterator[str]:
     """The losses of each kind, the worst first."""
-    unit = f" {service.titles.cost}" if service.titles.cost else ""
-    now = service.certificate.cost
+    unit, now = service.unit, service.certificate.cost
     yield f"now   {bold(f'{now:,}{unit}')}, {average(now, service.asked)}{unit} a query"
     for kind, word in WORDS.items():
         own = [found for found in all_found if found.loss.kind == kind]
@@ -110,6 +107,3 @@ def _lack(lack: Lack) -> str:
     rows = some(lack.rows, "row") if lack.rows else "rows"
     ask = f"{rows} ask for {lack.demand:,} of {lack.capacity:,}"
     return f"      without {lack.loss.name}: {ask}, so {lack.queries:,} lack; weight {lack.weight}"
-
-
-__all__ = ["lines", "purchase_lines", "worst"]

@@ -1,22 +1,21 @@
 """A bound of what a query may cost: a plan within it, and the least bound that has a plan."""
 
-from __future__ import annotations
-
 import os
 from dataclasses import replace
 
 import click
 
+from hsp.base.bounds import octets_of
 from hsp.base.ends import SHORTAGE
 from hsp.base.files import refuse_clashes, refuse_no_folder, replace_all
-from hsp.base.grammar import GREATEST_COST, HEADERS
+from hsp.base.grammar import GREATEST_COST
 from hsp.base.numbers import average
 from hsp.base.options import PathName, apart
 from hsp.base.paths import path_in
 from hsp.base.programs import Programs
 from hsp.base.text import bold, say
 from hsp.doctor.service_folder import with_files
-from hsp.plans.plans import shortage
+from hsp.plans.plans import costs_file, shortage
 from hsp.plans.service import Service
 from hsp.plans.terminal import head, shortage_lines
 from hsp.scenarios.command import asking
@@ -35,8 +34,7 @@ def bounded(service: Service, within: int | None, programs: Programs) -> Service
     if within is None:
         return service
     costs = {pair: cost for pair, cost in service.costs.items() if cost <= within}
-    rows = ((region, site, cost) for (region, site), cost in costs.items())
-    inputs = service.inputs.but(costs=programs.put_table(HEADERS["costs"], rows))
+    inputs = service.inputs.but(costs=costs_file(programs, costs))
     certificate, path = programs.plan(inputs)
     own = replace(service, costs=costs, inputs=inputs, given=service.own_inputs, within=within)
     return replace(own, certificate=certificate, plan_file=path)
@@ -59,11 +57,6 @@ def least(service: Service, programs: Judged) -> tuple[Service, Service | None]:
     return bounded(service, bounds[low], programs), below
 
 
-def _octets(path: str) -> bytes:
-    with open(path, "rb") as file:
-        return file.read()
-
-
 @click.command()
 @with_files
 @click.option("--into", metavar="FOLDER", type=PathName(file_okay=False), help="in place of DIR/within")
@@ -84,23 +77,20 @@ def within(folder: str, into: str | None, no_save: bool, unit: str | None, **giv
         refuse_clashes(service.inputs.files(), [path_in(own, name) for name in (PLAN, COSTS, SHORT, SHORT_COSTS)])
     say(head(service))
     if not service.certificate.is_plan:
-        for line in shortage_lines(service, shortage(service, programs), None, None):
-            say(line)
+        say(*shortage_lines(service, shortage(service, programs)))
         raise SystemExit(SHORTAGE)
     plan, short = least(service, programs)
     programs.insist_held()
-    words = f" {service.titles.cost}" if service.titles.cost else ""
-    asked, cost = service.asked, plan.certificate.cost
+    words, asked, cost = service.unit, service.asked, plan.certificate.cost
     beside = f"{average(cost, asked)} a query; {average(service.certificate.cost, asked)} without a bound"
     say(f"{bold(f'within {plan.within:,}{words}')} all are served: cost {cost:,}{words}, {beside}")
     if short:
-        say(f"{bold(f'within {short.within:,}{words}')} not all are:")
-        for line in shortage_lines(short, shortage(short, programs), None, None):
-            say(line)
+        not_all = f"{bold(f'within {short.within:,}{words}')} not all are:"
+        say(not_all, *shortage_lines(short, shortage(short, programs)))
     if not no_save:
         os.makedirs(own, exist_ok=True)
         files = {PLAN: plan.plan_file, COSTS: plan.inputs.costs}
         files |= {SHORT: short.plan_file, SHORT_COSTS: short.inputs.costs} if short else {}
-        replace_all({path_in(own, name): _octets(path) for name, path in files.items()}, own)
+        replace_all({path_in(own, name): octets_of(path) for name, path in files.items()}, own)
         say(f"kept  {PLAN} {f'and {SHORT} with their' if short else 'with its'} costs in {own}")
     say(yes_line(programs))
