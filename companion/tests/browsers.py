@@ -1,7 +1,5 @@
 """Pages in headless Chromium, as the tests of pages see them."""
 
-from __future__ import annotations
-
 import base64
 import hashlib
 import json

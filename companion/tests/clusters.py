@@ -1,7 +1,5 @@
 """Clusters of Dask on this machine that tests start by themselves: a scheduler, and workers of it."""
 
-from __future__ import annotations
-
 import contextlib
 import json
 import os

@@ -3,8 +3,6 @@
 The programs are those of HSPLAN and HSPLAN_STREAM, or those that are built here.
 """
 
-from __future__ import annotations
-
 import contextlib
 import os
 import shutil

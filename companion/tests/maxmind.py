@@ -1,7 +1,5 @@
 """A writer of small MaxMind databases (MaxMind DB file format, version 2.0), only for the tests."""
 
-from __future__ import annotations
-
 import ipaddress
 from typing import Any
 

@@ -1,8 +1,6 @@
 """What is measured, by the tools themselves: back ends that answer after a known time, and proxies before them that log
 it."""
 
-from __future__ import annotations
-
 import asyncio
 import contextlib
 import subprocess

@@ -5,8 +5,6 @@ With HSP_KEEP in the environment tests write what they print in place of it. The
 has changed before it is committed.
 """
 
-from __future__ import annotations
-
 import difflib
 import functools
 import os

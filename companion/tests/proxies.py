@@ -1,7 +1,5 @@
 """A real HAProxy on loopback, with files that hsp wrote."""
 
-from __future__ import annotations
-
 import contextlib
 import http.client
 import socket

@@ -1,7 +1,5 @@
 """What the tests of plans in time share: drawn services with hosts, and their problems as integer programmes."""
 
-from __future__ import annotations
-
 import random
 from collections.abc import Callable
 from pathlib import Path

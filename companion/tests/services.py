@@ -1,7 +1,5 @@
 """What tests share: small services as texts, and a random one with the queries of its log."""
 
-from __future__ import annotations
-
 import csv
 import ipaddress
 import random

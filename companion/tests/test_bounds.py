@@ -1,7 +1,5 @@
 """What hsp holds in memory and on disk, and how long it takes, for files that are large or forged."""
 
-from __future__ import annotations
-
 import bz2
 import gzip
 import json

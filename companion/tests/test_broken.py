@@ -1,7 +1,5 @@
 """Folders that are broken at random: hsp ends with a status and a line, and never with a traceback."""
 
-from __future__ import annotations
-
 import random
 import shutil
 import subprocess

@@ -1,7 +1,5 @@
 """hsp capacity: from numbers, load tests and logs to a table of capacities."""
 
-from __future__ import annotations
-
 import datetime
 import json
 import random

@@ -1,7 +1,5 @@
 """hsp sites --update, --remove and --host: what a change does is said, and all else in the files stays as it is."""
 
-from __future__ import annotations
-
 import random
 import subprocess
 from collections.abc import Callable

@@ -1,7 +1,5 @@
 """hsp day: hours against the planner, blocks against all that could be, and against their hours' own queries."""
 
-from __future__ import annotations
-
 import csv
 import io
 import os

@@ -1,7 +1,5 @@
 """hsp demand: logs of every form, regions against Python's `ipaddress`, and what is passed over."""
 
-from __future__ import annotations
-
 import bz2
 import csv
 import gzip

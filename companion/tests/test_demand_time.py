@@ -1,7 +1,5 @@
 """hsp demand by the times of lines, against sums made here; rare prefixes; files that are given twice."""
 
-from __future__ import annotations
-
 import csv
 import datetime
 import io

@@ -1,7 +1,5 @@
 """hsp doctor on files with more faults than it explains at once: how many there may be."""
 
-from __future__ import annotations
-
 import json
 import re
 from collections.abc import Callable

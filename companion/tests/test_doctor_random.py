@@ -1,8 +1,6 @@
 """Folders and words that are broken at random: the doctor explains each fault of hsplan, and finds none where hsplan has
 none."""
 
-from __future__ import annotations
-
 import json
 import os
 import random

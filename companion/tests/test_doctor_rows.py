@@ -1,7 +1,5 @@
 """Faulty rows of tables and logs, as hsplan-stream lists them: all of them, in a few runs, each with its place."""
 
-from __future__ import annotations
-
 import os
 import re
 import subprocess

@@ -1,7 +1,5 @@
 """Parts of hsp fleet by themselves: what a run makes of a cluster that answers, waits, fails or goes away."""
 
-from __future__ import annotations
-
 import asyncio
 import contextlib
 import errno

@@ -1,7 +1,5 @@
 """Small parts at their bounds: the last value on one side, and the first on the other."""
 
-from __future__ import annotations
-
 import doctest
 import os
 import time

@@ -1,7 +1,5 @@
 """hsp fleet: the octets of one run, whatever happens to workers, files, disks and schedulers."""
 
-from __future__ import annotations
-
 import bz2
 import contextlib
 import csv

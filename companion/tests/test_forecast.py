@@ -1,7 +1,5 @@
 """What the hours of weeks usually ask for, and how well the last week would have been planned by those before it."""
 
-from __future__ import annotations
-
 import csv
 import datetime
 import random

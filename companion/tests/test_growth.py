@@ -1,7 +1,5 @@
 """hsp grow: by hand for two sites, and against the planner for drawn services."""
 
-from __future__ import annotations
-
 import json
 import random
 import re

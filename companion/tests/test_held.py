@@ -1,7 +1,5 @@
 """Files that are changed while a command reads them: nothing is printed or kept that is of none of their texts."""
 
-from __future__ import annotations
-
 import os
 import shutil
 from collections.abc import Callable

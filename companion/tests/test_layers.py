@@ -1,7 +1,5 @@
 """The packages of hsp stand on each other in one order, and no module on itself by a way round."""
 
-from __future__ import annotations
-
 import ast
 from graphlib import TopologicalSorter
 from pathlib import Path

@@ -1,7 +1,5 @@
 """hsp view of a demand that no table holds, in headless Chromium."""
 
-from __future__ import annotations
-
 import csv
 import io
 import json

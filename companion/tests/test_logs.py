@@ -1,7 +1,5 @@
 """Demands that no table holds: planned by prices, against tables of the same rows and against hsplan-stream."""
 
-from __future__ import annotations
-
 import csv
 import io
 import json

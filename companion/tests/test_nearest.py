@@ -1,7 +1,5 @@
 """Plans near the one in force: against integer programmes, and as hsp plan --near prints them."""
 
-from __future__ import annotations
-
 import json
 import random
 import re

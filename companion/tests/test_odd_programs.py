@@ -1,7 +1,5 @@
 """hsp beside programs that print what they shouldn't, and files that change or can't be read."""
 
-from __future__ import annotations
-
 import contextlib
 import errno
 import os

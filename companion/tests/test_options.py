@@ -1,7 +1,5 @@
 """Defaults and bounds of options, the sites of a new service, and the ends of a run that another try doesn't change."""
 
-from __future__ import annotations
-
 import os
 import re
 import shlex

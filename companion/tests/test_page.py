@@ -1,7 +1,5 @@
 """hsp view: each page in headless Chromium, at two widths, in light and dark."""
 
-from __future__ import annotations
-
 import csv
 import io
 import json

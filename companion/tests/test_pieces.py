@@ -1,7 +1,5 @@
 """hsp demand over logs in pieces, and by several processes: it finds what was written into them, octet for octet."""
 
-from __future__ import annotations
-
 import bz2
 import contextlib
 import csv

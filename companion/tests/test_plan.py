@@ -1,7 +1,5 @@
 """hsp plan: its lines and tables, against hsplan's reports and against plans of changed inputs."""
 
-from __future__ import annotations
-
 import csv
 import io
 import json

@@ -1,7 +1,5 @@
 """What planted changes of the companion showed to be tried by no test: each case here refuses one of them."""
 
-from __future__ import annotations
-
 from collections.abc import Iterator
 from pathlib import Path
 

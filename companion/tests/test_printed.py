@@ -7,8 +7,6 @@ marks a line of standard error.
 for a folder. Behind what hsp doctor finds stands each finding's place with its end, and what hsplan says of it.
 """
 
-from __future__ import annotations
-
 import os
 import re
 import shlex

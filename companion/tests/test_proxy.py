@@ -1,7 +1,5 @@
 """HAProxy answers by a plan as hsplan does: any handle, each hash option, no other host, and loads as planned."""
 
-from __future__ import annotations
-
 import contextlib
 import csv
 import http.server

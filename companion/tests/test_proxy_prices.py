@@ -1,8 +1,6 @@
 """HAProxy answers by prices where no table holds the demand: each handle goes where it pays least, and the rest of a
 period is planned so too."""
 
-from __future__ import annotations
-
 import json
 import random
 import socket

@@ -1,7 +1,5 @@
 """What shares of regions do by themselves, against sums over `hsplan locate` that are made here."""
 
-from __future__ import annotations
-
 import csv
 import functools
 import itertools

@@ -1,7 +1,5 @@
 """hsp new and hsp sites: files that are written, records of every form, and what is left out."""
 
-from __future__ import annotations
-
 import base64
 import hashlib
 import json

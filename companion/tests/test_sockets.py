@@ -1,7 +1,5 @@
 """hsp steer at a socket where something else than HAProxy answers, and beside files that aren't as hsp wrote them."""
 
-from __future__ import annotations
-
 import contextlib
 import os
 import socket

@@ -1,7 +1,5 @@
 """hsp steer keeps a real HAProxy in step with what its servers were given, whatever ends in between."""
 
-from __future__ import annotations
-
 import contextlib
 import json
 import math

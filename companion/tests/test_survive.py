@@ -1,7 +1,5 @@
 """hsp survive: each fallback against the planner, and purchases by hand and against an integer programme."""
 
-from __future__ import annotations
-
 import csv
 import fcntl
 import io

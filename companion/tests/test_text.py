@@ -1,7 +1,5 @@
 """What reaches a terminal or a page: no field of a file steers it, forges a line, or turns its direction."""
 
-from __future__ import annotations
-
 import json
 import os
 import pty

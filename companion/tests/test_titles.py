@@ -1,7 +1,5 @@
 """A demand that an older hsp joined by kinds or counted in units: each command refuses it until it's counted again."""
 
-from __future__ import annotations
-
 import re
 import shutil
 import tomllib

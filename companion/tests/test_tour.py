@@ -1,7 +1,5 @@
 """From what an operator has to a checked plan: a proxy's JSON of nine sites, a log with times, and a table of pings."""
 
-from __future__ import annotations
-
 import json
 import random
 import time

@@ -1,7 +1,5 @@
 """hsp whatif, against plans of changed inputs."""
 
-from __future__ import annotations
-
 import csv
 import io
 import re

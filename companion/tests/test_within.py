@@ -1,7 +1,5 @@
 """hsp plan --within and hsp within: a bound of what a query may cost, with a certificate for each side of it."""
 
-from __future__ import annotations
-
 import re
 import shutil
 from collections.abc import Callable

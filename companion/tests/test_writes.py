@@ -1,7 +1,5 @@
 """What hsp writes: nothing is lost or mixed between runs, and nothing is left where a run is stopped."""
 
-from __future__ import annotations
-
 import contextlib
 import csv
 import fcntl

@@ -1,6 +1,5 @@
 """What inputs are drawn: texts that are changed at random, services with their logs, and records, lists and bodies
 (RFC 3651, section 3; RFC 3652, section 3), each written as a list of its fields."""
-from __future__ import annotations
 
 import re
 from collections.abc import Callable, Iterable, Mapping, Sequence

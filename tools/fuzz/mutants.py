@@ -25,7 +25,6 @@ names has to pass on the sources as they stand. An edit is refused where its tes
 has another output or another end. Sources that do not compile, and a run without an end, refuse nothing. If crates or
 edits are named, only these are tried. `rt must-fail` tries those of the prover, over proofs of the crates.
 """
-from __future__ import annotations
 
 import argparse
 import concurrent.futures

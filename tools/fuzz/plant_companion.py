@@ -13,7 +13,6 @@ function. Without `FILE` the tests are those that `TESTS` names for the module.
 Printed are the changes that no test refused, and how many there were. Some of these change nothing that anybody sees:
 a person judges that. `--list` prints the changes and runs nothing. The gate doesn't run this script.
 """
-from __future__ import annotations
 
 import argparse
 import ast

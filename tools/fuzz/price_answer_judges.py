@@ -4,7 +4,6 @@ tools/lib/price_answers.py.
 Prices and classes are drawn for a few queries, and the log asks for more: for the same pairs again and again, and for
 others. So amounts are used up, queries are diverted, and servers are full. A log of what was planned has every query
 assigned. No server and no host gets too much, by a few fronts together either."""
-from __future__ import annotations
 
 from collections import Counter
 from collections.abc import Iterable, Mapping

@@ -4,7 +4,6 @@ certificate, and each report that of tools/lib/price_reports.py.
 
 A certificate is of what `hsplan plan` prints of a table, or of prices or servers that are drawn. Then it is judged
 again with something changed: its text, the rows, a bound or the service."""
-from __future__ import annotations
 
 from collections.abc import Mapping, Sequence
 from typing import Any, NamedTuple

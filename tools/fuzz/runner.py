@@ -1,5 +1,4 @@
 """A program that is run again and again in one process, on words and files in memory; what holds of its answers."""
-from __future__ import annotations
 
 import os
 import re

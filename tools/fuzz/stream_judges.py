@@ -1,6 +1,5 @@
 """Judges the places that `hsplan-stream` states of logs. Those of logs that are written row by row are compared with the
 oracle's."""
-from __future__ import annotations
 
 import csv
 import io

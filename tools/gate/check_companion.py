@@ -6,7 +6,6 @@ Chromium, and the pages that lie in examples. The tests run side by side, one fo
 
 The packages of Debian that this takes are installed by tools/lib/packages.py.
 """
-from __future__ import annotations
 
 import os
 import subprocess

@@ -7,7 +7,6 @@ Tab. So zsh gets only the lines with at most one completion.
 
 A shell that is not installed is named as not tried. With --all that is a fault.
 """
-from __future__ import annotations
 
 import argparse
 import os

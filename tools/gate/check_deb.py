@@ -13,7 +13,6 @@ It fails where
 The fresh Debian is made by debootstrap in a temporary folder. That takes root, the network and a minute. What can't be
 tried here is named in capitals. The programs have to be built already, by `rt ci` or `make prove`.
 """
-from __future__ import annotations
 
 import filecmp
 import os

@@ -23,7 +23,6 @@ It fails where
     tools/gate/check_docs.py --names                        checks the names only, without the program
     tools/gate/check_docs.py [--program FILE] [--bash]      does all; with --bash in bash and no other shell
 """
-from __future__ import annotations
 
 import argparse
 import glob

@@ -5,7 +5,6 @@
     tools/gate/check_examples.py --record [NAME..]            writes what the commands print into the transcripts;
                                                          read it before you keep it
 """
-from __future__ import annotations
 
 import argparse
 import glob

@@ -20,7 +20,6 @@ If some allocations of a test are left out, the test is named with both numbers.
 It fails where a test program is missing, where a test has no count, where a test fails, and where no test of a
 program took memory.
 """
-from __future__ import annotations
 
 import argparse
 import concurrent.futures

@@ -10,7 +10,6 @@ most 1 MB more memory than on a record of 48 octets.
 Last, handles are made whose hashes are the same. A pass over a log of them may take at most three times as long as over
 a log of handles that are drawn, of the same lengths: the best of three passes each.
 """
-from __future__ import annotations
 
 import argparse
 import os

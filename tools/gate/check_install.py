@@ -6,7 +6,6 @@ and the guide have to be there, and no page may have a link that leads to nothin
 
 The program has to be built already, by `rt ci` or `make prove`, and no source may be newer.
 """
-from __future__ import annotations
 
 import os
 import subprocess

@@ -30,7 +30,6 @@ Then the program runs on streams and files that are not in a case: a closed desc
 file, a pipe that nobody reads, inputs that come through pipes a few octets at a time, and files that shrink while
 they are read.
 """
-from __future__ import annotations
 
 import argparse
 import concurrent.futures

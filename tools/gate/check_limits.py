@@ -15,7 +15,6 @@ Then files of each length from 0 to 8,193, and of 65,535 to 65,537 octets, are r
 What the program has to print follows from how the service is made. The responsible server of a handle (RFC 3652,
 section 3.1.3) is computed here by Python's own MD5.
 """
-from __future__ import annotations
 
 import argparse
 import concurrent.futures

@@ -4,7 +4,6 @@
 The version of each page has to be that of VERSION. A tool that is not installed is named as not tried. If no tool is
 installed, that is a fault.
 """
-from __future__ import annotations
 
 import os
 import re

@@ -7,7 +7,6 @@ The rules: the modules of a crate do not import one another in a circle. No line
 columns, but for an attribute, which rt fmt writes in one line, and no line of a contract's clause has over 100, but in
 crates of tests. In a file of lemmas each lemma has a line above it that says in words what it shows.
 """
-from __future__ import annotations
 
 import re
 import sys

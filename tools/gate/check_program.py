@@ -9,7 +9,6 @@ printed their first lines by then.
 
     tools/gate/check_program.py [--jobs N] [--most N]    refuses N allocations of a case that has more
 """
-from __future__ import annotations
 
 import argparse
 import concurrent.futures

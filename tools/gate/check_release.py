@@ -18,7 +18,6 @@ forged one.
     tools/gate/check_release.py              does all
     tools/gate/check_release.py --unbuilt    compares no program with one that is built here, and needs no kit
 """
-from __future__ import annotations
 
 import argparse
 import os

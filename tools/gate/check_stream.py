@@ -24,7 +24,6 @@ tools/gate/check_program.py runs them. Here are tried:
 - a plan of 100,000 rows with 3,200,000 arcs within 64 MB, since hardly any of the arcs is kept;
 - each open, read and write of some runs failing in turn.
 """
-from __future__ import annotations
 
 import argparse
 import csv

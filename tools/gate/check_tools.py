@@ -5,7 +5,6 @@ A command is a script that can be run. What several of them need stands in tools
 
     tools/gate/check_tools.py
 """
-from __future__ import annotations
 
 import ast
 import os

@@ -10,7 +10,6 @@ to it through private functions.
                                          docs/understand/PROOF.md names a call, a clause or a definition that is not
                                          there
 """
-from __future__ import annotations
 
 import argparse
 import os

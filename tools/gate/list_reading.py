@@ -13,7 +13,6 @@ questions. The words counted are names and the words of comments, also of the co
     tools/gate/list_reading.py            prints the list, and writes the two parts into the page
     tools/gate/list_reading.py --check    prints and writes nothing, and compares the parts that are there
 """
-from __future__ import annotations
 
 import argparse
 import os

@@ -8,7 +8,6 @@ is for. So each run writes the same octets.
     tools/gate/make_examples.py            writes all
     tools/gate/make_examples.py --check    writes nothing, and compares the kept ones with what it would write there
 """
-from __future__ import annotations
 
 import argparse
 import os

@@ -9,8 +9,6 @@ of `hsp` come of its own tree of commands: asked at each Tab, click would take h
 Debian's click and Jinja2.
 """
 
-from __future__ import annotations
-
 import difflib
 import re
 import sys

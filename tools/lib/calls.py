@@ -1,5 +1,4 @@
 """The calls of the crates: what they say of themselves, the clauses of their contracts, and the edits that turn them."""
-from __future__ import annotations
 
 import glob
 import os

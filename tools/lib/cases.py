@@ -18,7 +18,6 @@ A line of a transcript begins with a mark:
 In a line, \\ is a backslash, \xNN an octet, \<N TEXT> the text N times, and \version the version. A backslash at its
 end leaves out the line's end. Lines above the first case are a comment.
 """
-from __future__ import annotations
 
 import os
 import re

@@ -5,7 +5,6 @@ The hash of `hsp_pair_map` adds a word of eight octets and multiplies, word afte
 undoes what the first changes. Of such pairs of words that come to the same, one follows another: sixteen of them, four
 times, are 65,536 handles.
 """
-from __future__ import annotations
 
 import itertools
 import os

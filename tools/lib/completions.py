@@ -1,7 +1,5 @@
 """Completions of a program for bash, zsh and fish, written from its commands and their options."""
 
-from __future__ import annotations
-
 from collections.abc import Iterable
 from typing import NamedTuple
 

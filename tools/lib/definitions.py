@@ -1,5 +1,4 @@
 """Definitions of the crates' specs, and the types and limits of their sources: which names which."""
-from __future__ import annotations
 
 import glob
 import os

@@ -3,7 +3,6 @@
 A number that is not written here is drawn from a digest of a word and of what the number is for. So each run writes
 the same octets.
 """
-from __future__ import annotations
 
 import base64
 import hashlib

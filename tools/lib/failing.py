@@ -1,5 +1,4 @@
 """The calls of a run that tools/lib/fail_io.c recorded, each of which it can let fail."""
-from __future__ import annotations
 
 import collections
 from collections.abc import Iterable

@@ -1,7 +1,5 @@
 """What the sources of hsplan and hsplan-stream say of their commands, limits and headers."""
 
-from __future__ import annotations
-
 import re
 from pathlib import Path
 from typing import NamedTuple

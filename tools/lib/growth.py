@@ -1,5 +1,4 @@
 """Which allocations of a run are refused."""
-from __future__ import annotations
 
 import argparse
 from collections.abc import Sequence

@@ -1,5 +1,4 @@
 """Drawn instances at the limits, drawn logs, and what a run over them takes."""
-from __future__ import annotations
 
 import os
 import random

@@ -3,7 +3,6 @@
 The responsible server of a handle (RFC 3652, section 3.1.3) is computed by Python's own MD5. Rows of one region are
 of one kind where their handles have the same places at the sites where the region has a cost.
 """
-from __future__ import annotations
 
 import functools
 import hashlib

@@ -1,5 +1,4 @@
 """Libraries in C that are preloaded before a program: they refuse an allocation, fail a call, or report memory."""
-from __future__ import annotations
 
 import os
 import subprocess

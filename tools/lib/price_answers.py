@@ -3,7 +3,6 @@
 A front counts what it holds for classes as queries are taken, so that an answer takes no longer where there are many
 classes. What is the same each time that a pair is asked for is found once.
 """
-from __future__ import annotations
 
 from collections.abc import Iterable, Sequence
 from dataclasses import dataclass

@@ -1,5 +1,4 @@
 """Services whose prices, classes and logs tools/measure/prices_peer.cpp draws, for the measurements by prices."""
-from __future__ import annotations
 
 import os
 import random

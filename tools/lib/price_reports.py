@@ -1,5 +1,4 @@
 """Reports of valid certificates by prices, computed here by the definitions in the specs of hsp_price_report."""
-from __future__ import annotations
 
 from collections.abc import Sequence
 

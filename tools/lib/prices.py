@@ -1,5 +1,4 @@
 """Certificates by prices, made of what `hsplan plan` prints of a table."""
-from __future__ import annotations
 
 from collections.abc import Mapping, Sequence
 from typing import NamedTuple

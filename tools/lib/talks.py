@@ -1,5 +1,4 @@
 """Talks with a program over pipes: a row is written, and its answer is read before the next row is written."""
-from __future__ import annotations
 
 import subprocess
 import sys

@@ -13,7 +13,6 @@ three. A program that doesn't answer by prices is not measured. Seconds are proc
 Memory is the most that a run held. All runs are on one processor, where the machine lets one be chosen. Then a
 co-process over pipes is asked row by row.
 """
-from __future__ import annotations
 
 import argparse
 import hashlib

@@ -7,7 +7,6 @@ Printed are the lines and branches that no test reaches, module by module, and t
 measured, with the tests that reach each line; tools/fuzz/plant_companion.py reads it. This takes Debian's python3-coverage.
 The gate doesn't run this script.
 """
-from __future__ import annotations
 
 import argparse
 import contextlib

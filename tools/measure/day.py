@@ -13,7 +13,6 @@ A line of the table has the sums of the day. The fullest server is that of the w
 added up over servers and hours. Costs are those of a query that has a server, beside those of a query by the best plan
 of each hour itself. The last lines ask for three times the plan of the busiest hour.
 """
-from __future__ import annotations
 
 import argparse
 import math

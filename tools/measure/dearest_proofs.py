@@ -11,7 +11,6 @@ the name of a derive, as `FaultDebug.fmt.Lts`, is that of what the derive wrote.
 specs/. What a check took from an earlier one has the times of the earlier one. Checks side by side take longer, so
 compare only what was measured at one load.
 """
-from __future__ import annotations
 
 import argparse
 import os

@@ -13,7 +13,6 @@ Each row has the middle turn by the clock: lines a second, seconds of all proces
 process. Behind them stand the load of the machine before the run, and the share of the processors that others stole
 meanwhile. All runs of `hsp demand` over a log have to write the same octets.
 """
-from __future__ import annotations
 
 import argparse
 import hashlib

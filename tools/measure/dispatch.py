@@ -21,7 +21,6 @@ Factors are printed by the fastest runs, and by the median of the turns. On a bu
 Seconds are processor seconds, and memory is its peak. A run on a log of only a header measures what is spent before
 the first row. All runs are on one processor, where the machine lets one be chosen.
 """
-from __future__ import annotations
 
 import argparse
 import glob

@@ -11,7 +11,6 @@ what a part costs.
 
 Seconds are those of the clock, the middle of the turns, and behind them those of the processor.
 """
-from __future__ import annotations
 
 import argparse
 import hashlib

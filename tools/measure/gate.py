@@ -14,7 +14,6 @@ second of each check is missed.
 Every half minute a loop of a fixed length is timed too. Its seconds say how fast a processor was meanwhile, so that
 runs on other machines and at other hours can be compared.
 """
-from __future__ import annotations
 
 import argparse
 import glob

@@ -7,7 +7,6 @@ Each file that the program reads is made in turn of a beginning that the program
 again: brackets, dots, quotes, commas, empty lines, keys, tables, digits, zero octets, or one handle. The script
 prints a table in Markdown with the seconds, the memory, the status and what the program prints on standard error.
 """
-from __future__ import annotations
 
 import argparse
 import itertools

@@ -15,7 +15,6 @@ With `--parts` it needs neither. It measures `hsplan check` of a plan, and of th
 first is refused once instance and certificate are read, the second once all arcs are listed, and the third once the
 flows are added up.
 """
-from __future__ import annotations
 
 import argparse
 import concurrent.futures

@@ -11,7 +11,6 @@ Whole runs count. hsplan-stream reads its files, hashes, solves and prints the c
 yes. LEMON reads the network as numbers, solves it by each of two pivot rules, and prints flows and potentials. All costs
 have to be the same. Seconds are those of a processor. The files of a case are kept where --folder names a folder.
 """
-from __future__ import annotations
 
 import argparse
 import os

@@ -12,7 +12,6 @@ to the certificate with another amount. Seconds are processor seconds, the least
 run held. All runs are on one processor, where the machine lets one be chosen. The files are made before the first
 run, in a folder that is kept where --folder names one, and taken from there the next time.
 """
-from __future__ import annotations
 
 import argparse
 import os

@@ -8,7 +8,6 @@ plans them, has the answer judged, and reports the loads of a plan. Then it loca
 settings. Of N runs (by default 5) it prints the least, the middle and the greatest. With `--hosts N` the servers
 stand on N machines, whose limits together are three fifths of the capacity.
 """
-from __future__ import annotations
 
 import argparse
 import os

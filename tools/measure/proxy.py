@@ -13,7 +13,6 @@ gives in a second, and how long a map takes to be swapped.
 
 Each prints a table in Markdown. Needs Debian's packages haproxy and wrk, and those of hsp.
 """
-from __future__ import annotations
 
 import argparse
 import contextlib

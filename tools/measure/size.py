@@ -7,7 +7,6 @@ Lines are counted as they stand, comments and empty lines too. Those of document
 `console`. The chain is the longest way through crates.txt by the seconds that the table of docs/maintain/GATE.md has
 for the proof of each crate, for the proof before its edits, and for its edits.
 """
-from __future__ import annotations
 
 import re
 import sys

@@ -14,7 +14,6 @@ picture are compared, and not their places.
     tools/pictures/draw.py            writes the pictures
     tools/pictures/draw.py --check    writes nothing, and compares the pictures that are there
 """
-from __future__ import annotations
 
 import argparse
 import hashlib

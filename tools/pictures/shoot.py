@@ -8,7 +8,6 @@
 The picture takes Chromium, its driver, and Python's selenium and PIL (Debian: chromium chromium-driver
 python3-selenium python3-pil). Only the pages are compared, since fonts differ between machines.
 """
-from __future__ import annotations
 
 import argparse
 import io
