@@ -8,7 +8,7 @@ import os
 import shutil
 import subprocess
 import sys
-from collections.abc import Callable, Iterator
+from collections.abc import Callable
 from pathlib import Path
 
 import pytest
@@ -21,6 +21,8 @@ from lib import examples, programs  # noqa: E402
 from hsp.cli import main  # noqa: E402
 
 Hsp = Callable[..., "subprocess.CompletedProcess[str]"]
+# Copies an example.
+Example = Callable[[str], Path]
 # Before a command that gets a signal: what runs the tests, as nohup, may have signals ignored.
 WITH_SIGNALS = ["env", "--default-signal=HUP,INT,TERM"]
 
@@ -111,10 +113,10 @@ def twelve(tmp_path_factory: pytest.TempPathFactory) -> Path:
 
 
 @pytest.fixture
-def example(tmp_path: Path) -> Iterator[Callable[[str], Path]]:
+def example(tmp_path: Path) -> Example:
     """Copies an example into a folder of the test's own."""
 
     def copied(name: str) -> Path:
         return Path(shutil.copytree(TOP / "examples" / name, tmp_path / name))
 
-    yield copied
+    return copied

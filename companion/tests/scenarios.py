@@ -11,7 +11,6 @@ from scipy import optimize
 from hsp.plans.service import Service
 from lib import examples
 
-Example = Callable[[str], Path]
 Draw = random.Random
 
 

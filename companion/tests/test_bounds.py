@@ -35,10 +35,9 @@ from hsp.intake.sitefiles import Files
 from hsp.intake.tally import Tally
 from hsp.plans.service import settings_in, table
 
-from conftest import variables
+from conftest import Example, variables
 from test_sites import PARIS, invoke, site_json
 
-Example = Callable[[str], Path]
 TOO_LARGE = "more than 67,108,864 octets; a file that is read whole has at most so many"
 
 

@@ -2,7 +2,6 @@
 
 import random
 import subprocess
-from collections.abc import Callable
 from pathlib import Path
 
 import pytest
@@ -10,10 +9,9 @@ import pytest
 from lib import examples
 from hsp.base.programs import program
 
-from conftest import Hsp
+from conftest import Example, Hsp
 from services import rows
 
-Example = Callable[[str], Path]
 PARIS = examples.TWO_SITES["paris"]
 
 

@@ -21,8 +21,8 @@ from hsp.scenarios.judged import Judged
 from hsp.scenarios.nearest import homes_of, portions_of
 
 from browsers import WIDTHS, Page, allowed, assert_stands, browser
-from conftest import Hsp
-from scenarios import Example, Flows, demand_of, drawn_service
+from conftest import Example, Hsp
+from scenarios import Flows, demand_of, drawn_service
 
 __all__ = ["browser"]
 

@@ -2,7 +2,6 @@
 
 import json
 import re
-from collections.abc import Callable
 from pathlib import Path
 
 import pytest
@@ -11,9 +10,9 @@ from hsp.doctor import faults, guard, word_doubts
 from hsp.doctor.cut_short import cut_short, likely
 from hsp.doctor.findings import NOTE, WARNING, Finding
 
+from conftest import Example
 from test_sites import invoke
 
-Example = Callable[[str], Path]
 FILES = ("settings.toml", "demand.csv", "costs.csv", "capacity.csv")
 HEADER = "region,site,cost\n"
 AGAIN = "mend these, and ask again"

@@ -3,7 +3,6 @@
 import os
 import re
 import subprocess
-from collections.abc import Callable
 from pathlib import Path
 
 import pytest
@@ -12,9 +11,8 @@ from hsp.base.programs import Programs
 from hsp.doctor import examined, faults, table_faults
 from hsp.doctor.question import Diagnosis, Question, draft_of
 
-from conftest import Hsp
+from conftest import Example, Hsp
 
-Example = Callable[[str], Path]
 HEAD = b"region,handle,count\n"
 
 

@@ -9,7 +9,6 @@ import socket
 import subprocess
 import sys
 import time
-from collections.abc import Callable
 from pathlib import Path
 from types import SimpleNamespace
 from typing import Any
@@ -23,7 +22,6 @@ from hsp.fleet.engine import NOT_YET, ByValue, Engine, Place, Unfinished
 from hsp.fleet.local import Gone, Local
 from hsp.fleet.split import Parted
 
-Example = Callable[[str], Path]
 
 
 class Future:

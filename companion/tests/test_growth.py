@@ -14,8 +14,8 @@ from hsp.plans.service import Service, read_service
 from hsp.scenarios.growth import STEP, Growing, Growth, grown, percent_of
 from hsp.scenarios.judged import Judged
 
-from conftest import Hsp
-from scenarios import Example, demand_of, drawn_service, put
+from conftest import Example, Hsp
+from scenarios import demand_of, drawn_service, put
 
 
 def test_two_sites_by_hand(hsp: Hsp, example: Example) -> None:

@@ -9,11 +9,10 @@ import pytest
 
 from hsp.base.held import Held
 
-from conftest import Hsp
+from conftest import Example, Hsp
 from scenarios import demand_of
 from test_proxy import NETWORKS
 
-Example = Callable[[str], Path]
 # At which time that a program gets an order a file is changed, by the command that asks for it.
 COMMANDS = {
     "plan": ("report", 1),

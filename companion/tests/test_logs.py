@@ -8,7 +8,6 @@ import random
 import re
 import subprocess
 from collections import Counter
-from collections.abc import Callable
 from fractions import Fraction
 from pathlib import Path
 
@@ -22,11 +21,10 @@ from hsp.plans.plans import cheapest, least_purchase, planned, shortage, with_ga
 from hsp.plans.service import Service, read_service
 from hsp.plans.whatif import Changes, standard
 
-from conftest import Hsp
+from conftest import Example, Hsp
 from test_sites import invoke
 from services import Place, random_service, rows, written
 
-Example = Callable[[str], Path]
 HEAD = "region,handle,count\n"
 SIZES = (7, 8, 9, 11, 5)
 

@@ -17,9 +17,9 @@ from hsp.scenarios.judged import Judged
 from hsp.scenarios.nearest import Portions, TooMany, homes_of, moved_between, portions_of, shared
 from hsp.scenarios.reserve import reserved
 
-from conftest import Hsp
+from conftest import Example, Hsp
 from lib import examples
-from scenarios import Example, Flows, demand_of, drawn_service
+from scenarios import Flows, demand_of, drawn_service
 
 
 def rows_of(folder: Path) -> list[list[str]]:

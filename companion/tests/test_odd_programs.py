@@ -23,11 +23,10 @@ from hsp.fleet import demand, dispatch
 from hsp.fleet.remote import Mark, Seal
 from hsp.plans import service
 
-from conftest import TOP
+from conftest import TOP, Example
 from test_sites import invoke
 from services import OTHER, TWO_IN_ONE, Place, host, written
 
-Example = Callable[[str], Path]
 
 
 @pytest.fixture

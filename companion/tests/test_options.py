@@ -4,7 +4,7 @@ import os
 import re
 import shlex
 import subprocess
-from collections.abc import Callable, Iterator
+from collections.abc import Iterator
 from pathlib import Path
 
 import click
@@ -15,7 +15,7 @@ from hsp.base.options import PathName
 from hsp.cli import main
 from hsp.fleet import answers
 
-from conftest import TOP, Hsp
+from conftest import TOP, Example, Hsp
 from test_sites import invoke
 
 # What the manual page says of each option that has a default or bounds: its default, its least and its greatest value.
@@ -128,7 +128,7 @@ REFUSED = [
 
 @pytest.mark.parametrize("command, words, line", REFUSED)
 def test_an_option_that_does_nothing_is_refused(
-    hsp: Hsp, example: Callable[[str], Path], monkeypatch: pytest.MonkeyPatch, command: str, words: str, line: str
+    hsp: Hsp, example: Example, monkeypatch: pytest.MonkeyPatch, command: str, words: str, line: str
 ) -> None:
     folder = example("bring-in")
     monkeypatch.chdir(folder)

@@ -8,7 +8,6 @@ import re
 import shutil
 import subprocess
 from collections import Counter
-from collections.abc import Callable
 from dataclasses import replace
 from fractions import Fraction
 from pathlib import Path
@@ -23,12 +22,11 @@ from hsp.plans.plans import planned
 from hsp.plans.service import read_service
 
 from browsers import WIDTHS, Page, allowed, assert_stands, browser, viewed, widened
-from conftest import TOP, Hsp
+from conftest import TOP, Example, Hsp
 
 from lib import instances, memory
 
 __all__ = ["browser"]
-Example = Callable[[str], Path]
 PAGES = ("two-sites", "base", "hosts", "shortage", "compared", "ahead", "twelve-sites")
 @pytest.fixture(scope="module")
 def pages(hsp: Hsp, twelve: Path, tmp_path_factory: pytest.TempPathFactory) -> dict[str, Path]:

@@ -9,7 +9,6 @@ import shutil
 import subprocess
 import sys
 from collections import Counter
-from collections.abc import Callable
 from dataclasses import replace
 from pathlib import Path
 from typing import Any
@@ -23,13 +22,12 @@ from hsp.cli import main
 from hsp.plans.plans import capacity_file, cheapest, least_purchase, planned, purchased, shortage, with_gains
 from hsp.plans.service import Service, read_service
 
-from conftest import Hsp
+from conftest import Example, Hsp
 from services import random_service, rows
 from test_sites import invoke
 
 from lib import companion
 
-Example = Callable[[str], Path]
 
 
 def read(folder: Path, **given: str) -> tuple[Service, Programs]:
@@ -132,7 +130,7 @@ def test_cheapest_sites_are_the_sum_of_the_cheapest_costs(twelve: Path) -> None:
     assert reference and reference.cost == sum(row.count * least[row.region] for row in service.rows)
 
 
-def test_the_programs_beside_hsp_are_found(tmp_path: Path, example: Callable[[str], Path]) -> None:
+def test_the_programs_beside_hsp_are_found(tmp_path: Path, example: Example) -> None:
     """Called by its path, also by a link to it, hsp needs no PATH. HSPLAN and PATH come first."""
     folder, beside, other = example("two-sites"), tmp_path / "beside", tmp_path / "other"
     beside.mkdir()

@@ -27,10 +27,9 @@ from hsp.intake.regions import networks_in
 from hsp.plans.service import Service, read_service
 from hsp.proxy.kinds import LOTS, drawn_from, key_of, shares_of
 
-from conftest import TOP, Hsp
+from conftest import TOP, Example, Hsp
 from proxies import Front, answering, free_ports
 
-Example = Callable[[str], Path]
 TRUSTED = ("--trusted", "127.0.0.0/8")
 SIGNS = "abcXYZ019-._@%?#&=+ ,\"'\\/|:;éÉß漢😀\x01\x7f"
 NETWORKS = "network,region\n192.0.2.0/24,eu\n192.0.2.128/26,asia\n198.51.100.0/24,us\n2001:db8::/32,eu\n"

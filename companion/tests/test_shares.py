@@ -7,7 +7,7 @@ import json
 import os
 import subprocess
 from collections import defaultdict
-from collections.abc import Callable, Iterable
+from collections.abc import Iterable
 from fractions import Fraction
 from pathlib import Path
 
@@ -15,9 +15,8 @@ from hsp.base.programs import Programs
 from hsp.plans.plans import by_shares, planned
 from hsp.plans.service import read_service
 
-from conftest import Hsp
+from conftest import Example, Hsp
 
-Example = Callable[[str], Path]
 Server = tuple[str, int]
 # How many queries of each region a server is responsible for, by region and site.
 Counts = dict[tuple[str, str], dict[Server, int]]

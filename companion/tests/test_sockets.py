@@ -17,10 +17,9 @@ from hsp.proxy import runtime
 from hsp.proxy.runtime import Runtime
 from hsp.proxy.steer import read_anew
 
-from conftest import Hsp
+from conftest import Example, Hsp
 from test_proxy import NETWORKS
 
-Example = Callable[[str], Path]
 Answering = Callable[[socket.socket, bytes], None]
 INFO = b"Name: HAProxy\nPid: 7\nUptime_sec: %b\nStart_time_sec: 5\n"
 TABLE = b"# table: taken\n0x1: key=paris:1 use=0 http_req_cnt=%b http_req_rate(60000)=1\n"

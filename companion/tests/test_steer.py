@@ -42,11 +42,10 @@ from hsp.proxy.watched import Watched
 
 from lib import examples
 
-from conftest import TOP, WITH_SIGNALS, Hsp, variables
+from conftest import TOP, WITH_SIGNALS, Example, Hsp, variables
 from proxies import Front, answering
 from test_proxy import CLIENTS, NAMES, NETWORKS, TRUSTED, expected, put, until, urls_in, urls_text
 
-Example = Callable[[str], Path]
 HANDLE = "20.500.1234/film-5"
 
 

@@ -30,8 +30,8 @@ from hsp.scenarios.purchase import Purchases
 from hsp.scenarios.reserve import reserved
 from lib import examples
 
-from conftest import Hsp
-from scenarios import Example, Flows, demand_of, drawn_service, put
+from conftest import Example, Hsp
+from scenarios import Flows, demand_of, drawn_service, put
 
 
 def table_of(text: str) -> list[dict[str, str]]:

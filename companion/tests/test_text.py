@@ -7,7 +7,6 @@ import re
 import subprocess
 import sys
 import unicodedata
-from collections.abc import Callable
 from pathlib import Path
 from xml.etree import ElementTree
 
@@ -15,10 +14,9 @@ import pytest
 
 from hsp.base.text import UNSEEN, escaped
 
-from conftest import TOP, variables
+from conftest import TOP, Example, variables
 from test_sites import ADMIN, invoke, site_json, value_json
 
-Example = Callable[[str], Path]
 # An escape sequence, its ends, a line of our own, another line end, and marks of direction.
 HOSTILE = "\x1b]0;pwned\x07\x1b[2J\x9b2J\nhsp: all is well\r\u2028\u202edlrow\u2066"
 SHOWN = r"\x1b]0;pwned\x07\x1b[2J\x9b2J\nhsp: all is well\r\u2028\u202edlrow\u2066"

@@ -12,8 +12,7 @@ from hsp.base.unfit import Unfit
 from hsp.plans.titles import REMEDY, uncounted
 from hsp.proxy.steer import read_anew
 
-from conftest import TOP, Hsp
-from scenarios import Example
+from conftest import TOP, Example, Hsp
 from services import random_service
 from test_sites import invoke
 

@@ -4,7 +4,6 @@ import csv
 import io
 import re
 import shutil
-from collections.abc import Callable
 from pathlib import Path
 from xml.etree import ElementTree
 
@@ -14,9 +13,8 @@ from hsp.base.programs import Programs
 from hsp.plans.plans import capacity_file
 from hsp.plans.service import read_service
 
-from conftest import Hsp
+from conftest import Example, Hsp
 
-Example = Callable[[str], Path]
 
 
 def cases(hsp: Hsp, *words: str) -> list[dict[str, str]]:

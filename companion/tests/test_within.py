@@ -2,17 +2,15 @@
 
 import re
 import shutil
-from collections.abc import Callable
 from pathlib import Path
 
 import pytest
 
 from hsp.base.programs import Inputs, Programs
 
-from conftest import Hsp
+from conftest import Example, Hsp
 from services import rows
 
-Example = Callable[[str], Path]
 
 
 def verdict(folder: Path, costs: Path, certificate: Path) -> tuple[str, bool]:

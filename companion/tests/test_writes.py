@@ -9,7 +9,6 @@ import signal
 import subprocess
 import sys
 import time
-from collections.abc import Callable
 from pathlib import Path
 
 import pytest
@@ -18,11 +17,10 @@ from hsp.base import files, signals
 from hsp.base.programs import Missing, Programs
 from hsp.base.unfit import Unfit
 
-from conftest import WITH_SIGNALS, children, named, variables
+from conftest import WITH_SIGNALS, Example, children, named, variables
 from lib.companion import archive
 from test_sites import PARIS, RESTON
 
-Example = Callable[[str], Path]
 
 
 def started(*words: object, **more: str) -> "subprocess.Popen[str]":
