@@ -5,14 +5,16 @@ The programs are those of HSPLAN and HSPLAN_STREAM, or those that are built here
 
 import contextlib
 import os
+import re
 import shutil
 import subprocess
 import sys
-from collections.abc import Callable
+import time
+from collections.abc import Callable, Iterable
 from pathlib import Path
 
 import pytest
-from click.testing import CliRunner
+from click.testing import CliRunner, Result
 
 TOP = Path(__file__).resolve().parents[2]
 sys.path[:0] = [str(TOP / "companion"), str(TOP / "tools")]
@@ -40,6 +42,19 @@ def children(process: int) -> list[int]:
         for thread in os.listdir(f"/proc/{process}/task"):
             found += map(int, Path(f"/proc/{process}/task/{thread}/children").read_text().split())
     return found
+
+
+def until(is_so: Callable[[], object], seconds: float = 60, pause: float = 0.02) -> None:
+    """Waits until something is so."""
+    end = time.monotonic() + seconds
+    while not is_so():
+        assert time.monotonic() < end
+        time.sleep(pause)
+
+
+def rewrite(path: Path, pattern: str, new: str | Callable[[re.Match[str]], str]) -> None:
+    """Writes a file anew, with something else wherever a pattern stands in it."""
+    path.write_text(re.sub(pattern, new, path.read_text(), flags=re.M))
 
 
 def named(process: int, word: str) -> bool:
@@ -72,9 +87,15 @@ def _ran_apart(words: tuple[str, ...], more: dict[str, str]) -> "subprocess.Comp
     return subprocess.run(command, text=True, env=variables(**more), **streams)  # type: ignore[call-overload,no-any-return]
 
 
+def run_here(words: Iterable[object], **more: str) -> Result:
+    """Runs a command of hsp in this process. A traceback would be an exception other than an exit."""
+    result = CliRunner(mix_stderr=False).invoke(main, [*map(str, words)], env=more, prog_name="hsp")
+    assert result.exception is None or isinstance(result.exception, SystemExit), f"{words}: {result.exception!r}"
+    return result
+
+
 def _ran_here(words: tuple[str, ...], more: dict[str, str]) -> "subprocess.CompletedProcess[str]":
-    result = CliRunner(mix_stderr=False).invoke(main, words, env=more, prog_name="hsp")
-    assert result.exception is None or isinstance(result.exception, SystemExit), repr(result.exception)
+    result = run_here(words, **more)
     return subprocess.CompletedProcess(words, result.exit_code, result.stdout, result.stderr)
 
 
@@ -120,3 +141,9 @@ def example(tmp_path: Path) -> Example:
         return Path(shutil.copytree(TOP / "examples" / name, tmp_path / name))
 
     return copied
+
+
+@pytest.fixture
+def folder(example: Example) -> Path:
+    """A copy of the example of two sites."""
+    return example("two-sites")

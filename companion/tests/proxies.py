@@ -5,12 +5,11 @@ import http.client
 import socket
 import subprocess
 import tempfile
-import time
 from collections.abc import Iterator
 from dataclasses import dataclass, field
 from pathlib import Path
 
-from conftest import Hsp
+from conftest import Hsp, until
 
 
 def free_ports(number: int) -> list[int]:
@@ -62,9 +61,7 @@ class Front:
             command = ["haproxy", "-f", str(self.config)]
             self.process = subprocess.Popen(command, stdout=file, stderr=subprocess.STDOUT, cwd="/")
         wait(self.process, self.port, self.log)
-        until = time.monotonic() + 60
-        while not self._is_spoken_to() and self.process.poll() is None and time.monotonic() < until:
-            time.sleep(0.01)  # it listens at the port first
+        until(lambda: self._is_spoken_to() or self.process.poll() is not None)  # it listens at the port first
 
     def _is_spoken_to(self) -> bool:
         """Whether the runtime socket is that of a process, and not what one left that is gone."""
@@ -110,9 +107,7 @@ class Front:
 
     def logged(self, lines: int) -> Path:
         """The log, once it has so many lines. HAProxy writes one after it has answered."""
-        until = time.monotonic() + 60
-        while self.log.read_bytes().count(b"\n") < lines and time.monotonic() < until:
-            time.sleep(0.01)
+        until(lambda: self.log.read_bytes().count(b"\n") >= lines)
         return self.log
 
     def taken(self) -> dict[str, int]:
@@ -147,9 +142,11 @@ def answering(hsp: Hsp, folder: Path, into: Path, *words: str) -> Iterator[Front
 
 def wait(process: "subprocess.Popen[bytes]", port: int, log: Path) -> None:
     """Waits until a HAProxy listens."""
-    until = time.monotonic() + 60
-    while time.monotonic() < until and process.poll() is None:
+
+    def listens() -> bool:
+        assert process.poll() is None, f"HAProxy doesn't listen: {log.read_text()}"
         with contextlib.suppress(OSError), socket.create_connection(("127.0.0.1", port), timeout=1):
-            return
-        time.sleep(0.05)
-    raise AssertionError(f"HAProxy doesn't listen: {log.read_text()}")
+            return True
+        return False
+
+    until(listens)

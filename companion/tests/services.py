@@ -1,6 +1,7 @@
 """What tests share: small services as texts, and a random one with the queries of its log."""
 
 import csv
+import io
 import ipaddress
 import random
 from dataclasses import dataclass
@@ -8,6 +9,8 @@ from pathlib import Path
 
 from hsp.intake.records import Interface, ServerRecord, SiteRecord
 from hsp.intake.skeleton import BOTH
+from hsp.base.programs import Programs
+from hsp.plans.service import Service, read_service
 
 NETWORKS = "network,region\n10.1.0.0/16,eu\n10.2.0.0/16,us\n10.3.0.0/16,asia\n"
 CLIENTS = {"10.1.0.1": "eu", "10.2.0.1": "us", "10.3.0.1": "asia"}
@@ -50,6 +53,17 @@ def written(folder: Path, **texts: str) -> Path:
 
 def rows(path: Path) -> list[list[str]]:
     return list(csv.reader(path.read_text().splitlines()))[1:]
+
+
+def read(folder: Path, **given: str) -> tuple[Service, Programs]:
+    """The service of a folder, and the desk over which it was read."""
+    programs = Programs()
+    return read_service(str(folder), programs, dict(given)), programs
+
+
+def table_of(text: str) -> list[dict[str, str]]:
+    """The rows of a table by its header."""
+    return list(csv.DictReader(io.StringIO(text, newline="")))
 
 
 TWO_IN_ONE = Place("north", 2, ["192.0.2.1", "192.0.2.1"])

@@ -9,7 +9,7 @@ import pytest
 from lib import examples
 from hsp.base.programs import program
 
-from conftest import Example, Hsp
+from conftest import Hsp
 from services import rows
 
 PARIS = examples.TWO_SITES["paris"]
@@ -33,8 +33,7 @@ def servers(folder: Path, handles: list[str]) -> dict[tuple[str, str], str]:
 
 
 @pytest.mark.parametrize("addresses", [[*PARIS, "192.0.2.13"], PARIS[:1], PARIS, [PARIS[0], "192.0.2.99"]])
-def test_the_share_that_changes_is_that_of_the_hash(addresses: list[str], example: Example, hsp: Hsp) -> None:
-    folder = example("two-sites")
+def test_the_share_that_changes_is_that_of_the_hash(addresses: list[str], folder: Path, hsp: Hsp) -> None:
     demand = [(handle, int(count)) for _, handle, count in rows(folder / "demand.csv")]
     handles = sorted({handle for handle, _ in demand})
     before = servers(folder, handles)
@@ -60,8 +59,7 @@ def test_the_share_that_changes_is_that_of_the_hash(addresses: list[str], exampl
     assert hsp("doctor", str(folder)).stdout.splitlines()[-1].startswith("no fault")
 
 
-def test_comments_and_other_sites_stay(example: Example, hsp: Hsp) -> None:
-    folder = example("two-sites")
+def test_comments_and_other_sites_stay(folder: Path, hsp: Hsp) -> None:
     settings = folder / "settings.toml"
     lines = settings.read_text().splitlines()
     text = "\r\n".join(["# mine", lines[0], "# of paris", *lines[1:3], "# of reston", *lines[3:]])
@@ -82,8 +80,7 @@ def test_comments_and_other_sites_stay(example: Example, hsp: Hsp) -> None:
     assert "\n" not in hsp("sites", "--remove", "reston", "--into", str(folder), status=1).stderr.rstrip("\n")
 
 
-def test_of_a_long_demand_a_sample_is_looked_at(example: Example, hsp: Hsp) -> None:
-    folder = example("two-sites")
+def test_of_a_long_demand_a_sample_is_looked_at(folder: Path, hsp: Hsp) -> None:
     draw = random.Random(4)
     lines = "".join(f'eu,"20.500.1234/it,{draw.randrange(10**9)}",2\n' for _ in range(20_000))
     (folder / "demand.csv").write_text(f"region,handle,count\n{lines}")
@@ -95,8 +92,7 @@ def test_of_a_long_demand_a_sample_is_looked_at(example: Example, hsp: Hsp) -> N
     assert "(by 8,192 of 20,000 rows, \u00b11%)" in said
 
 
-def test_what_cannot_be_changed_is_refused(example: Example, hsp: Hsp) -> None:
-    folder = example("two-sites")
+def test_what_cannot_be_changed_is_refused(folder: Path, hsp: Hsp) -> None:
     octets = record(folder.parent, 8, PARIS, "pariss")
     into = ["--into", str(folder)]
     assert "did you mean --name paris?" in hsp("sites", octets, "--update", *into, status=1).stderr

@@ -11,6 +11,7 @@ import os
 import pty
 import random
 import re
+import shutil
 import subprocess
 import sys
 from collections import Counter
@@ -20,11 +21,9 @@ from typing import NamedTuple
 from urllib.parse import quote
 
 import pytest
-from click.testing import CliRunner
 
 import maxmind
 from hsp.base.programs import Programs
-from hsp.cli import main
 from hsp.intake.forms import Form
 from hsp.intake.logs import LONGEST, Skipped, numbered
 from hsp.intake.queries import Judge, Reading
@@ -32,7 +31,7 @@ from hsp.intake.regions import Database, Networks, Seek, regions_in
 from hsp.intake.side_by_side import parts_of
 from hsp.intake.tally import Tally
 
-from conftest import TOP, Hsp, variables
+from conftest import TOP, Hsp, run_here, variables
 from test_sites import invoke
 
 LINES = 10_000
@@ -57,16 +56,25 @@ class Asked(NamedTuple):
     handle: str
 
 
-def region_of(address: str) -> str | None:
+Parsed = list[tuple[ipaddress.IPv4Network | ipaddress.IPv6Network, str]]
+
+
+def parsed(networks: dict[str, str]) -> Parsed:
+    return [(ipaddress.ip_network(it), region) for it, region in networks.items()]
+
+
+PARSED = parsed(NETWORKS)
+
+
+def region_of(address: str, networks: Parsed = PARSED) -> str | None:
     """The region by the longest prefix, as `ipaddress` has it."""
     own = ipaddress.ip_address(address)
     if own.version == 6 and own.ipv4_mapped:
         own = own.ipv4_mapped
-    fitting = [(it.prefixlen, region) for it, region in PARSED if it.version == own.version and own in it]
+    fitting = [(it.prefixlen, region) for it, region in networks if it.version == own.version and own in it]
     return max(fitting)[1] if fitting else None
 
 
-PARSED = [(ipaddress.ip_network(it), region) for it, region in NETWORKS.items()]
 CLIENTS = ["10.1.2.3", "10.200.1.1", "10.200.7.9", "192.0.2.7", "2001:db8::1", "2001:db8:5::1", "::ffff:10.200.7.1"]
 
 
@@ -274,25 +282,11 @@ def random_addresses(draw: random.Random, networks: dict[str, str]) -> list[str]
         network = ipaddress.ip_network(it)
         most = (1 << network.max_prefixlen) - 1
         first, last = int(network.network_address), int(network.broadcast_address)
-        for number in (
-            first,
-            last,
-            max(0, first - 1),
-            min(most, last + 1),
-            draw.randint(first, last),
-            draw.randint(0, most),
-        ):
+        beside = (max(0, first - 1), min(most, last + 1))
+        for number in (first, last, *beside, draw.randint(first, last), draw.randint(0, most)):
             kind = ipaddress.IPv4Address if network.version == 4 else ipaddress.IPv6Address
             found.append(str(kind(number)))
     return found
-
-
-def longest(parsed: list[tuple[ipaddress.IPv4Network | ipaddress.IPv6Network, str]], address: str) -> str | None:
-    own = ipaddress.ip_address(address)
-    if own.version == 6 and own.ipv4_mapped:
-        own = own.ipv4_mapped
-    fitting = [(it.prefixlen, region) for it, region in parsed if it.version == own.version and own in it]
-    return max(fitting)[1] if fitting else None
 
 
 def test_regions_are_those_of_ipaddress(tmp_path: Path) -> None:
@@ -302,12 +296,11 @@ def test_regions_are_those_of_ipaddress(tmp_path: Path) -> None:
     draw.shuffle(rows)
     table = "network,region\r\n" + "".join(f'"{it}",{region}\r\n' for it, region in rows)
     own = Networks("t", table.encode(), None)
-    parsed = [(ipaddress.ip_network(it), region) for it, region in networks.items()]
-    addresses = random_addresses(draw, networks)
+    known, addresses = parsed(networks), random_addresses(draw, networks)
     assert len(addresses) == 6 * len(networks) > 2000
     kinds = set()
     for it in addresses:
-        region, found = longest(parsed, it), own.seek(it.encode())
+        region, found = region_of(it, known), own.seek(it.encode())
         assert found == (region.encode() if region else "no region for the client's address"), it
         kinds.add(region is None)
     assert kinds == {True, False} and "0.0.0.0/0" in networks
@@ -366,9 +359,7 @@ def test_random_octets_in_logs_end_well(tmp_path: Path) -> None:
                 (b"", b"\xff", b'"', b"\n", b"\0", b"\\", b"%", b"{", b"," * 9)
             )
         (tmp_path / "log").write_bytes(octets)
-        words = ["demand", str(tmp_path / "log"), "--regions", regions, *options]
-        result = CliRunner(mix_stderr=False).invoke(main, words)
-        assert result.exception is None or isinstance(result.exception, SystemExit), repr(result.exception)
+        result = run_here(["demand", tmp_path / "log", "--regions", regions, *options])
         assert result.exit_code == 0 or result.stderr.count("\n") == 1
         found.add(result.exit_code)
     assert found <= {0, 1} and 0 in found
@@ -388,18 +379,12 @@ def service(tmp_path: Path) -> Path:
     """A folder with the sites of an example, and costs of the regions of these logs."""
     folder = tmp_path / "service"
     folder.mkdir()
-    text = (TOP / "examples" / "two-sites" / "settings.toml").read_text()
-    (folder / "settings.toml").write_text(text)
-    costs = [
-        (region, site, 10 + 7 * at) for at, region in enumerate(("eu", "us", "asia")) for site in ("paris", "reston")
-    ]
-    (folder / "costs.csv").write_text("region,site,cost\n" + "".join(f"{a},{b},{c}\n" for a, b, c in costs))
-    capacity = [
-        (site, at, 10**9) for site, servers in (("paris", 2), ("reston", 3)) for at in range(1, servers + 1)
-    ]
-    (folder / "capacity.csv").write_text(
-        "site,server_id,capacity\n" + "".join(f"{a},{b},{c}\n" for a, b, c in capacity)
-    )
+    two = TOP / "examples" / "two-sites"
+    shutil.copy(two / "settings.toml", folder)
+    shutil.copy(two / "boundless.csv", folder / "capacity.csv")
+    regions = enumerate(("eu", "us", "asia"))
+    costs = [f"{region},{site},{10 + 7 * at}\n" for at, region in regions for site in ("paris", "reston")]
+    (folder / "costs.csv").write_text("region,site,cost\n" + "".join(costs))
     return folder
 
 
@@ -545,20 +530,9 @@ def test_progress_is_shown_on_a_terminal(tmp_path: Path, is_packed: bool) -> Non
     rows = asked(LINES, 22) * 4
     octets = "\n".join(map(server_line, rows)).encode()
     (tmp_path / "log").write_bytes(gzip.compress(octets) if is_packed else octets)
-    words = [
-        sys.executable,
-        "-m",
-        "hsp",
-        "demand",
-        str(tmp_path / "log"),
-        "--regions",
-        regions_file(tmp_path),
-        "-o",
-        "out.csv",
-    ]
     own, its = pty.openpty()
-    environment = variables()
-    done = subprocess.run(words, stdout=subprocess.PIPE, stderr=its, env=environment, cwd=tmp_path)
+    words = [sys.executable, "-m", "hsp", "demand", f"{tmp_path}/log", "--regions", regions_file(tmp_path)]
+    done = subprocess.run([*words, "-o", "out.csv"], stdout=subprocess.PIPE, stderr=its, env=variables(), cwd=tmp_path)
     os.close(its)
     shown = os.read(own, 1 << 16).decode()
     os.close(own)

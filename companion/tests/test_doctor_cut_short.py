@@ -38,9 +38,8 @@ def few(monkeypatch: pytest.MonkeyPatch) -> None:
 
 @pytest.mark.parametrize("bad, good, said", [(1, 0, "2,000"), (1, 4, "400"), (3, 2, "1,200")])
 def test_the_findings_of_all_rows_are_estimated_by_those_that_were_read(
-    example: Example, few: None, bad: int, good: int, said: str
+    folder: Path, few: None, bad: int, good: int, said: str
 ) -> None:
-    folder = example("two-sites")
     (folder / "costs.csv").write_text(rows(bad, good, 2000 // (bad + good)))
     shown = invoke("doctor", folder, status=1).stdout
     assert shown.splitlines()[-1] == f"the first 12 of some {said} findings: {AGAIN}"
@@ -55,8 +54,7 @@ def words_of(command: str, folder: Path, *names: str) -> list[str | Path]:
     return ["--", command, *(it for name in names for it in (f"--{name.partition('.')[0]}", folder / name))]
 
 
-def test_faults_of_words_are_estimated_too(example: Example, few: None) -> None:
-    folder = example("two-sites")
+def test_faults_of_words_are_estimated_too(folder: Path, few: None) -> None:
     (folder / "costs.csv").write_text(rows(1, 1, 500))
     said = invoke("doctor", *words_of("plan", folder, *FILES), status=1).stdout
     assert f"the first 12 of some 500 findings: {AGAIN}\n" in said
@@ -113,10 +111,9 @@ def test_warnings_without_an_end_are_said_in_json_too(example: Example, monkeypa
 
 
 def test_large_files_are_asked_about_a_few_times(
-    example: Example, few: None, monkeypatch: pytest.MonkeyPatch
+    folder: Path, few: None, monkeypatch: pytest.MonkeyPatch
 ) -> None:
     """As often as there is room for copies, but three times at least."""
-    folder = example("two-sites")
     (folder / "costs.csv").write_text(rows(1, 0, 100))
     octets = sum((folder / it).stat().st_size for it in (*FILES, "sites.values"))
     for room, turns in ((1, 3), (4 * octets, 4), (5 * octets - 1, 4), (10**9, 12)):

@@ -18,12 +18,11 @@ from hsp.base.unfit import Unfit
 from hsp.plans.counted import counted_in, grown, is_log, rows_of
 from hsp.plans.joined import joined
 from hsp.plans.plans import cheapest, least_purchase, planned, shortage, with_gains, with_purchase
-from hsp.plans.service import Service, read_service
 from hsp.plans.whatif import Changes, standard
 
 from conftest import Example, Hsp
 from test_sites import invoke
-from services import Place, random_service, rows, written
+from services import Place, random_service, read, rows, table_of, written
 
 HEAD = "region,handle,count\n"
 SIZES = (7, 8, 9, 11, 5)
@@ -33,11 +32,6 @@ SIZES = (7, 8, 9, 11, 5)
 def small(monkeypatch: pytest.MonkeyPatch) -> None:
     """A table holds two rows, so that any demand of a test is a log."""
     monkeypatch.setattr("hsp.plans.counted.MOST_DEMAND_ROWS", 2)
-
-
-def read(folder: Path, **given: str) -> tuple[Service, Programs]:
-    programs = Programs()
-    return read_service(str(folder), programs, dict(given)), programs
 
 
 def stream(*words: object) -> str:
@@ -158,7 +152,7 @@ def test_a_plan_has_the_sums_of_the_reports(hsp: Hsp, wide: Path) -> None:
     assert said["regions"] == wanted
     assert regions[-1] == ["total", str(said["queries"]), str(said["cost"])]
     assert said["rows_are"] == "log"
-    rows = list(csv.DictReader(io.StringIO(hsp("plan", str(wide), "--csv", "--no-save").stdout)))
+    rows = table_of(hsp("plan", str(wide), "--csv", "--no-save").stdout)
     for asked, _, name in regions[:-1]:
         assert sum(int(it["queries"]) for it in rows if it["region"] == name) == int(asked)
     for site in {it[-1] for it in loads}:
@@ -233,9 +227,8 @@ def test_sums_that_differ_are_no_plan(example: Example, small: None, monkeypatch
         planned(service, programs)
 
 
-def test_a_shortage_names_its_servers_and_regions(example: Example, small: None, hsp: Hsp) -> None:
+def test_a_shortage_names_its_servers_and_regions(folder: Path, small: None, hsp: Hsp) -> None:
     """The film of premiere.csv lacks room for 270 queries at the two servers that it may use."""
-    folder = example("two-sites")
     words = [str(folder), "--demand", str(folder / "premiere.csv")]
     done = hsp("plan", *words, status=3).stdout.splitlines()
     assert done[1] == (
@@ -254,8 +247,7 @@ def test_a_shortage_names_its_servers_and_regions(example: Example, small: None,
     assert sum(it["more"] for it in purchase) == 270
 
 
-def test_a_region_without_costs_is_a_shortage(example: Example, small: None, hsp: Hsp) -> None:
-    folder = example("two-sites")
+def test_a_region_without_costs_is_a_shortage(folder: Path, small: None, hsp: Hsp) -> None:
     costs = folder / "costs.csv"
     costs.write_text("".join(it for it in costs.read_text().splitlines(True) if not it.startswith("asia")))
     said = hsp("plan", str(folder), status=3).stdout
@@ -309,8 +301,7 @@ def test_where_of_a_table_is_what_its_row_says(hsp: Hsp, example: Example) -> No
     assert "there is no plan: hsp plan" in hsp(*short, status=3).stderr
 
 
-def test_where_says_which_file_lacks_what(hsp: Hsp, example: Example) -> None:
-    folder = example("two-sites")
+def test_where_says_which_file_lacks_what(hsp: Hsp, folder: Path) -> None:
     demand, costs = (folder / name for name in ("demand.csv", "costs.csv"))
     demand.write_text("region,handle,count\nus,20.500.1234/film-5,3\nus,20.500.1234/film-6,0\n")
     for region, handle, answer, why in [
@@ -326,8 +317,7 @@ def test_where_says_which_file_lacks_what(hsp: Hsp, example: Example) -> None:
     assert json.loads(hsp("where", str(folder), "us", "20.500.1234/film-5", "--json").stdout)["why"] is None
 
 
-def test_where_of_a_handle_that_a_table_lacks_is_by_prices(hsp: Hsp, example: Example) -> None:
-    folder = example("two-sites")
+def test_where_of_a_handle_that_a_table_lacks_is_by_prices(hsp: Hsp, folder: Path) -> None:
     said = json.loads(hsp("where", str(folder), "eu", "20.500.1234/dataset-24", "--json").stdout)
     assert said["why"] == f"{folder}/demand.csv has no row of it, so this is by prices of the same demand"
     (folder / "own.prices").write_text(stream("plan", *priced(folder)[:-2], "--log", folder / "demand.csv"))

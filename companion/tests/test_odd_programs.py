@@ -43,8 +43,7 @@ def odd(tmp_path: Path, monkeypatch: pytest.MonkeyPatch) -> Callable[[str, str],
     return put
 
 
-def test_a_plan_that_its_own_checker_refuses(example: Example, odd: Callable[[str, str], None]) -> None:
-    folder = example("two-sites")
+def test_a_plan_that_its_own_checker_refuses(folder: Path, odd: Callable[[str, str], None]) -> None:
     odd("hsplan", '[ "$1" = check ] && { echo "no 5 Cost"; exit 3; }')
     line = "hsp: hsplan check says no 5 Cost to hsplan's own plan: please report this with your files\n"
     networks = TOP / "examples" / "bring-in" / "networks.csv"
@@ -103,8 +102,7 @@ def test_the_memory_of_a_process_that_has_ended() -> None:
     assert guard._octets(child) == 0 and guard._octets(os.getpid()) > 1_000_000
 
 
-def test_a_file_that_may_not_be_read(example: Example, monkeypatch: pytest.MonkeyPatch) -> None:
-    folder = example("two-sites")
+def test_a_file_that_may_not_be_read(folder: Path, monkeypatch: pytest.MonkeyPatch) -> None:
     monkeypatch.setattr("hsp.doctor.file_faults.os.access", lambda path, mode: False)
     monkeypatch.setattr(
         "hsp.doctor.question.read_text", lambda path: (_ for _ in ()).throw(PermissionError(13, "no"))

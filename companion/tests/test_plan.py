@@ -1,7 +1,5 @@
 """hsp plan: its lines and tables, against hsplan's reports and against plans of changed inputs."""
 
-import csv
-import io
 import json
 import os
 import shlex
@@ -14,25 +12,18 @@ from pathlib import Path
 from typing import Any
 
 import pytest
-from click.testing import CliRunner
 
 from hsp.base.numbers import part
 from hsp.base.programs import BOUNDLESS, Programs, Refused, program
-from hsp.cli import main
 from hsp.plans.plans import capacity_file, cheapest, least_purchase, planned, purchased, shortage, with_gains
 from hsp.plans.service import Service, read_service
 
 from conftest import Example, Hsp
-from services import random_service, rows
+from services import random_service, read, rows, table_of
 from test_sites import invoke
 
 from lib import companion
 
-
-
-def read(folder: Path, **given: str) -> tuple[Service, Programs]:
-    programs = Programs()
-    return read_service(str(folder), programs, dict(given)), programs
 
 
 def report(folder: Path, kind: str) -> list[list[str]]:
@@ -48,7 +39,7 @@ def report(folder: Path, kind: str) -> list[list[str]]:
 def test_csv_and_json_have_the_sums_of_the_reports(hsp: Hsp, example: Example, name: str) -> None:
     folder = example(name)
     said = json.loads(hsp("plan", str(folder), "--json").stdout)
-    rows = list(csv.DictReader(io.StringIO(hsp("plan", str(folder), "--csv").stdout)))
+    rows = table_of(hsp("plan", str(folder), "--csv").stdout)
     *regions, total = report(folder, "region")
     for demand, cost, region in regions:
         own = [it for it in rows if it["region"] == region]
@@ -69,8 +60,7 @@ def with_capacities(service: Service, programs: Programs, changed: dict[tuple[st
     return programs.plan(service.inputs.but(capacity=capacity))[0]
 
 
-def test_the_least_purchase_suffices_and_one_less_does_not(example: Example) -> None:
-    folder = example("two-sites")
+def test_the_least_purchase_suffices_and_one_less_does_not(folder: Path) -> None:
     service, programs = read(folder, demand=str(folder / "premiere.csv"))
     bought = least_purchase(service, programs)
     assert bought and shortage(service, programs).lack == sum(bought.values()) == 270
@@ -82,9 +72,8 @@ def test_the_least_purchase_suffices_and_one_less_does_not(example: Example) -> 
     assert after and after.certificate.cost == with_capacities(service, programs, room).cost
 
 
-def test_costs_above_50000_have_no_least_purchase(example: Example) -> None:
+def test_costs_above_50000_have_no_least_purchase(folder: Path) -> None:
     """A twin of the dearest way has to cost more than all others, and a cost is at most 1,000,000."""
-    folder = example("two-sites")
     service, programs = read(folder, demand=str(folder / "premiere.csv"))
     for dearest, is_planned in ((50_000, True), (50_001, False)):
         dear = replace(service, costs={**service.costs, ("asia", "paris"): dearest})
@@ -170,9 +159,8 @@ def test_what_hsplan_refuses_later_is_a_line_and_its_status(
         raise Refused(4, "OutOfMemory")
 
     monkeypatch.setattr("hsp.commands.plan.cheapest", refused)
-    done = CliRunner(mix_stderr=False).invoke(main, ["plan", str(example("two-sites"))])
-    assert (done.exit_code, done.stdout) == (4, "")
-    assert done.stderr == "hsp: hsplan refuses these files: OutOfMemory\n"
+    done = invoke("plan", example("two-sites"), status=4)
+    assert not done.stdout and done.stderr == "hsp: hsplan refuses these files: OutOfMemory\n"
 
 
 @pytest.mark.parametrize(
@@ -227,9 +215,8 @@ def kept_in(folder: Path) -> set[str]:
 
 
 @pytest.fixture
-def limited(example: Example) -> Path:
+def limited(folder: Path) -> Path:
     """A service whose machines have limits."""
-    folder = example("two-sites")
     (folder / "settings.toml").write_bytes((folder / "hosts.toml").read_bytes())
     return folder
 

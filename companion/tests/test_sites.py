@@ -11,15 +11,14 @@ from pathlib import Path
 from typing import Any
 
 import pytest
-from click.testing import CliRunner, Result
+from click.testing import Result
 
 from lib import examples
 from hsp.base import files
 from hsp.base.programs import Programs
-from hsp.cli import main
 from hsp.plans.service import read_service
 
-from conftest import Hsp
+from conftest import Hsp, run_here
 
 ADDRESSES = examples.TWO_SITES
 PARIS = examples.site_octets("paris", 7, ADDRESSES["paris"])
@@ -60,9 +59,8 @@ def answer(*values: dict[str, Any]) -> bytes:
 
 
 def invoke(*words: str | Path, status: int = 0) -> Result:
-    """Runs a command in this process. A traceback would be an exception other than an exit."""
-    result = CliRunner(mix_stderr=False).invoke(main, list(map(str, words)))
-    assert result.exception is None or isinstance(result.exception, SystemExit), repr(result.exception)
+    """Runs a command in this process."""
+    result = run_here(words)
     assert result.exit_code == status, result.stdout + result.stderr
     return result
 
@@ -126,8 +124,7 @@ def test_broken_files_end_well(tmp_path: Path) -> None:
             )
         path = tmp_path / "broken"
         path.write_bytes(octets)
-        result = CliRunner(mix_stderr=False).invoke(main, ["sites", str(path)])
-        assert result.exception is None or isinstance(result.exception, SystemExit), (number, repr(result.exception))
+        result = run_here(["sites", path])
         assert result.exit_code in (0, 1), (number, result.stderr)
         assert result.exit_code == 0 or result.stderr.count("\n") == 1
         found.add(result.exit_code)

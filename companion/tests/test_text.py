@@ -147,8 +147,7 @@ def missing(folder: Path) -> Path:
     return other
 
 
-def test_a_file_that_is_absent_forges_no_line(example: Example) -> None:
-    folder = example("two-sites")
+def test_a_file_that_is_absent_forges_no_line(folder: Path) -> None:
     given = ["--demand", f"{folder}/none{HOSTILE}", "--costs", f"{folder}/other{HOSTILE}"]
     text = lines_of("plan", folder, *given, status=5)
     assert "/none" in text and "/other" in text
@@ -186,9 +185,8 @@ def test_a_terminal_gets_only_colours(hostile: Path, tmp_path: Path) -> None:
     assert COLOUR.search(plan)
 
 
-def test_no_colour_of_a_file_reaches_a_terminal(example: Example) -> None:
+def test_no_colour_of_a_file_reaches_a_terminal(folder: Path) -> None:
     """One could hide what follows, or show a fault in green. Those of hsp's own stay."""
-    folder = example("two-sites")
     (folder / "hsp.toml").write_text('title = "a\\u001b[8mb\\u001b[32m"\n')
     plan = at_terminal("plan", folder)
     assert plan.startswith("\x1b[1ma\\x1b[8mb\\x1b[32m\x1b[0m")

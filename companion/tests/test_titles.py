@@ -74,8 +74,7 @@ def test_each_command_says_what_to_do(hsp: Hsp, example: Example, tmp_path: Path
     hsp("plan", str(old), "--demand", str(new / "demand.csv"), "--no-save")
 
 
-def test_a_day_names_the_hour(hsp: Hsp, example: Example) -> None:
-    folder = example("two-sites")
+def test_a_day_names_the_hour(hsp: Hsp, folder: Path) -> None:
     for hour in ("h00", "h01"):
         (folder / hour).mkdir()
         shutil.copy(folder / "demand.csv", folder / hour)

@@ -17,7 +17,7 @@ from hsp.base import files, signals
 from hsp.base.programs import Missing, Programs
 from hsp.base.unfit import Unfit
 
-from conftest import WITH_SIGNALS, Example, children, named, variables
+from conftest import WITH_SIGNALS, Example, children, named, until, variables
 from lib.companion import archive
 from test_sites import PARIS, RESTON
 
@@ -184,11 +184,10 @@ def test_a_stopped_command_leaves_nothing(
     before = sorted(os.listdir(folder))
     slow = str(slow_program(tmp_path, "slow"))
     run = started(*own.get(command, [command, folder]), TMPDIR=str(room), HSPLAN=slow)
-    until = time.monotonic() + 20
-    while time.monotonic() < until:
-        if list(room.glob("hsp-*")) if command == "demand" else any(named(it, "sleep") for it in children(run.pid)):
-            break
-        time.sleep(0.02)
+    if command == "demand":
+        until(lambda: list(room.glob("hsp-*")), 20)
+    else:
+        until(lambda: any(named(it, "sleep") for it in children(run.pid)), 20)
     time.sleep(0.3 if command == "demand" else 0)  # it waits for the other end of the pipe
     assert run.poll() is None and list(room.glob("hsp-*/*" if command == "sites" else "hsp-*"))
     run.send_signal(number)

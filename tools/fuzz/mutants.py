@@ -4,10 +4,7 @@ refuses it.
 
     tools/fuzz/mutants.py [--jobs N] [--seconds N] [CRATE | CRATE/NAME]..
 
-The prover lets most of these bodies pass: a contract allows out of memory at any time, and is silent on speed,
-streams and the texts of faults. So a test has to find them. The others turn a public call that an edit of the gate
-turns already, in another way, or a definition so that a law no longer holds: the prover has to refuse them. An edit
-mutants/CRATE/NAME.edit has lines like those of a must-fail edit, and one that names what has to refuse it:
+An edit mutants/CRATE/NAME.edit has lines like those of a must-fail edit, and one that names what has to refuse it:
 
   file: src/FILE.rt     the file of crates/CRATE that is changed
   test: CRATE NAME      a test, by its own name, of this crate or of one above it
@@ -19,11 +16,9 @@ mutants/CRATE/NAME.edit has lines like those of a must-fail edit, and one that n
   old: TEXT             a text that stands in the file once
   new: TEXT             what stands in its place
 
-For tests and cases nothing is proved: `rt try` runs the tests and the programs with checks. First each test and each
-case that an edit
-names has to pass on the sources as they stand. An edit is refused where its test fails, or where a case that it names
-has another output or another end. Sources that do not compile, and a run without an end, refuse nothing. If crates or
-edits are named, only these are tried. `rt must-fail` tries those of the prover, over proofs of the crates.
+For tests and cases nothing is proved: `rt try` runs them with checks. First each has to pass on the sources as they
+stand. Sources that do not compile, and a run without an end, refuse nothing. If crates or edits are named, only these
+are tried. `rt must-fail` tries those of the prover, over proofs of the crates.
 """
 
 import argparse

@@ -16,7 +16,6 @@ from draws import (
     FEW,
     MARK,
     OFTEN,
-    PART,
     REGION,
     REGIONS,
     TEN,

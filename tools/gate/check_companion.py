@@ -3,8 +3,6 @@
 Chromium, and the pages that lie in examples. The tests run side by side, one for each processor.
 
     tools/gate/check_companion.py [PYTEST ARGUMENTS]..
-
-The packages of Debian that this takes are installed by tools/lib/packages.py.
 """
 
 import os

@@ -226,14 +226,9 @@ def main() -> int:
     found = {name: tried(name, ask) for name, ask in shells.items() if name not in absent}
     faults = [fault for it, _ in found.values() for fault in it]
     asked = ", ".join(f"{name} {count}" for name, (_, count) in found.items())
-    print(
-        "\n".join(
-            faults
-            + [f"{it} IS NOT INSTALLED HERE: its completions were not tried" for it in absent]
-            + [f"completions: lines tried in {asked or 'no shell'}, {len(faults)} faults"]
-        )
-    )
-    return 1 if faults or not found or (wants_all and absent) else 0
+    print("".join(f"{it} IS NOT INSTALLED HERE: its completions were not tried\n" for it in absent), end="")
+    is_fine = bool(found) and not (wants_all and absent)
+    return programs.concluded(faults, f"completions: lines tried in {asked or 'no shell'},", is_fine)
 
 
 if __name__ == "__main__":

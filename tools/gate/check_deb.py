@@ -1,14 +1,5 @@
 #!/usr/bin/env python3
-"""Makes the package of Debian twice, has lintian judge it, and installs it in a fresh Debian.
-
-It fails where
-
-- the two differ in an octet; the second is made a second later, by another umask and in another zone of time;
-- lintian finds an error;
-- a page in it has a link that leads to nothing;
-- the package doesn't go in beside a minimal Debian and what it depends on, or a file of it has another sum there;
-- a plan of examples/two-sites, made there by an ordinary user, hasn't the least cost, by hsplan or by hsp;
-- after the package is removed, or purged, a file is there that wasn't there before, or one is gone.
+"""Makes the package of Debian twice, has lintian judge it, and installs, uses, removes and purges it in a fresh Debian.
 
 The fresh Debian is made by debootstrap in a temporary folder. That takes root, the network and a minute. What can't be
 tried here is named in capitals. The programs have to be built already, by `rt ci` or `make prove`.
@@ -198,8 +189,7 @@ def main() -> int:
             faults, done = tried(room, begun)
         except programs.Missing as missing:
             faults, done = [str(missing)], "not made"
-    print("\n".join([*faults, f"package: {done}, {len(faults)} faults"]))
-    return 1 if faults else 0
+    return programs.concluded(faults, f"package: {done},")
 
 
 if __name__ == "__main__":

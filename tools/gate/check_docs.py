@@ -1,24 +1,12 @@
 #!/usr/bin/env python3
 """Checks the names in the documents, runs each command of the documents with the built program, and
-compares what the commands print with what the documents show.
+compares what the commands print with what the documents show. What is checked say the functions of KINDS.
 
 The commands are those of the blocks marked `console`. The lines of such a block are a transcript, as
 tools/lib/transcripts.py describes it. The commands of one document run in turn in one shell. In a manual page the
 commands are the examples between `.EX` and `.EE`. They run in bash; those of the README and of docs/use run in dash
 and zsh as well, where these are installed. A block marked `console` with a word behind it, as `console haproxy`, runs
 where a program of that name and curl are installed.
-
-It fails where
-
-- the README or docs/understand/ARCHITECTURE.md does not name a crate of crates.txt;
-- a crate stands on one of a storey above its own, or the two have it in different storeys;
-- a table of modules of docs/understand/ARCHITECTURE.md names one that is not there, or lacks one, of a crate or of
-  the companion;
-- a document names a link, a `make` target or a script that is not there;
-- a word of a fault has no row in docs/use/FAULTS.md or no paragraph in a manual page;
-- the README states another logic of the kit than this machine's kit has;
-- a command stands in a block that is not marked, or prints something else;
-- a file still has the marks of a merge.
 
     tools/gate/check_docs.py --names                        checks the names only, without the program
     tools/gate/check_docs.py [--program FILE] [--bash]      does all; with --bash in bash and no other shell
@@ -353,8 +341,7 @@ def main() -> int:
         found["commands run"] = wrong_commands(chosen.program, () if chosen.bash else SHELLS)
     faults = [fault for it, _ in found.values() for fault in it]
     counts = ", ".join(f"{count} {kind}" for kind, (_, count) in found.items())
-    print("\n".join(faults + [f"documents: {counts}; {len(faults)} faults"]))
-    return 1 if faults or not all(count for _, count in found.values()) else 0
+    return programs.concluded(faults, f"documents: {counts};", all(count for _, count in found.values()))
 
 
 if __name__ == "__main__":

@@ -62,8 +62,7 @@ def main() -> int:
         for fault in transcripts.faults_of(os.path.relpath(path, programs.TOP), steps, chosen.program, prepare)
     ]
     count = sum(len(steps) for _, steps in found)
-    print("\n".join(faults + [f"examples: {len(found)} transcripts, {count} commands, {len(faults)} faults"]))
-    return 1 if faults or not count else 0
+    return programs.concluded(faults, f"examples: {len(found)} transcripts, {count} commands,", bool(count))
 
 
 if __name__ == "__main__":

@@ -14,7 +14,11 @@ from collections.abc import Iterator
 from graphlib import CycleError, TopologicalSorter
 from pathlib import Path
 
-CRATES = Path(__file__).resolve().parents[2] / "crates"
+sys.path.insert(0, str(Path(__file__).resolve().parents[1]))
+
+from lib import programs
+
+CRATES = Path(programs.TOP, "crates")
 
 COLUMNS = 120
 CLAUSE_COLUMNS = 100
@@ -121,10 +125,7 @@ def main() -> int:
     circles = {crate.name: circle_in(imports_of(crate)) for crate in crates}
     faults = [f"{name}: {' -> '.join(circle)}" for name, circle in circles.items() if circle]
     faults += [fault for crate in crates for fault in form_faults(crate)]
-    for fault in faults:
-        print(fault)
-    print(f"modules: {len(crates)} crates, {len(faults)} faults")
-    return 1 if faults else 0
+    return programs.concluded(faults, f"modules: {len(crates)} crates,")
 
 
 if __name__ == "__main__":

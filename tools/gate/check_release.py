@@ -1,22 +1,12 @@
 #!/usr/bin/env python3
 """Compares the folder `release` with this tree and with what the gate proved and built, and tries it without the kit.
 
-A release is written once for each version. Where VERSION is ahead of it, it is NOT COMPARED with this tree. Otherwise it
-fails where
-
-- the sources or a sum differ from what release/MADE and release/SHA256SUMS state;
-- a program in it is not octet for octet the one in crates/NAME/out.
-
-With another kit than that of MADE, two builds may differ. Then the programs are reported as NOT COMPARED, with the
-lines of both kits, and the cases of checks/hsplan are run with the released program.
-
-Then a copy of the tree in an empty folder, without anything built, is tried with a PATH that has no `rt`, and as a
-user other than root. Tried are `make demo`, `make try`, `make install` and the installed program, the archive and the
-package that `make archive` and `make deb` make, and what is printed on another machine, without a release, and with a
-forged one.
-
     tools/gate/check_release.py              does all
     tools/gate/check_release.py --unbuilt    compares no program with one that is built here, and needs no kit
+
+A release is written once for each version. Where VERSION is ahead of it, it is NOT COMPARED with this tree. With another
+kit than that of release/MADE, two builds may differ. Then the programs are NOT COMPARED, and the cases of checks/hsplan
+are run with the released program. At last a copy of the tree without anything built is tried by somebody without `rt`.
 """
 
 import argparse
@@ -227,9 +217,8 @@ def main() -> int:
         faults.append(f"{PATH} has an rt: the release was not tried without the kit")
     elif not faults:
         faults += tried(visit) + tried(strangers)
-    line = f"release: version {programs.released()}, {len(programs.PROGRAMS)} programs, {len(faults)} faults"
-    print("\n".join([*faults, line]))
-    return 1 if faults else 0
+    line = f"release: version {programs.released()}, {len(programs.PROGRAMS)} programs,"
+    return programs.concluded(faults, line)
 
 
 if __name__ == "__main__":

@@ -73,8 +73,7 @@ def wrong_types() -> list[str]:
 
 def main() -> int:
     faults = wrong_imports() + wrong_types()
-    print("\n".join([*faults, f"tools: {len(list(TOOLS.rglob('*.py')))} scripts, {len(faults)} faults"]))
-    return 1 if faults else 0
+    return programs.concluded(faults, f"tools: {len(list(TOOLS.rglob('*.py')))} scripts,")
 
 
 if __name__ == "__main__":

@@ -132,8 +132,7 @@ def main() -> int:
     every = [call for functions in found.values() for call in functions]
     gate, only_more = sum(bool(it.edits) for it in every), sum(bool(it.more and not it.edits) for it in every)
     turned = f"{gate} turned by edits of the gate, {only_more} only by others"
-    print("\n".join([*faults, f"calls: {len(every)}, {turned}, {len(faults)} faults"]))
-    return 1 if faults else 0
+    return programs.concluded(faults, f"calls: {len(every)}, {turned},")
 
 
 if __name__ == "__main__":

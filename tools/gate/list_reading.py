@@ -2,16 +2,12 @@
 """Lists what one reads to understand the proof of the headline: every definition, in an order in which nothing is used
 before it was read.
 
-The list begins at the clauses of the calls that plan, check and answer logs, and at the laws beside them. It goes
-down to all definitions that they mention, and to types and limits of the sources. Within a file the order is that of
-the lines, and among files that of what they mention. The script fails where there is no such order.
-
-Into docs/understand/READING.md go how long the page and the calls take to read, and the lines that answer an auditor's
-questions. The words counted are names and the words of comments, also of the comment above a definition. Signs and
-`use` lines are not counted.
-
-    tools/gate/list_reading.py            prints the list, and writes the two parts into the page
+    tools/gate/list_reading.py            prints the list, and writes the two parts into docs/understand/READING.md
     tools/gate/list_reading.py --check    prints and writes nothing, and compares the parts that are there
+
+The list begins at the clauses of the calls that plan, check and answer logs, and at the laws beside them. It goes
+down to all definitions that they mention, and to types and limits of the sources. The words counted are names and the
+words of comments, also of the comment above a definition. Signs and `use` lines are not counted.
 """
 
 import argparse

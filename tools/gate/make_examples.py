@@ -44,8 +44,7 @@ def main() -> int:
     if arguments.parse_args().check:
         faults = [fault for folder, files in kept.items() for fault in differing(folder, files)]
         compared = " and ".join(f"{len(files)} files of {os.path.basename(folder)}" for folder, files in kept.items())
-        print("\n".join(faults + [f"examples: {compared} compared, {len(faults)} faults"]))
-        return 1 if faults else 0
+        return programs.concluded(faults, f"examples: {compared} compared,")
     for folder, files in kept.items():
         examples.write(folder, files)
     examples.write("examples/twelve-sites/out", examples.twelve_sites())

@@ -1,10 +1,13 @@
 """Drawn instances at the limits, drawn logs, and what a run over them takes."""
 
+import hashlib
 import os
 import random
+import subprocess
 import sys
+import tempfile
 from collections.abc import Iterable, Sequence
-from typing import IO, Any
+from typing import NamedTuple
 
 SITES, SERVERS, REGIONS, ROWS = 32, 32, 64, 8192
 # The rows of a demand, their counts, and the options that name the files of an instance.
@@ -27,7 +30,7 @@ def record(site: int, hosts: int) -> str:
 def write(folder: str, name: str, lines: Iterable[str]) -> str:
     path = os.path.join(folder, name)
     with open(path, "w") as file:
-        file.write("".join(line + "\n" for line in lines))
+        file.writelines(f"{line}\n" for line in lines)
     return path
 
 
@@ -71,25 +74,41 @@ def log(folder: str, name: str, lines: Sequence[str], weights: Sequence[int], ma
 # A small process starts each run, since the peak of a run counts what its parent held when the run began.
 BEGIN = """
 import os, sys
-run = os.posix_spawn(sys.argv[1], sys.argv[1:], os.environ)
+os.chdir(sys.argv[1])
+run = os.posix_spawn(sys.argv[2], sys.argv[2:], os.environ)
 _, status, used = os.wait4(run, 0)
 os.write(3, f"{os.waitstatus_to_exitcode(status)} {used.ru_utime + used.ru_stime} {used.ru_maxrss}".encode())
 """
 
 
-def spent_by(words: list[str], out: IO[Any], reported: IO[Any]) -> tuple[int, float, float]:
-    """The status of a run, its processor seconds and its peak memory in megabytes. What it prints goes to the files
-    `out` and `reported`."""
+class Spent(NamedTuple):
+    """The status of a run, its processor seconds, its peak memory in megabytes, and its standard error."""
+
+    status: int
+    seconds: float
+    megabytes: float
+    reported: str
+
+
+def spent_by(words: list[str], out: str = os.devnull, folder: str = ".") -> Spent:
+    """What a run in a folder takes. What it prints goes to the file `out`."""
     reading, writing = os.pipe()
-    begun = [sys.executable, "-S", "-E", "-c", BEGIN, *words]
-    actions = [
-        (os.POSIX_SPAWN_DUP2, out.fileno(), 1),
-        (os.POSIX_SPAWN_DUP2, reported.fileno(), 2),
-        (os.POSIX_SPAWN_DUP2, writing, 3),
-    ]
-    started = os.posix_spawn(sys.executable, begun, os.environ, file_actions=actions)
-    os.close(writing)
-    with open(reading) as answer:
-        status, seconds, memory = answer.read().split()
-    os.waitpid(started, 0)
-    return int(status), float(seconds), int(memory) / 1000
+    begun = [sys.executable, "-S", "-E", "-c", BEGIN, folder, *words]
+    with open(out, "wb") as printed, tempfile.TemporaryFile("w+") as reported:
+        streams = ((printed, 1), (reported, 2))
+        actions = [(os.POSIX_SPAWN_DUP2, file.fileno(), number) for file, number in streams]
+        actions.append((os.POSIX_SPAWN_DUP2, writing, 3))
+        started = os.posix_spawn(sys.executable, begun, os.environ, file_actions=actions)
+        os.close(writing)
+        with open(reading) as answer:
+            status, seconds, memory = answer.read().split()
+        os.waitpid(started, 0)
+        reported.seek(0)
+        return Spent(int(status), float(seconds), int(memory) / 1000, reported.read())
+
+
+def digest_of(words: list[str], folder: str = ".") -> str:
+    """The digest of what a run prints."""
+    with subprocess.Popen(words, cwd=folder, stdout=subprocess.PIPE, stderr=subprocess.DEVNULL) as run:
+        assert run.stdout
+        return hashlib.file_digest(run.stdout, "sha256").hexdigest()  # type: ignore[arg-type]

@@ -4,14 +4,9 @@ GoAccess (Debian: goaccess), where it is installed, reads the logs of usual form
 
     tools/measure/demand.py [--lines N] [--turns N] [--program FILE]
 
-Logs are of each form, over a day, and ask for 20,000 handles, a few of them often. One more asks for a new handle
-in nearly each line. Clients have 100,000 addresses in 65,536 networks. GoAccess counts requests and visitors, and no
-regions. It runs on one thread: once as it comes, with all its panels, and once with the panel of requests only, which
-is nearest to what `hsp demand` counts.
-
-Each row has the middle turn by the clock: lines a second, seconds of all processors, and the memory of the largest
-process. Behind them stand the load of the machine before the run, and the share of the processors that others stole
-meanwhile. All runs of `hsp demand` over a log have to write the same octets.
+Logs are of each form, over a day. GoAccess counts requests and visitors, and no regions: on one thread, once with all
+its panels, and once with the panel of requests only, which is nearest to what `hsp demand` counts. Each row has the
+middle turn by the clock. All runs of `hsp demand` over a log have to write the same octets.
 """
 
 import argparse

@@ -1,15 +1,11 @@
 #!/usr/bin/env python3
 """Measures what Dask's scheduler costs, and what workers gain: `hsp fleet dispatch` beside one `hsplan dispatch` and
-GNU parallel, by turns over the same rows.
+GNU parallel, by turns over the same rows of 8 fronts. All have to give the same octets.
 
     tools/measure/fleet.py [--rows N] [--turns N] [--workers 1,2,4] [--program FILE]
 
-The instance is that of tools/measure/dispatch.py: 8,192 rows of demand, 32 sites and 1,024 servers. Its log has N rows
-over 8 fronts. One `hsplan` answers it whole. The other ways answer a file of each front, and have to give the same
-octets. A run without rows measures the engine's start, its parts and its end; 64 logs of one line beside one measure
-what a part costs.
-
-Seconds are those of the clock, the middle of the turns, and behind them those of the processor.
+A run without rows measures the engine's start, its parts and its end; 64 logs of one line beside one measure what a
+part costs. Seconds are those of the clock, the middle of the turns, and behind them those of the processor.
 """
 
 import argparse

@@ -1,24 +1,19 @@
 #!/usr/bin/env python3
 """Runs `rt ci`, and prints the processor seconds that each crate took.
 
-    tools/measure/gate.py [--jobs N] [--log FILE] [--edits]      N checks side by side, by default as many as in
-                                                                 `make test`; the log is what rt ci prints;
-                                                                 each edit's seconds too, dearest first
+    tools/measure/gate.py [--jobs N] [--log FILE] [--edits]    N checks side by side, by default as many as in
+                                                               `make test`; the log is what rt ci prints; each edit's
+                                                               seconds too, dearest first
 
 The seconds of a crate are those of its proof, of the proof that its must-fail edits begin with, of the edits, and of
-its tests. What rt kept of an earlier run on the machine is not proved again, and has no seconds here.
-
-A check is a process of its own. Once a second each check is asked for the processor time that it took, so up to a
-second of each check is missed.
-
-Every half minute a loop of a fixed length is timed too. Its seconds say how fast a processor was meanwhile, so that
-runs on other machines and at other hours can be compared.
+its tests. What rt kept of an earlier run is not proved again, and has no seconds here. Each check is a process that is
+asked once a second for its processor time. Every half minute a loop of a fixed length is timed too, so that runs on
+other machines and at other hours can be compared.
 """
 
 import argparse
 import glob
 import os
-import re
 import statistics
 import subprocess
 import time

@@ -4,13 +4,10 @@
     tools/measure/prices.py [--rows N] [--turns N] [--program FILE] [--folder FOLDER] [--cases NAME,..]
 
 Nothing is solved: tools/measure/prices_peer.cpp draws prices and rows, sends each row to the servers where it pays
-least, and takes the loads as capacities wherever a price is above 0. Handles are nearly all new, and counts are 1 to
-1,000.
-
-By turns with the program runs that peer, the same steps in plain C++, over the same files. Both have to say yes, and no
-to the certificate with another amount. Seconds are processor seconds, the least of all turns. Memory is the most that a
-run held. All runs are on one processor, where the machine lets one be chosen. The files are made before the first
-run, in a folder that is kept where --folder names one, and taken from there the next time.
+least, and takes the loads as capacities wherever a price is above 0. By turns with the program runs that peer, the same
+steps in plain C++, over the same files. Both have to say yes, and no to the certificate with another amount. Seconds
+are processor seconds, the least of all turns. Memory is the most that a run held. All runs are on one processor, where
+the machine lets one be chosen. Files are taken from the folder where it has them.
 """
 
 import argparse

@@ -1,15 +1,11 @@
 #!/usr/bin/env python3
-"""Measures HAProxy over an exported plan: what servers get by each way to put a plan into force, how many answers it
-gives in a second, and how long a map takes to be swapped.
+"""Measures HAProxy over an exported plan.
 
-    tools/measure/proxy.py ways [--seed N]
-    tools/measure/proxy.py answers [--seconds N]
-    tools/measure/proxy.py swap
-
-- ways: queries of an example in random order, by each way. Lots are drawn as HAProxy draws them, from the maps that hsp
-  writes. Plans of the rest are those of hsp steer.
-- answers: HAProxy with one fixed answer and with exported maps, by turns, asked by wrk. Each answer is a line of a log.
-- swap: maps of some sizes, put in place of that of a HAProxy that runs.
+    tools/measure/proxy.py ways [--seed N]         what servers get of an example's queries, by each way to put a plan
+                                                   into force; lots are drawn as HAProxy draws them
+    tools/measure/proxy.py answers [--seconds N]   how many answers HAProxy gives in a second, with one fixed answer and
+                                                   with exported maps, by turns, asked by wrk
+    tools/measure/proxy.py swap                    how long a map takes to be put in place of another one
 
 Each prints a table in Markdown. Needs Debian's packages haproxy and wrk, and those of hsp.
 """
