@@ -146,9 +146,7 @@ class Run:
         gone = (time.monotonic() - self.begun) / 60
         proved, every = sum(self.plan.weights[it] for it in self.done), sum(self.plan.weights.values())
         rest = f", about {gone * (every - proved) / proved:.0f} left" if every / 20 < proved < every else ""
-        print(
-            f"crate {len(self.done)} of {len(self.whole)}: {crate} proved; {gone:.1f} minutes gone{rest}", flush=True
-        )
+        print(f"crate {len(self.done)} of {len(self.whole)}: {crate} proved; {gone:.1f} minutes gone{rest}", flush=True)
 
     def ended(self) -> Optional[str]:
         """Takes what has ended, and returns the crate that was not proved, if there is one."""

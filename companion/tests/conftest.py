@@ -45,7 +45,6 @@ def children(process: int) -> list[int]:
 
 
 def until(is_so: Callable[[], object], seconds: float = 60, pause: float = 0.02) -> None:
-    """Waits until something is so."""
     end = time.monotonic() + seconds
     while not is_so():
         assert time.monotonic() < end
@@ -115,8 +114,6 @@ def hsp() -> Hsp:
 
 @pytest.fixture(scope="session")
 def hsp_apart() -> Hsp:
-    """Runs hsp in a process of its own, as its users do."""
-
     def run(*words: str, status: int = 0, **more: str) -> "subprocess.CompletedProcess[str]":
         ended = _ran_apart(words, more)
         assert ended.returncode == status, ended.stdout + ended.stderr
@@ -127,7 +124,6 @@ def hsp_apart() -> Hsp:
 
 @pytest.fixture(scope="session")
 def twelve(tmp_path_factory: pytest.TempPathFactory) -> Path:
-    """A folder with the example of twelve sites."""
     folder = tmp_path_factory.mktemp("twelve-sites")
     examples.write(str(folder), examples.twelve_sites())
     return folder
@@ -145,5 +141,4 @@ def example(tmp_path: Path) -> Example:
 
 @pytest.fixture
 def folder(example: Example) -> Path:
-    """A copy of the example of two sites."""
     return example("two-sites")

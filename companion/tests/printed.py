@@ -39,7 +39,5 @@ def assert_kept(name: str, head: str, text: str) -> None:
         (FOLDER / f"{name}.txt").write_bytes(whole.encode())
     assert head in kept(name), f"nothing is kept under {head}: run the test with HSP_KEEP=1"
     if text != kept(name)[head]:
-        changes = difflib.unified_diff(
-            kept(name)[head].splitlines(), text.splitlines(), "kept", "printed", lineterm=""
-        )
+        changes = difflib.unified_diff(kept(name)[head].splitlines(), text.splitlines(), "kept", "printed", lineterm="")
         pytest.fail("\n".join([f"{name}.txt, {head}:", *changes]), pytrace=False)

@@ -56,7 +56,6 @@ class Front:
         self.start()
 
     def start(self) -> None:
-        """Starts HAProxy, and waits until it listens."""
         with open(self.log, "ab") as file:
             command = ["haproxy", "-f", str(self.config)]
             self.process = subprocess.Popen(command, stdout=file, stderr=subprocess.STDOUT, cwd="/")
@@ -69,7 +68,6 @@ class Front:
             return own.connect_ex(self.socket) == 0
 
     def kill(self) -> None:
-        """Ends HAProxy without a word."""
         self.process.kill()
         self.process.wait(10)
         self._asked.close()
@@ -79,7 +77,6 @@ class Front:
         self.process.wait(10)
 
     def ask(self, path: str, client: str = "", method: str = "GET", **headers: str) -> Answer:
-        """What is answered for a path, to a client behind a trusted proxy."""
         given = {"X-Forwarded-For": client, **headers} if client else headers
         self._asked.request(method, path, headers=given)
         response = self._asked.getresponse()
@@ -141,8 +138,6 @@ def answering(hsp: Hsp, folder: Path, into: Path, *words: str) -> Iterator[Front
 
 
 def wait(process: "subprocess.Popen[bytes]", port: int, log: Path) -> None:
-    """Waits until a HAProxy listens."""
-
     def listens() -> bool:
         assert process.poll() is None, f"HAProxy doesn't listen: {log.read_text()}"
         with contextlib.suppress(OSError), socket.create_connection(("127.0.0.1", port), timeout=1):

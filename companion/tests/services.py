@@ -28,17 +28,13 @@ class Place:
         octets = [ipaddress.ip_address(it).packed.rjust(16, b"\0") for it in self.addresses]
         # Each server has a port of its own, whatever other sites are at its address.
         first = 64 * int.from_bytes(self.name.encode()[-3:], "big")
-        servers = tuple(
-            ServerRecord(at, it, b"", (Interface(BOTH, 0, first + at),)) for at, it in enumerate(octets, 1)
-        )
+        servers = tuple(ServerRecord(at, it, b"", (Interface(BOTH, 0, first + at),)) for at, it in enumerate(octets, 1))
         record = SiteRecord(1, (2, 11), 1, 0, self.option, b"", (), servers).octets().hex()
         return f'[[site]]\nname = "{self.name}"\nrecord = "{record}"\n'
 
 
 def host(address: str, limit: int) -> str:
-    return (
-        f'[[host]]\naddress = "{ipaddress.ip_address(address).packed.rjust(16, bytes(1)).hex()}"\nlimit = {limit}\n'
-    )
+    return f'[[host]]\naddress = "{ipaddress.ip_address(address).packed.rjust(16, bytes(1)).hex()}"\nlimit = {limit}\n'
 
 
 def written(folder: Path, **texts: str) -> Path:
@@ -56,7 +52,6 @@ def rows(path: Path) -> list[list[str]]:
 
 
 def read(folder: Path, **given: str) -> tuple[Service, Programs]:
-    """The service of a folder, and the desk over which it was read."""
     programs = Programs()
     return read_service(str(folder), programs, dict(given)), programs
 

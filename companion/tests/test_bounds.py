@@ -133,9 +133,7 @@ def test_a_long_key_takes_little_memory(tmp_path: Path) -> None:
 
 def forged_list(values: int, zeros: int) -> bytes:
     """Octets that look like so many values of a list, each of which goes on to the end."""
-    return b"".join(b"\0\0\0\1\0\0\0\7HS_SITE" + zeros.to_bytes(4, "big") for _ in range(values)) + bytes(
-        zeros + 9000
-    )
+    return b"".join(b"\0\0\0\1\0\0\0\7HS_SITE" + zeros.to_bytes(4, "big") for _ in range(values)) + bytes(zeros + 9000)
 
 
 def test_candidates_are_not_kept(tmp_path: Path, monkeypatch: pytest.MonkeyPatch) -> None:
@@ -226,7 +224,11 @@ def test_what_follows_a_stream_of_bzip2_is_one(tmp_path: Path) -> None:
     with opened(str(path)) as file:
         assert file.read() == text + b"more\n"
     damaged = b"BZx" + more[3:]
-    for octets, why in ((first + damaged, "Invalid"), (first + b"junk", "Invalid"), (first + more[:9], "the file ends")):
+    for octets, why in (
+        (first + damaged, "Invalid"),
+        (first + b"junk", "Invalid"),
+        (first + more[:9], "the file ends"),
+    ):
         path.write_bytes(octets)
         with pytest.raises(Unfit, match=rf"log.bz2: line 100001: it can't be unpacked further: .*{why}"):
             list(numbered(str(path), Skipped()))

@@ -53,7 +53,6 @@ def apart(command: str, folder: Path) -> tuple[int, str]:
 
 
 def here(command: str, folder: Path) -> tuple[int, str]:
-    """The same in this process."""
     done = run_here([command, folder])
     return done.exit_code, done.stderr
 

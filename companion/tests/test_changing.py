@@ -74,9 +74,7 @@ def test_comments_and_other_sites_stay(folder: Path, hsp: Hsp) -> None:
     assert {site for site, *_ in rows(folder / "capacity.csv")} == {site for _, site, _ in rows(folder / "costs.csv")}
     hsp("sites", "--host", "198.51.100.22=2500", "--into", str(folder))
     assert settings.read_text().count("[[host]]") == 1 and "limit = 2500\n" in settings.read_text()
-    settings.write_text(
-        settings.read_text().replace("[[site]]", "site = [\n{").replace('reston"\nrec', 'reston", rec')
-    )
+    settings.write_text(settings.read_text().replace("[[site]]", "site = [\n{").replace('reston"\nrec', 'reston", rec'))
     assert "\n" not in hsp("sites", "--remove", "reston", "--into", str(folder), status=1).stderr.rstrip("\n")
 
 

@@ -174,9 +174,7 @@ def test_short_hours_keep_no_plan(hsp: Hsp, day: Path) -> None:
 
 def test_what_is_no_day(hsp: Hsp, day: Path, tmp_path: Path) -> None:
     ended = hsp("day", str(tmp_path), status=5)
-    assert ended.stderr == (
-        f"hsp: {tmp_path}/h00: no demand of hours is here; hsp demand --by hour --into writes it\n"
-    )
+    assert ended.stderr == (f"hsp: {tmp_path}/h00: no demand of hours is here; hsp demand --by hour --into writes it\n")
     assert "weekday-hour" in hsp("day", str(day), "--week", status=5).stderr
     (day / "h05/demand.csv").write_text("region,handle,count\neu,20.1/x,1\n")
     assert f"{day}/h05/demand.csv: its rows are others than those of {day}/h00/demand.csv" in (
@@ -229,10 +227,7 @@ def test_hours_are_answered_by_their_commands(hsp: Hsp, day: Path) -> None:
         assert command and "capacity-less-reserve.csv" in command[0] and f"{name}/demand.csv" in command[0]
         words = command[0].replace("\\u0026", "&").split()[1:]
         done = subprocess.run(
-            [program("hsplan"), *words],
-            input="region,handle\neu,20.500.1234/film-5\n",
-            capture_output=True,
-            text=True,
+            [program("hsplan"), *words], input="region,handle\neu,20.500.1234/film-5\n", capture_output=True, text=True
         )
         assert done.stdout.startswith("assigned "), done
 

@@ -165,12 +165,7 @@ def test_each_form_has_the_counts_that_were_written(tmp_path: Path, name: str) -
 def test_packed_logs_and_line_ends(tmp_path: Path, ending: str) -> None:
     rows = asked(400, 8)
     octets = ("\ufeff" + ending.join(map(server_line, rows)) + ending * 2).encode()
-    packed = {
-        "a.gz": gzip.compress(octets),
-        "b.bz2": bz2.compress(octets),
-        "c.xz": lzma.compress(octets),
-        "d": octets,
-    }
+    packed = {"a.gz": gzip.compress(octets), "b.bz2": bz2.compress(octets), "c.xz": lzma.compress(octets), "d": octets}
     packed["twice.gz"] = gzip.compress(octets) + gzip.compress(octets[3:])
     for name, it in packed.items():
         (tmp_path / name).write_bytes(it)
@@ -221,9 +216,7 @@ def test_what_is_skipped_is_counted_with_its_first_line(tmp_path: Path) -> None:
     elsewhere = counts_of(invoke(*words, "--elsewhere", "far").stdout)
     assert elsewhere == {**wanted(rows), ("far", "20.1/a"): counts["no region for the client's address"]}
     only = invoke(*words, "--prefix", "20.500.1234")
-    assert counts_of(only.stdout) == {
-        key: it for key, it in wanted(rows).items() if key[1].startswith("20.500.1234/")
-    }
+    assert counts_of(only.stdout) == {key: it for key, it in wanted(rows).items() if key[1].startswith("20.500.1234/")}
     assert "a handle of another prefix" in only.stderr
 
 
@@ -315,8 +308,7 @@ def test_regions_are_those_of_ipaddress(tmp_path: Path) -> None:
 def test_regions_of_a_maxmind_database(tmp_path: Path) -> None:
     pytest.importorskip("maxminddb")
     said = {
-        it: {"continent": {"code": region.upper()}, "country": {"iso_code": region}}
-        for it, region in NETWORKS.items()
+        it: {"continent": {"code": region.upper()}, "country": {"iso_code": region}} for it, region in NETWORKS.items()
     }
     path = tmp_path / "base.mmdb"
     path.write_bytes(maxmind.database({**said, "198.51.100.0/24": {"continent": {}}}))
@@ -486,9 +478,7 @@ def test_a_plan_of_the_demand_answers_the_whole_log(hsp: Hsp, tmp_path: Path) ->
     rows = [it for it in asked(LINES, 18) if it.region != "lab"]
     (tmp_path / "log").write_text("\n".join(map(proxy_line, rows)), encoding="utf-8")
     log = folder / "log.csv"
-    hsp(
-        "demand", str(tmp_path / "log"), "--regions", regions_file(tmp_path), "--into", str(folder), "--log", str(log)
-    )
+    hsp("demand", str(tmp_path / "log"), "--regions", regions_file(tmp_path), "--into", str(folder), "--log", str(log))
     hsp("plan", str(folder))
     files = [
         it

@@ -51,11 +51,7 @@ def row(*fields: str) -> str:
 
 # Each form: the lines before the first one, a line, and the options that it needs.
 FORMS: dict[str, tuple[list[str], Callable[[Asked], str], list[str]]] = {
-    "server": (
-        [],
-        lambda it: f'{it.client} UDP:HDL "{it.time:%Y-%m-%d %H:%M:%S.123%z}" 1 1 3ms {it.handle}',
-        [],
-    ),
+    "server": ([], lambda it: f'{it.client} UDP:HDL "{it.time:%Y-%m-%d %H:%M:%S.123%z}" 1 1 3ms {it.handle}', []),
     "proxy": (
         [],
         lambda it: f'{it.client} - - [{it.time:%d/%b/%Y:%H:%M:%S %z}] "GET /{it.handle} HTTP/1.1" 302 - "-" "[x]"',

@@ -92,13 +92,7 @@ def test_only_lines_behind_the_last_finding_are_estimated(tmp_path: Path) -> Non
 def test_what_cannot_be_estimated_is_not(tmp_path: Path) -> None:
     path = tmp_path / "costs.csv"
     path.write_text("x\n" * 1000)
-    for last in (
-        at(tmp_path / "none", 3),
-        at(path, 0),
-        at(path, 3, severity=WARNING),
-        at(path, 1001),
-        at(tmp_path, 3),
-    ):
+    for last in (at(tmp_path / "none", 3), at(path, 0), at(path, 3, severity=WARNING), at(path, 1001), at(tmp_path, 3)):
         assert cut_short([at(path, 2), last]).message == "the first 2 findings; there may be more"
     assert cut_short([at(path, 3)]).message == "the first 1 of some 500 findings"
     assert cut_short([at(path, 1000)]) == Finding("the first 1 finding; there may be more", AGAIN, severity=NOTE)
@@ -110,9 +104,7 @@ def test_warnings_without_an_end_are_said_in_json_too(example: Example, monkeypa
     assert (only["severity"], only["message"]) == (NOTE, "the files are too large to be looked at for warnings")
 
 
-def test_large_files_are_asked_about_a_few_times(
-    folder: Path, few: None, monkeypatch: pytest.MonkeyPatch
-) -> None:
+def test_large_files_are_asked_about_a_few_times(folder: Path, few: None, monkeypatch: pytest.MonkeyPatch) -> None:
     """As often as there is room for copies, but three times at least."""
     (folder / "costs.csv").write_text(rows(1, 0, 100))
     octets = sum((folder / it).stat().st_size for it in (*FILES, "sites.values"))

@@ -193,5 +193,3 @@ def test_a_terminal_gets_bold_dim_and_coloured_words(monkeypatch: pytest.MonkeyP
         "a\ufffd",
         "\u2423é\u2423",
     ]
-
-

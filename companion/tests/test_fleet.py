@@ -58,7 +58,6 @@ def fleet(*words: object, status: int = 0) -> str:
 
 
 def at_work(run: "subprocess.Popen[str]") -> int:
-    """A worker of a run that has begun a part."""
     found: list[int] = []
 
     def has_begun() -> bool:

@@ -67,7 +67,6 @@ def changing(tmp_path: Path, monkeypatch: pytest.MonkeyPatch) -> Callable[[Path,
 
 
 def words_of(command: str, folder: Path) -> list[str]:
-    """The words of a command, of its folder and what else it has to have."""
     more = {
         "where": ["us", "20.500.1234/film-5"],
         "export": ["--into", f"{folder}/proxy", "--regions", f"{folder.parent}/networks.csv", "--socket", "/tmp/s"],

@@ -10,7 +10,6 @@ LAYERS = ["base", "plans", "intake", "measures", "doctor", "scenarios", "proxy",
 
 
 def modules() -> dict[str, Path]:
-    """The files of the modules by their whole names."""
     paths = {".".join(path.relative_to(PACKAGE.parent).with_suffix("").parts): path for path in PACKAGE.rglob("*.py")}
     return {name.removesuffix(".__init__"): path for name, path in paths.items()}
 

@@ -35,7 +35,6 @@ def small(monkeypatch: pytest.MonkeyPatch) -> None:
 
 
 def stream(*words: object) -> str:
-    """What hsplan-stream prints."""
     done = subprocess.run([program("hsplan-stream"), *map(str, words)], capture_output=True, text=True, check=True)
     return done.stdout
 
@@ -115,9 +114,7 @@ def test_a_log_is_read_as_python_reads_it(tmp_path: Path, monkeypatch: pytest.Mo
     path = tmp_path / "log.csv"
     path.write_bytes(octets)
     found = [row for part in rows_of(str(path)) for row in part]
-    assert [[it.region.decode(), next(csv.reader([it.handle.decode()]))[0], str(it.queries)] for it in found] == [
-        *rows
-    ]
+    assert [[it.region.decode(), next(csv.reader([it.handle.decode()]))[0], str(it.queries)] for it in found] == [*rows]
     sums: Counter[str] = Counter()
     for region, _, count in rows:
         sums[region] += int(count)
@@ -186,9 +183,7 @@ def numbers(folder: Path) -> list[object]:
 
 
 @pytest.mark.parametrize("seed", range(4))
-def test_a_log_is_planned_as_the_table_of_its_rows(
-    tmp_path: Path, monkeypatch: pytest.MonkeyPatch, seed: int
-) -> None:
+def test_a_log_is_planned_as_the_table_of_its_rows(tmp_path: Path, monkeypatch: pytest.MonkeyPatch, seed: int) -> None:
     """By both programs: the cost, what room saves, lost sites, the least purchase. Some services have a shortage."""
     service = random_service(tmp_path, seed, 60, 0.75 if seed else 0.4)
     invoke("demand", service.log, "--regions", tmp_path / "networks.csv", "--into", service.folder)
@@ -377,9 +372,7 @@ def test_fronts_answer_by_prices(hsp: Hsp, wide: Path, tmp_path: Path) -> None:
         assert (tmp_path / f"front-{front}.csv.answers").read_text() == answers(wide, "plan.txt", log, front)
 
 
-def test_a_table_is_answered_by_prices_where_its_certificate_is_one(
-    hsp: Hsp, example: Example, tmp_path: Path
-) -> None:
+def test_a_table_is_answered_by_prices_where_its_certificate_is_one(hsp: Hsp, example: Example, tmp_path: Path) -> None:
     """Of each front, and of one log of both fronts."""
     folder, logs = example("two-sites"), fronts(tmp_path)
     words = ["fleet", "dispatch", str(folder), "--plan", str(folder / "plan.prices"), "--fronts", "2", "--workers", "1"]

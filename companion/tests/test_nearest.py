@@ -122,9 +122,7 @@ def test_what_is_kept_shows_both(hsp: Hsp, twelve: Path, tmp_path: Path) -> None
         (("HSPLAN 1\nPLAN\n", "HSPLAN PRICES 1\nPLAN\n"), "by prices"),
     ],
 )
-def test_a_wrong_certificate_is_no_plan_in_force(
-    hsp: Hsp, folder: Path, wrong: tuple[str, str], why: str
-) -> None:
+def test_a_wrong_certificate_is_no_plan_in_force(hsp: Hsp, folder: Path, wrong: tuple[str, str], why: str) -> None:
     """Other rows than those of the demand, and what isn't a certificate by rows, octet for octet."""
     hsp("plan", str(folder))
     service = read_service(str(folder), Programs(), {})
@@ -204,8 +202,7 @@ def test_beyond_the_tables_a_line_says_so(hsp: Hsp, folder: Path, monkeypatch: p
     monkeypatch.setattr("hsp.scenarios.nearest.MOST_REGIONS", 2)
     printed = hsp("plan", str(folder), "--near", str(folder), "--no-save").stdout
     assert (
-        "near  no: 6 regions with their homes, more than tables hold; this is the plain plan, which moves 0"
-        in printed
+        "near  no: 6 regions with their homes, more than tables hold; this is the plain plan, which moves 0" in printed
     )
     monkeypatch.setattr("hsp.scenarios.nearest.MOST_DEMAND_ROWS", 30)
     with pytest.raises(TooMany, match="38 portions and 6 regions with their homes"):

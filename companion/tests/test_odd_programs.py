@@ -28,7 +28,6 @@ from test_sites import invoke
 from services import OTHER, TWO_IN_ONE, Place, host, written
 
 
-
 @pytest.fixture
 def odd(tmp_path: Path, monkeypatch: pytest.MonkeyPatch) -> Callable[[str, str], None]:
     """Puts a script before a program: it has the real one in REAL."""
@@ -104,9 +103,7 @@ def test_the_memory_of_a_process_that_has_ended() -> None:
 
 def test_a_file_that_may_not_be_read(folder: Path, monkeypatch: pytest.MonkeyPatch) -> None:
     monkeypatch.setattr("hsp.doctor.file_faults.os.access", lambda path, mode: False)
-    monkeypatch.setattr(
-        "hsp.doctor.question.read_text", lambda path: (_ for _ in ()).throw(PermissionError(13, "no"))
-    )
+    monkeypatch.setattr("hsp.doctor.question.read_text", lambda path: (_ for _ in ()).throw(PermissionError(13, "no")))
     found = examined(str(folder), Programs(), {"demand": str(folder / "none.csv")})
     closed = [it for it in found.findings if it.message == "you may not read this file"]
     assert closed and closed[0].remedy == f"chmod +r {closed[0].file}, or run as its owner"
@@ -181,9 +178,7 @@ def test_costs_that_are_no_table(tmp_path: Path) -> None:
 def test_files_of_a_folder_that_are_absent(tmp_path: Path) -> None:
     (tmp_path / "cost.csv").touch()
     names = [str(tmp_path / it) for it in service.NAMES.values()]
-    assert service._absent("DIR", names) == [
-        "DIR: none of settings.toml, demand.csv, costs.csv, capacity.csv is here"
-    ]
+    assert service._absent("DIR", names) == ["DIR: none of settings.toml, demand.csv, costs.csv, capacity.csv is here"]
 
 
 class Odd:

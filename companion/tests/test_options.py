@@ -94,11 +94,7 @@ REFUSED = [
     ("whatif", "--points 9", "--points needs --server"),
     ("whatif", "--from 1", "--from needs --server"),
     ("whatif", "--to 1", "--to needs --server"),
-    (
-        "whatif",
-        "--server a:1 --step 10",
-        "--step does nothing with --server: it is of more room at each full server",
-    ),
+    ("whatif", "--server a:1 --step 10", "--step does nothing with --server: it is of more room at each full server"),
     ("survive", "--no-save --into F", "--into and --no-save don't go together: no fallback plan is kept"),
     ("survive", "--csv --buy", "--buy does nothing with --csv: the table has losses only"),
     ("survive", "--csv --all", "--all does nothing with --csv: the table has all losses"),
@@ -182,9 +178,7 @@ def test_a_new_service_has_sites_that_answer_both_ways(tmp_path: Path) -> None:
     for at, record in enumerate(records):
         path = tmp_path / f"{at}.record"
         path.write_bytes(bytes.fromhex(record))
-        printed = subprocess.run(
-            [os.environ["HSPLAN"], "site", str(path)], capture_output=True, text=True, check=True
-        )
+        printed = subprocess.run([os.environ["HSPLAN"], "site", str(path)], capture_output=True, text=True, check=True)
         servers = re.findall(r"^server [0-9]+ ([0-9]+) [0-9a-f]{32} 0 2$", printed.stdout, re.M)
         assert servers == [str(it) for it in range(1, len(servers) + 1)]
         both = "00000002" + "0300" + "00000a51" + "0301" + "00000a51"

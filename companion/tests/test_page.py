@@ -27,9 +27,10 @@ from lib import instances, memory
 
 __all__ = ["browser"]
 PAGES = ("two-sites", "base", "hosts", "shortage", "compared", "ahead", "twelve-sites")
+
+
 @pytest.fixture(scope="module")
 def pages(hsp: Hsp, twelve: Path, tmp_path_factory: pytest.TempPathFactory) -> dict[str, Path]:
-    """The pages of all examples."""
     room = tmp_path_factory.mktemp("pages")
     two = Path(shutil.copytree(TOP / "examples" / "two-sites", room / "two-sites"))
     base = Path(shutil.copytree(TOP / "examples" / "base", room / "base"))
@@ -75,9 +76,7 @@ def test_a_page_has_the_numbers_of_the_reports(browser: Any, pages: dict[str, Pa
         for at, share in enumerate(shares):
             sent = plan.shares.get((region, at), 0)
             exact = 100 * sent / asked
-            said = (
-                {"": 0.0, "<1%": 0.5, ">99%": 99.5}.get(share) if share in ("", "<1%", ">99%") else float(share[:-1])
-            )
+            said = {"": 0.0, "<1%": 0.5, ">99%": 99.5}.get(share) if share in ("", "<1%", ">99%") else float(share[:-1])
             assert said is not None and abs(said - exact) <= 0.5
 
 

@@ -374,7 +374,7 @@ def test_a_fault_in_the_code_is_shown_with_its_place(
 ) -> None:
     paths, _ = many(tmp_path, "server", 300, 4)
     monkeypatch.setattr(side_by_side, "parts", failing(15_000, ZeroDivisionError("by nothing")))
-    with pytest.raises(RuntimeError, match=r'(?s)Traceback.*in parts.*ZeroDivisionError: by nothing'):
+    with pytest.raises(RuntimeError, match=r"(?s)Traceback.*in parts.*ZeroDivisionError: by nothing"):
         counts_until(paths[0], 3)
 
 

@@ -25,7 +25,6 @@ from test_sites import invoke
 from lib import companion
 
 
-
 def report(folder: Path, kind: str) -> list[list[str]]:
     """The fields of each line of a report of hsplan, below its head."""
     files = ["settings.toml", "demand.csv", "costs.csv", "capacity.csv"]
@@ -150,9 +149,7 @@ def test_an_older_python_is_named(tmp_path: Path) -> None:
     assert (done.returncode, done.stderr) == (1, "hsp: this is Python 3.10, and hsp needs 3.11 or later\n")
 
 
-def test_what_hsplan_refuses_later_is_a_line_and_its_status(
-    example: Example, monkeypatch: pytest.MonkeyPatch
-) -> None:
+def test_what_hsplan_refuses_later_is_a_line_and_its_status(example: Example, monkeypatch: pytest.MonkeyPatch) -> None:
     """As where its memory is out at one of the plans that follow the first."""
 
     def refused(*_: object) -> None:
@@ -216,7 +213,6 @@ def kept_in(folder: Path) -> set[str]:
 
 @pytest.fixture
 def limited(folder: Path) -> Path:
-    """A service whose machines have limits."""
     (folder / "settings.toml").write_bytes((folder / "hosts.toml").read_bytes())
     return folder
 

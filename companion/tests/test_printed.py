@@ -47,7 +47,6 @@ FILES = "--settings settings.toml --demand demand.csv --costs costs.csv --capaci
 
 
 def ran(words: list[str]) -> str:
-    """What a command of hsp prints."""
     done = run_here(words)
     return streams(done.stdout, done.stderr, done.exit_code)
 
@@ -99,7 +98,6 @@ def printed(command: str) -> str:
 
 
 def transcript(text: str) -> str:
-    """The commands of a transcript with what they print now."""
     steps = transcripts.steps_of(text.splitlines())
     text = "".join("\n".join(step.lines) + "\n" + ended(printed(step.command())) for step in steps)
     return text.replace(os.getcwd(), "HERE")

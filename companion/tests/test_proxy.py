@@ -68,7 +68,6 @@ def names_of(service: Service) -> list[str]:
 
 
 def urls_in(folder: Path) -> dict[str, str]:
-    """The URLs of the servers of a folder, by their names."""
     urls: dict[str, str] = tomllib.loads((folder / "hsp.toml").read_text())["proxy"]["urls"]
     return urls
 
@@ -332,7 +331,9 @@ def test_a_proxy_fetches_answers_and_goes_elsewhere_where_a_server_is_down(
             assert (name, asked) == ("paris:2", path)
             assert f"x-forwarded-for={CLIENTS['eu']}" in headers
             own = http.client.HTTPConnection("127.0.0.1", front.port)
-            own.request("GET", path, headers={"X-Forwarded-For": CLIENTS["eu"], "Upgrade": "h2c", "Connection": "Upgrade"})
+            own.request(
+                "GET", path, headers={"X-Forwarded-For": CLIENTS["eu"], "Upgrade": "h2c", "Connection": "Upgrade"}
+            )
             assert b"upgrade=" not in own.getresponse().read().lower()
             assert f"host={urls['paris:2'].removeprefix('http://')}" in headers
             servers["paris:2"].shutdown()
@@ -475,7 +476,6 @@ def test_a_kind_of_three_servers_is_drawn_by_lot(hsp: Hsp, each: Path) -> None:
 
 
 def exported(hsp: Hsp, folder: Path, into: Path, *words: str, status: int = 0) -> str:
-    """Writes the files of a proxy, and returns what is warned of."""
     socket_of = ("--socket", "/run/hsp.sock")
     return hsp("export", "haproxy", str(folder), "--into", str(into), *socket_of, *words, status=status).stderr
 
@@ -491,9 +491,7 @@ def test_a_value_list_has_the_same_urls(hsp: Hsp, two: Path, tmp_path: Path) -> 
 
 
 @pytest.mark.parametrize("settings", ["settings.toml", "hosts.toml"])
-def test_an_export_less_a_reserve_is_that_of_less_capacity(
-    hsp: Hsp, two: Path, tmp_path: Path, settings: str
-) -> None:
+def test_an_export_less_a_reserve_is_that_of_less_capacity(hsp: Hsp, two: Path, tmp_path: Path, settings: str) -> None:
     """The map is that of the capacities that hsp plan --reserve keeps. Where a reserve is forgotten, a line says so."""
     (two / "settings.toml").write_bytes((two / settings).read_bytes())
     words = ["--regions", str(two / "networks.csv")]
@@ -514,16 +512,12 @@ def test_an_export_less_a_reserve_is_that_of_less_capacity(
 
 
 def haproxy_takes(folder: Path) -> None:
-    done = subprocess.run(
-        ["haproxy", "-c", "-f", str(folder / "haproxy.cfg")], capture_output=True, text=True, cwd="/"
-    )
+    done = subprocess.run(["haproxy", "-c", "-f", str(folder / "haproxy.cfg")], capture_output=True, text=True, cwd="/")
     said = [line for line in done.stderr.splitlines() if "[NOTICE]" not in line and "could not resolve" not in line]
     assert done.returncode == 0 and not said, done.stderr
 
 
-@pytest.mark.parametrize(
-    "more", [[], ["--proxy"], ["--elsewhere", "eu", "--listen", "[::1]:8080", "--listen", "*:81"]]
-)
+@pytest.mark.parametrize("more", [[], ["--proxy"], ["--elsewhere", "eu", "--listen", "[::1]:8080", "--listen", "*:81"]])
 def test_files_without_a_warning(hsp: Hsp, two: Path, tmp_path: Path, more: list[str]) -> None:
     odd = 'it\'s $HOME "x" \\ #1'
     more = [*more, "--socket", f"/tmp/{odd}"]
@@ -552,9 +546,7 @@ def test_a_long_path_of_a_socket_is_refused(hsp: Hsp, two: Path, tmp_path: Path)
         (["--listen", "192.0.2.9:8001", "--listen", "[::1]:8405"], ""),
     ],
 )
-def test_nothing_stands_where_haproxy_listens(
-    hsp: Hsp, two: Path, tmp_path: Path, words: list[str], said: str
-) -> None:
+def test_nothing_stands_where_haproxy_listens(hsp: Hsp, two: Path, tmp_path: Path, words: list[str], said: str) -> None:
     urls = {name: f"http://127.0.0.1:{7999 + at}" for at, name in enumerate(NAMES, 1)}
     put(two, hsp=urls_text(urls))
     assert said in exported(hsp, two, tmp_path / "proxy", *words, status=1 if said else 0)

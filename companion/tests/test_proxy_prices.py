@@ -31,7 +31,6 @@ from test_steer import Mirrors, lines_in, mirrors, period_of, two
 __all__ = ["mirrors", "two"]
 
 
-
 @pytest.fixture
 def small(monkeypatch: pytest.MonkeyPatch) -> None:
     """A table holds two rows, so that any demand of a test is a log."""

@@ -59,7 +59,6 @@ def answer(*values: dict[str, Any]) -> bytes:
 
 
 def invoke(*words: str | Path, status: int = 0) -> Result:
-    """Runs a command in this process."""
     result = run_here(words)
     assert result.exit_code == status, result.stdout + result.stderr
     return result
@@ -138,7 +137,6 @@ def place(handle: str, servers: int) -> int:
 
 
 def located_by(settings: Path, handle: str) -> str:
-    """What `hsplan locate` prints for a handle."""
     words = [os.environ["HSPLAN"], "locate", "--settings", str(settings), handle]
     return subprocess.run(words, capture_output=True, text=True, check=True).stdout
 

@@ -98,7 +98,6 @@ def test_numbers_of_haproxy_are_read(answering: Callable[[Answering], str]) -> N
 
 @pytest.fixture
 def proxy(hsp: Hsp, example: Example, tmp_path: Path) -> Path:
-    """A folder that hsp wrote, beside that of its service."""
     (tmp_path / "networks.csv").write_text(NETWORKS)
     folder = example("two-sites")
     hsp("export", "haproxy", str(folder), "--into", f"{tmp_path}/proxy", "--regions", f"{tmp_path}/networks.csv")

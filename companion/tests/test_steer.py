@@ -97,13 +97,11 @@ def front(hsp: Hsp, two: Path, into: Path) -> Iterator[Front]:
 
 
 def beside(into: Path) -> Path:
-    """The folder of another proxy."""
     return into.parent / "other"
 
 
 @pytest.fixture
 def other(hsp: Hsp, two: Path, into: Path) -> Iterator[Front]:
-    """Another proxy of the same service."""
     with answering(hsp, two, beside(into), *TRUSTED) as own:
         yield own
 
@@ -116,8 +114,6 @@ def period_of(seconds: float, passed: float) -> str:
 
 @dataclass
 class Steer:
-    """hsp steer as a process, with what it has printed."""
-
     process: "subprocess.Popen[bytes]"
     out: Path
     err: Path

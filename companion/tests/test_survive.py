@@ -198,7 +198,6 @@ def test_a_link_that_is_planted_after_the_check_is_not_followed(
 
 
 def three_sites(folder: Path, room: int) -> Path:
-    """Three sites of one server each, and 300 queries."""
     sites = {name: [f"192.0.2.{at}"] for at, name in enumerate("abc")}
     costs = [("x", name, 1 + at) for at, name in enumerate("abc")]
     return service_in(folder, sites, [("x", "20.1/0", 300)], costs, [(name, 1, room) for name in "abc"])
@@ -302,9 +301,7 @@ def test_the_plan_before_is_known_where_it_is_kept(hsp: Hsp, folder: Path, tmp_p
     lines = hsp("plan", str(folder), "--more").stdout
     assert "moves 3.4% of the queries since the plan before" in lines
     hsp("view", str(folder), "--before", str(old))
-    assert (
-        "<dt>Moves</dt><dd><b>3.4%</b><small>213 queries since the plan before" in (folder / "plan.html").read_text()
-    )
+    assert "<dt>Moves</dt><dd><b>3.4%</b><small>213 queries since the plan before" in (folder / "plan.html").read_text()
 
 
 def test_a_plan_less_a_reserve_is_answered_by_many(hsp: Hsp, example: Example) -> None:

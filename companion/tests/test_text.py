@@ -155,7 +155,6 @@ def test_a_file_that_is_absent_forges_no_line(folder: Path) -> None:
 
 
 def at_terminal(*words: object) -> str:
-    """What a command prints at a terminal."""
     leader, follower = pty.openpty()
     environment = variables(TERM="xterm")
     command = [sys.executable, "-m", "hsp", *map(str, words)]

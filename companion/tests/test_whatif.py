@@ -15,7 +15,6 @@ from conftest import Example, Hsp, rewrite
 from services import read, rows, table_of
 
 
-
 def cases(hsp: Hsp, *words: str) -> list[dict[str, str]]:
     return table_of(hsp("whatif", *words, "--csv").stdout)
 
@@ -93,9 +92,7 @@ def test_more_room_is_more_by_the_step(hsp: Hsp, folder: Path) -> None:
     """10% of 1,500, 25% of 1,510 rounded, and one where the step is less than a query."""
     room = {f"{site} {own}": int(room) for site, own, room in rows(folder / "capacity.csv")}
     for step, wanted in (("10", lambda it: it + round(it / 10)), ("25", lambda it: it + round(it / 4))):
-        found = {
-            it["what"]: int(it["room"]) for it in cases(hsp, str(folder), "--step", step) if it["case"] == "more"
-        }
+        found = {it["what"]: int(it["room"]) for it in cases(hsp, str(folder), "--step", step) if it["case"] == "more"}
         assert found == {what: wanted(room[what]) for what in found} and len(found) == 2
     found = {it["what"]: int(it["room"]) for it in cases(hsp, str(folder), "--step", "0.1") if it["case"] == "more"}
     assert found == {what: room[what] + round(room[what] / 1000) for what in found}

@@ -12,7 +12,6 @@ from conftest import Example, Hsp
 from services import rows
 
 
-
 def verdict(folder: Path, costs: Path, certificate: Path) -> tuple[str, bool]:
     """What the checker says of a certificate for these costs, and whether it is one of a plan."""
     inputs = Inputs(

@@ -22,7 +22,6 @@ from lib.companion import archive
 from test_sites import PARIS, RESTON
 
 
-
 def started(*words: object, **more: str) -> "subprocess.Popen[str]":
     """A run of hsp that goes on beside the test."""
     command = [*WITH_SIGNALS, sys.executable, "-m", "hsp", *map(str, words)]
@@ -31,7 +30,6 @@ def started(*words: object, **more: str) -> "subprocess.Popen[str]":
 
 
 def log_of(path: Path, word: str, lines: int) -> Path:
-    """A log whose handles all have a word."""
     rows = [f"192.0.2.1,20.500.1234/{word}-{number}\n" for number in range(lines)]
     path.write_text("client,handle\n" + "".join(rows))
     return path
@@ -203,9 +201,7 @@ def test_an_interrupt_while_modules_are_read_shows_no_traceback(tmp_path: Path, 
     words = ["-m", "hsp"] if way == "package" else [str(tmp_path / "hsp")]
     own = variables()
     own["PYTHONPATH"] = os.pathsep.join([str(tmp_path), own["PYTHONPATH"]])
-    run = subprocess.run(
-        [*WITH_SIGNALS, sys.executable, *words, "--version"], env=own, capture_output=True, text=True
-    )
+    run = subprocess.run([*WITH_SIGNALS, sys.executable, *words, "--version"], env=own, capture_output=True, text=True)
     assert (run.returncode, run.stdout, run.stderr) == (-signal.SIGINT, "", "")
 
 

@@ -87,9 +87,7 @@ def read_mutant(path: str) -> Mutant:
         raise ValueError(f"{path}: a line is missing, or there is one too many")
     if kinds == ["test"] and len(found["test"].split()) != 2 or "refused" in found and kinds != ["test"]:
         raise ValueError(f"{path}: a test has a crate and a name, and only a test can have an allocation refused")
-    return Mutant(
-        crate, name, found["file"], list(zip(old, new)), kinds[0], found[kinds[0]], found.get("refused", "")
-    )
+    return Mutant(crate, name, found["file"], list(zip(old, new)), kinds[0], found[kinds[0]], found.get("refused", ""))
 
 
 def read_mutants(wanted: list[str]) -> list[Mutant]:
@@ -98,7 +96,6 @@ def read_mutants(wanted: list[str]) -> list[Mutant]:
 
 
 def changed(mutant: Mutant) -> str:
-    """The text of the file with the wrong body in it."""
     text = programs.text_of("crates", mutant.crate, mutant.file)
     for old, new in mutant.pairs:
         if text.count(old) != 1:
@@ -209,7 +206,6 @@ class Room:
             self.free.put(folder)
 
     def with_text(self, text: str) -> list[Case]:
-        """The cases of hsplan-stream with this text."""
         shown = [(case, b" ".join((case.words or b"", case.given, case.reported))) for case in self.streams]
         return [case for case, octets in shown if text.encode() in octets]
 
@@ -234,9 +230,7 @@ class Room:
         return [mutant.by.split()[-1] if mutant.kind == "test" else mutant.by]
 
     def worst(self, mutant: Mutant, found: dict[str, str]) -> str:
-        return min(
-            (found.get(name, "not run") for name in self.wanted(mutant)), key=OUTCOMES.index, default="not run"
-        )
+        return min((found.get(name, "not run") for name in self.wanted(mutant)), key=OUTCOMES.index, default="not run")
 
     def use(self, work: Callable[[str], tuple[bool, str]]) -> tuple[bool, str]:
         folder = self.free.get()
@@ -309,7 +303,9 @@ def refused_by_prover(top: str, mutants: list[Mutant]) -> bool:
     if not mutants:
         return True
     copy = os.path.join(top, "proved")
-    shutil.copytree(programs.TOP, copy, ignore=shutil.ignore_patterns("out", "must-fail", ".git", "release", "examples"))
+    shutil.copytree(
+        programs.TOP, copy, ignore=shutil.ignore_patterns("out", "must-fail", ".git", "release", "examples")
+    )
     for mutant in mutants:
         folder = Path(copy, "crates", mutant.crate, "must-fail")
         folder.mkdir(exist_ok=True)

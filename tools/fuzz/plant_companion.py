@@ -51,8 +51,6 @@ SWAPPED: dict[type, type] = {
 
 
 class Spot(NamedTuple):
-    """Lines of a module."""
-
     path: str
     first: int
     last: int
@@ -102,8 +100,6 @@ def _is_of_any_order(node: ast.Call) -> bool:
 
 
 class _Put(ast.NodeTransformer):
-    """Puts a node in the place of another one."""
-
     def __init__(self, old: ast.AST, new: ast.AST) -> None:
         self.old, self.new = old, new
 
@@ -170,9 +166,9 @@ def spots_of(path: str, tree: ast.Module, at: int) -> list[Spot]:
     if inner:
         return [_spot(path, node)]
     names = set().union(*(_names_set(it) for it in holders))
-    return [
-        _spot(other, use) for other in modules("") for use in ast.walk(_parsed(other)) if _is_use(use, names)
-    ] or [_spot(path, node)]
+    return [_spot(other, use) for other in modules("") for use in ast.walk(_parsed(other)) if _is_use(use, names)] or [
+        _spot(path, node)
+    ]
 
 
 def modules(only: str) -> list[str]:
@@ -207,7 +203,6 @@ class Reached:
         self.seconds = {test: it for test, it in self.seconds.items() if test in there}
 
     def _names(self, path: str, first: int, last: int) -> set[str]:
-        """The tests that reach lines of a module."""
         query = """select distinct context from arc join context on context.id = context_id
             join file on file.id = file_id where file.path like ? and abs(tono) between ? and ?"""
         rows = self._data.execute(query, (f"%/hsp/{path}", first, last)).fetchall()
@@ -265,7 +260,6 @@ def is_refused(change: Change, room: str, reached: Reached) -> bool:
 
 
 def copied(room: str) -> str:
-    """A copy of what the tests need."""
     for it in ("companion", "examples", "tools", "docs", "completions"):
         shutil.copytree(os.path.join(programs.TOP, it), os.path.join(room, it))
     for it in ("VERSION", "README.md", "CHANGELOG.md", "crates.txt"):
@@ -274,7 +268,6 @@ def copied(room: str) -> str:
 
 
 def planted(changes: list[Change], jobs: int, reached: Reached) -> list[Change]:
-    """The changes that no test refuses."""
     rooms: queue.Queue[str] = queue.Queue()
     done: list[bool] = []
     with tempfile.TemporaryDirectory() as top, concurrent.futures.ThreadPoolExecutor(jobs) as pool:

@@ -45,7 +45,20 @@ PAIRS = st.lists(st.tuples(REGION, ANY_HANDLE), min_size=1, max_size=40, unique=
 MOST, PRICE, SLACK = pick([1, 3, 20, 1000]), pick([0, 0, 1, 2, 5]), pick([0, 0, 0, 1, 5, 100])
 MORE = pick([1, 1, 1, 2, 30])
 # Spellings at the ends of the ranges, and ones that spell no number.
-EDGES = [1023, 1024, 10**12, 10**12 + 1, 10**16, 10**16 + 1, 2**32, 2**64, 2**64 + 1, 10**19, 10**20, 10**30]
+EDGES = [
+    1023,
+    1024,
+    10**12,
+    10**12 + 1,
+    10**16,
+    10**16 + 1,
+    2**32,
+    2**64,
+    2**64 + 1,
+    10**19,
+    10**20,
+    10**30,
+]
 EDGE = pick([*(b"%d" % it for it in EDGES), b"", b"00", b"07", b"+1", b"-1", b"0x1"])
 FORM = st.builds(Log, st.just([]), st.just(True), st.just(True), st.just(False), END, MARK, BLANK, OFTEN)
 
@@ -75,7 +88,6 @@ class Case(NamedTuple):
 
 
 def wanted_of(case: Case, text: bytes) -> cases.Ended:
-    """What has to be printed of a certificate."""
     claim = price_verdicts.read(text)
     if isinstance(claim, str):
         return b"", f"{NAME}: certificate: {claim}\n".encode(), 1

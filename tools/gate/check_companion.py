@@ -26,18 +26,7 @@ def main() -> int:
         # Each start of hsp takes what is compiled here, as long as its sources have the same octets.
         [PYTHON, "-m", "compileall", "-q", "--invalidation-mode", "checked-hash", "hsp"],
         [PYTHON, "-m", "mypy", "--strict", "--no-incremental", "hsp"],
-        [
-            PYTHON,
-            "-m",
-            "pytest",
-            "-q",
-            "-p",
-            "no:cacheprovider",
-            "-n",
-            str(lanes.processors()),
-            "tests",
-            *sys.argv[1:],
-        ],
+        [PYTHON, "-m", "pytest", "-q", "-p", "no:cacheprovider", "-n", str(lanes.processors()), "tests", *sys.argv[1:]],
         [PYTHON, os.path.join(programs.TOP, "tools", "pictures", "shoot.py"), "--check"],
     ]
     environment = {**os.environ, "PYTHONDONTWRITEBYTECODE": "1", "MYPY_CACHE_DIR": os.devnull}

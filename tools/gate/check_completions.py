@@ -212,9 +212,9 @@ def tried(shell: str, ask: Callable[[str, str], list[str]]) -> tuple[list[str], 
             open(os.path.join(folder, name), "w").close()
         os.mkdir(os.path.join(folder, "service"))
         got = [(line, shown(shell, line, wanted), ask(line, folder)) for line, wanted in cases]
-    return [
-        f"{shell}: {line!r}: wanted {wanted}, got {found}" for line, wanted, found in got if wanted != found
-    ], len(cases)
+    return [f"{shell}: {line!r}: wanted {wanted}, got {found}" for line, wanted, found in got if wanted != found], len(
+        cases
+    )
 
 
 def main() -> int:

@@ -56,7 +56,6 @@ class Fresh:
         return done.stdout, done.returncode
 
     def run(self, line: str, user: str = "root") -> tuple[str, int]:
-        """What a line of the shell prints there, and its status."""
         return self.ran(["chroot", f"--userspec={user}:{user}", self.root, "sh", "-c", line])
 
     def make(self, depends: str) -> list[str]:
@@ -79,7 +78,6 @@ class Fresh:
         return [f"apt-get found not all of {depends}:\n{said}"] if status else []
 
     def files(self) -> set[str]:
-        """The paths of all files and folders."""
         return {
             os.path.relpath(os.path.join(at, it), self.root)
             for at, folders, names in os.walk(self.root)
@@ -88,7 +86,6 @@ class Fresh:
 
 
 def last_of(text: str) -> str:
-    """The last line of a text that isn't empty."""
     return ([it.strip() for it in text.splitlines() if it.strip()] or ["it printed nothing"])[-1]
 
 
@@ -106,7 +103,6 @@ def made_twice(room: str) -> tuple[str, list[str]]:
 
 
 def judged(path: str) -> list[str]:
-    """The errors that lintian finds."""
     if not shutil.which("lintian"):
         print("NOT TRIED: lintian is not installed here")
         return []
@@ -117,7 +113,6 @@ def judged(path: str) -> list[str]:
 
 
 def dead_links(path: str, room: str) -> list[str]:
-    """The links to nothing in the pages that the package holds."""
     subprocess.run(["dpkg-deb", "--extract", path, room], check=True)
     return pages.dead_links(room, pages.below(room))[0]
 

@@ -36,7 +36,6 @@ PAGES = ("docs/use/hsplan.1", "docs/use/hsplan-stream.1", "docs/use/hsp.1")
 
 
 def is_console(mark: str | None) -> bool:
-    """Whether a block has commands."""
     return (mark or "").split()[:1] == ["console"]
 
 
@@ -88,7 +87,9 @@ def wrong_storeys() -> Found:
         for it in below
         if height[it] > height[crate]
     ]
-    table = programs.text_of("docs/understand/ARCHITECTURE.md").split("## The crates of the programs")[1].split("\n## ")[0]
+    table = (
+        programs.text_of("docs/understand/ARCHITECTURE.md").split("## The crates of the programs")[1].split("\n## ")[0]
+    )
     storey, stated = "", dict[str, str]()
     for row in rows(table):
         storey = row[0] or storey
@@ -144,7 +145,6 @@ def wrong_packages() -> Found:
 
 
 def documents() -> list[str]:
-    """The paths of the documents in Markdown."""
     paths = (
         glob.glob(f"{programs.TOP}/*.md")
         + glob.glob(f"{programs.TOP}/docs/**/*.md", recursive=True)
@@ -174,9 +174,7 @@ def missing_targets() -> Found:
         makes = re.findall(r"(?:`|^    )make ([a-z]+)", programs.text_of(path), re.M)
         scripts = re.findall(r"\btools/[a-z_/]+\.(?:py|c|cpp)\b", programs.text_of(path))
         count += len(makes) + len(scripts)
-        faults += [
-            f"{path} names a target that the Makefile does not have: {it}" for it in makes if it not in targets
-        ]
+        faults += [f"{path} names a target that the Makefile does not have: {it}" for it in makes if it not in targets]
         faults += [
             f"{path} names a file that is not there: {it}"
             for it in scripts
@@ -228,7 +226,6 @@ def missing_words() -> Found:
 
 
 def manual_steps(page: str) -> list[transcripts.Step]:
-    """The commands of a manual page."""
     examples = re.findall(r"^\.EX\n(.*?)^\.EE$", programs.text_of(page), re.M | re.S)
     lines = [line.replace("\\-", "-").replace("\\e", "\\") for it in examples for line in it.splitlines()]
     return transcripts.steps_of(lines)
@@ -287,9 +284,7 @@ def wrong_commands(program: str, shells: tuple[str, ...]) -> Found:
     shells, and how many there are."""
     found = {path: steps_in(path) for path in documents()}
     found.update({page: manual_steps(page) for page in PAGES})
-    faults = [
-        fault for path, steps in found.items() if steps for fault in transcripts.faults_of(path, steps, program)
-    ]
+    faults = [fault for path, steps in found.items() if steps for fault in transcripts.faults_of(path, steps, program)]
     for shell in shells:
         faults += wrong_in(
             shell,

@@ -35,7 +35,6 @@ def paths_of(names: list[str]) -> list[str]:
 
 
 def record(path: str, steps: list[transcripts.Step], program: str) -> None:
-    """Writes what the commands of a transcript print into it."""
     for step, got in zip(steps, transcripts.printed_by(steps, program, prepare)):
         step.wanted = ["not run"] if got is None else got
     with open(path, "w", encoding="utf-8") as file:

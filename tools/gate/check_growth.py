@@ -45,7 +45,6 @@ def tests_of(program: str) -> list[str]:
 
 
 def counted(program: str, test: str, preloaded: str) -> Counted:
-    """What a test does without a refusal."""
     with tempfile.TemporaryDirectory() as room:
         path = os.path.join(room, "count")
         before = memory.spent_below()
@@ -75,7 +74,6 @@ def refused(program: str, test: str, preloaded: str, numbers: Sequence[int]) -> 
 
 
 def check(pool: concurrent.futures.Executor, crate: str, preloaded: str, most: int | None) -> list[str]:
-    """The faults of a crate's tests."""
     if not has_tests(crate):
         return []
     program = os.path.join(programs.TOP, "crates", crate, "out", crate + "_tests")

@@ -149,7 +149,6 @@ def shown(octets: bytes) -> bytes:
 
 
 def fault_of(program: str, room: str, case: Case) -> list[str]:
-    """The fault of a case, if it has one."""
     got = cases.run(program, [], case.words, folder_with(room, case.files))
     wanted = (case.printed, case.reported, case.status)
     texts = [f"{tuple(map(shown, it[:2]))} {it[2]}" for it in (wanted, got)]

@@ -52,7 +52,6 @@ def wrong_answer(program: str, room: str) -> list[str]:
 
 
 def wanted_files() -> dict[str, bytes]:
-    """What is installed, by its path below the prefix."""
     built = {f"bin/{it}": programs.octets_of(programs.built_path(it)) for it in programs.PROGRAMS}
     files = {target: pages.installed(it, programs.FILES) for it, target in programs.FILES.items()}
     return {**built, "bin/hsp": companion.archive(), **files}

@@ -49,8 +49,6 @@ ERRORS: dict[str, list[Kind]] = {
 
 
 class Run(NamedTuple):
-    """A case, run one way in a folder."""
-
     case: cases.Case
     words: list[bytes]
     given: bytes
@@ -76,7 +74,6 @@ def is_of_log(run: Run) -> bool:
 
 
 def log_of(run: Run) -> str:
-    """The log that a run names."""
     return run.order[run.order.index(b"--log") + 1].decode()
 
 

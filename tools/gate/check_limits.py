@@ -124,7 +124,6 @@ def short_prices() -> bytes:
 
 
 def files() -> dict[str, bytes]:
-    """The files of the service, by their names."""
     sites = [f'[[site]]\nname = "{name_of("s", at)}"\nrecord = "{record_of(at)}"' for at in range(SITES)]
     hosts = [f'[[host]]\naddress = "{at:032x}"\nlimit = {LIMIT}' for at in range(SITES * SERVERS)]
     demand = (f"{name_of('r', row % REGIONS)},{handle_of(row)},{COUNT}" for row in range(ROWS))
@@ -148,7 +147,6 @@ def files() -> dict[str, bytes]:
 
 
 def loads() -> bytes:
-    """The load report of that plan."""
     load = {server: 0 for server in each_server()}
     for row in range(ROWS):
         handle = handle_of(row)
@@ -190,8 +188,6 @@ def assigned(row: int, fronts: int = 1, front: int = 0) -> Iterator[str]:
 
 @dataclass
 class Log:
-    """A log without its header, and its answers."""
-
     rows: list[str]
     answers: list[str]
 
@@ -292,9 +288,7 @@ def shown(octets: bytes) -> bytes:
 def fault_of(program: str, folder: str, case: Case) -> list[str]:
     """The fault of a case, if it has one. What `plan` printed is checked too."""
     printed, reported, status = run(program, case.words, folder)
-    is_right = (
-        printed.startswith(case.printed) and printed.endswith(case.end) if case.end else printed == case.printed
-    )
+    is_right = printed.startswith(case.printed) and printed.endswith(case.end) if case.end else printed == case.printed
     name = " ".join(it if len(it) < 100 else it[:20] + ".." for it in case.words)
     if not is_right or (reported, status) != (case.reported, case.status):
         wanted = (shown(case.printed), case.reported, case.status)
@@ -328,9 +322,7 @@ def length_fault(program: str, folder: str, length: int) -> list[str]:
 
 
 def main() -> int:
-    words = argparse.ArgumentParser(
-        description="Runs the built program where everything stands at its limit at once."
-    )
+    words = argparse.ArgumentParser(description="Runs the built program where everything stands at its limit at once.")
     words.add_argument("--program", default=programs.tested("hsplan"))
     words.add_argument("--stream", default=programs.tested("hsplan-stream"), metavar="FILE")
     words.add_argument("--jobs", type=int, default=len(os.sched_getaffinity(0)))

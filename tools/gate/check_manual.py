@@ -25,7 +25,6 @@ TOOLS = {
 
 
 def warnings(tool: str, page: str) -> list[str]:
-    """The warnings that a tool prints about a page."""
     ended = subprocess.run(TOOLS[tool] + [page], stdout=subprocess.PIPE, stderr=subprocess.PIPE, text=True)
     said = ended.stderr + (ended.stdout if tool == "mandoc" else "")
     left = [] if ended.returncode == 0 or said.strip() else [f"{tool}: ended with status {ended.returncode}"]

@@ -50,7 +50,6 @@ def open_behind(line: str, depth: int) -> int:
 
 
 def clauses_in(lines: list[str]) -> Iterator[int]:
-    """The lines of contracts' clauses, by their numbers."""
     depth = 0
     for number, line in enumerate(lines):
         if depth or CLAUSE.match(line):
@@ -80,7 +79,6 @@ def indent_of(line: str) -> int:
 
 
 def end_of(lines: list[str], start: int, ending: str) -> int:
-    """The first line from `start` on that ends so."""
     return next(number for number in range(start, len(lines)) if lines[number].endswith(ending))
 
 

@@ -89,7 +89,6 @@ def refused(room: Room, run: Run, numbers: Sequence[int]) -> list[str]:
 
 
 def check(pool: concurrent.futures.Executor, name: str, folder: str, most: int | None) -> list[str]:
-    """The faults of the cases of a program."""
     data = cases.base(name, folder, programs.tested("hsplan"))
     room = Room(name, programs.tested(name), data, preload.built("refuse_growth", folder))
     every = cases.cases_in(name)

@@ -96,9 +96,7 @@ class Visitor:
 def expected(visitor: Visitor, words: str, status: int, parts: list[str], **how: str) -> list[str]:
     """The fault of a command that has another status, lacks a wanted text, or prints a traceback."""
     printed, got = visitor.run(words, **how)
-    fine = (
-        got == status and all(it in printed for it in parts) and "Traceback" not in printed and "***" not in printed
-    )
+    fine = got == status and all(it in printed for it in parts) and "Traceback" not in printed and "***" not in printed
     return [] if fine else [f"{words}: wanted status {status} and {parts}, got {got}:\n{printed}"]
 
 

@@ -43,8 +43,6 @@ Ended = tuple[bytes, bytes, int]
 
 
 class Programs:
-    """The two programs, and the folder in which they run."""
-
     def __init__(self, stream: str, hsplan: str, folder: str) -> None:
         self.stream, self.hsplan, self.folder = stream, hsplan, folder
 
@@ -78,7 +76,6 @@ class Programs:
 
 
 def fault(what: str, got: object, wanted: object) -> list[str]:
-    """A fault where the two differ."""
     shown = (str(it)[:600] for it in (wanted, got))
     return [] if got == wanted else ["{}: wanted {}, got {}".format(what, *shown)]
 
@@ -177,9 +174,7 @@ def check_plan(it: Programs, log: bytes, plan: bytes, is_short: bool) -> list[st
 def drawn_service(draw: random.Random) -> oracle.Service:
     """A service of few kinds, in which a region has costs at some sites."""
     sizes = [draw.randint(1, 4) for _ in range(draw.randint(2, 5))]
-    sites = tuple(
-        oracle.Site(f"s{at}", draw.randrange(3), tuple(range(1, size + 1))) for at, size in enumerate(sizes)
-    )
+    sites = tuple(oracle.Site(f"s{at}", draw.randrange(3), tuple(range(1, size + 1))) for at, size in enumerate(sizes))
     costs = {(region, site.name): draw.randint(0, 20) for region in oracle.REGIONS for site in draw.sample(sites, 2)}
     more = {(region, site.name): 21 for region in oracle.REGIONS for site in sites if draw.random() < 0.3}
     return oracle.Service(sites, {**more, **costs}, hosts=draw.choice((0, 0, 2)))
@@ -363,9 +358,7 @@ def check_talk(it: Programs, rows: int = 2_000) -> list[str]:
     print(talk.line())
     slowest, (rest, reported, status) = max(talk.seconds), talk.ended
     found = [] if slowest < 1 else [f"a row of the co-process took {slowest:.1f} seconds"]
-    return found + fault(
-        "the end of the co-process", (rest, reported.startswith(b"assigned "), status), (b"", True, 0)
-    )
+    return found + fault("the end of the co-process", (rest, reported.startswith(b"assigned "), status), (b"", True, 0))
 
 
 # ---- a million handles
@@ -487,9 +480,7 @@ def check_failing(it: Programs, room: str) -> tuple[list[str], int]:
                 tried += 1
             if call.name == "read":
                 got = it.run(words, given, LD_PRELOAD=preloaded, FAIL_IO=f"read {call.number} {errno.EINTR}")
-                found += (
-                    [] if is_cut(got, ordinary, "read") else [f"{words}: read {call.number} is interrupted: {got}"]
-                )
+                found += [] if is_cut(got, ordinary, "read") else [f"{words}: read {call.number} is interrupted: {got}"]
                 tried += 1
     return found, tried
 

@@ -24,7 +24,6 @@ APART = "fuzz"
 
 
 def imported(path: Path) -> set[str]:
-    """The modules that a script names in its imports."""
     found = set()
     for node in ast.walk(ast.parse(path.read_text("utf-8"))):
         if isinstance(node, ast.Import):

@@ -38,7 +38,6 @@ class Call(NamedTuple):
 
 
 def turning(functions: list[Function], edits: list[str], faults: list[str]) -> dict[Function, list[str]]:
-    """The public calls that edits turn, each with their names."""
     by: defaultdict[Function, list[str]] = defaultdict(list)
     for edit in edits:
         name, turned = os.path.basename(edit)[: -len(".edit")], calls.turned(functions, edit)
@@ -94,9 +93,7 @@ def wrong_calls(prose: str) -> list[str]:
             faults.append(f"PROOF.md names a call that is not there: {call}")
             continue
         there = {it.label for it in known[call].clauses}
-        faults += [
-            f"PROOF.md: {it} is no clause of {call}" for it in re.findall(r"`(\w+)`", clause) if it not in there
-        ]
+        faults += [f"PROOF.md: {it} is no clause of {call}" for it in re.findall(r"`(\w+)`", clause) if it not in there]
     return faults
 
 

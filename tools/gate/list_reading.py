@@ -68,10 +68,7 @@ PARTS = (
     (
         "What holds of all inputs and of all runs",
         (
-            *(
-                (PAGE_LAWS, it)
-                for it in ("GivesTheDefined", "AcceptsTheDefined", "GivesOneAnswer", "GivesNothingElse")
-            ),
+            *((PAGE_LAWS, it) for it in ("GivesTheDefined", "AcceptsTheDefined", "GivesOneAnswer", "GivesNothingElse")),
             *((LAWS, it) for it in ("DispatchedLogsShow", "FrontsLogsShow", "LogsGoByHash")),
         ),
     ),
@@ -111,7 +108,6 @@ QUESTIONS = (
 
 
 def head_of(file: str, call: str) -> str:
-    """The comment and the head of a call, up to its body."""
     with open(os.path.join(RUNS, "src", file), encoding="utf-8") as source:
         found = re.search(rf"((?:^///[^\n]*\n)*^pub fn {call}\b.*?)\n\{{\n", source.read(), re.S | re.M)
     if not found:
@@ -154,7 +150,6 @@ def paragraph(known: Known, found: list[One]) -> Iterator[str]:
 
 
 def listed() -> Iterator[str]:
-    """The whole list, by parts."""
     known, seen = modules(), set[One]()
     read: list[One] = []
     for title, starts in PARTS:
@@ -181,7 +176,6 @@ def promised(file: str, call: str, names: tuple[str, ...]) -> list[str]:
 
 
 def page_file(name: str) -> str:
-    """Where a file of the page stands."""
     crate = next(it for it, file, _ in FILES if file == name)
     return os.path.join(programs.TOP, "crates", crate, "specs", name)
 
@@ -233,9 +227,7 @@ def main() -> int:
         Path(PAGE).write_text(made, "utf-8")
         return 0
     is_right = made == page
-    print(
-        f"reading: {lines[-1]} READING.md is {'as' if is_right else 'not what'} tools/gate/list_reading.py writes it"
-    )
+    print(f"reading: {lines[-1]} READING.md is {'as' if is_right else 'not what'} tools/gate/list_reading.py writes it")
     return 0 if is_right else 1
 
 

@@ -27,7 +27,6 @@ def octets_at(path: str) -> bytes | None:
 
 
 def differing(folder: str, files: examples.Files) -> list[str]:
-    """The files that are not there, or hold other octets."""
     return [
         f"{folder}/{name} is not what tools/gate/make_examples.py writes"
         for name, octets in files.items()

@@ -86,7 +86,6 @@ def end_of(lines: list[str], at: int, indent: str) -> tuple[int, int]:
 
 
 def doc_above(lines: list[str], at: int) -> str:
-    """The first sentence of the comment above a function."""
     above = at - 1
     while above >= 0 and lines[above].strip().startswith("#["):
         above -= 1
@@ -121,7 +120,6 @@ def brought_in(lines: list[str]) -> dict[str, str]:
 
 
 def functions_of(path: str, names: set[str], is_open: bool) -> Iterator[Function]:
-    """The functions and constants of a file."""
     lines, owner, is_trait, crate = read(path), "", False, path.split(os.sep)[-3]
     cited = brought_in(lines)
     at, file = 0, os.path.basename(path)

@@ -50,7 +50,6 @@ class Case:
     judged: bytes = b""
 
     def ways(self) -> list[Way]:
-        """The ways in which it is run."""
         if self.words is None:
             return [(self.arguments, self.given)]
         if self.given:
@@ -68,7 +67,6 @@ class Case:
 
 
 def _octets(text: str) -> bytes:
-    """The octets of a line, with its end."""
     text = text.replace(r"\version", programs.version())
     text = re.sub(r"\\<([0-9]+) (.*?)>", lambda it: it[2] * int(it[1]), text)
     ended = re.search(r"(?<!\\)(?:\\\\)*\\$", text)
@@ -119,7 +117,6 @@ def _take(case: Case, into: str, mark: str, text: str) -> str:
 
 
 def cases_of(path: str) -> Iterator[Case]:
-    """The cases of a transcript."""
     command = os.path.splitext(os.path.basename(path))[0]
     case, into = None, "|"
     with open(path, encoding="utf-8", newline="\n") as file:
@@ -136,7 +133,6 @@ def cases_of(path: str) -> Iterator[Case]:
 
 
 def cases_in(program: str) -> list[Case]:
-    """The cases of a program, sorted by their names."""
     folder = os.path.join(FOLDER, program)
     found = [case for name in sorted(os.listdir(folder)) for case in cases_of(os.path.join(folder, name))]
     names = [case.name for case in found]
@@ -147,7 +143,6 @@ def cases_in(program: str) -> list[Case]:
 
 
 def put_files(folder: str, files: dict[str, bytes]) -> None:
-    """Writes files into a folder."""
     for name, octets in files.items():
         path = os.fsencode(folder) + b"/" + _octets(name)[:-1]
         with open(path, "wb") as file:
@@ -202,7 +197,6 @@ def misjudged(program: str, case: Case, words: list[bytes], folder: str, text: b
 
 
 def faults_of(program: str, case: Case, way: Way, folder: str) -> list[str]:
-    """The faults of a case that is run one way."""
     got = run(program, *way, folder)
     wanted = case.wanted(got[0])
     if got != wanted:

@@ -40,7 +40,6 @@ def whole(number: int, octets: int) -> bytes:
 
 
 def counted(octets: bytes) -> bytes:
-    """The number of the octets, then the octets."""
     return whole(len(octets), 4) + octets
 
 
@@ -149,9 +148,7 @@ def two_pings() -> list[Row]:
     """Five measured times for each region and site. The middle one is the cost."""
     spread = [-3, -1, 0, 2, 40]
     return [
-        (region, site, f"{cost + it}.{drawn(5, region, site, it)}")
-        for region, site, cost in TWO_COSTS
-        for it in spread
+        (region, site, f"{cost + it}.{drawn(5, region, site, it)}") for region, site, cost in TWO_COSTS for it in spread
     ]
 
 
@@ -162,7 +159,6 @@ TWO_CLASSES = [("eu", {1: 315, 2: 213}), ("eu", {1: 335, 4: 0}), ("us", {0: 154,
 
 
 def two_certificate() -> bytes:
-    """The certificate of the best plan by prices."""
     lines = ["HSPLAN PRICES 1", "PLAN", f"cost {TWO_COST}"]
     lines += [f"server {server} {price}" for server, price in enumerate(TWO_PRICES)]
     for region, sent in TWO_CLASSES:
@@ -244,7 +240,6 @@ def access_line(time: str, client: str, request: str, status: int) -> str:
 
 
 def time_of(hour: int, seconds: int) -> str:
-    """A time of a day, as logs have it."""
     return f"26/Nov/2026:{hour:02}:{seconds // 60:02}:{seconds % 60:02} +0000"
 
 
@@ -307,7 +302,6 @@ NUMBER_OF_HANDLES = 2400
 
 
 def twelve_addresses() -> dict[str, list[str]]:
-    """Two to seven servers a site."""
     return {
         name: [f"203.0.113.{16 * at + it}" for it in range(2 + drawn(6, "servers", name))]
         for at, name in enumerate(TWELVE_SITES)
@@ -322,9 +316,7 @@ def twelve_count(place: int, region: str) -> int:
 
 def twelve_demand() -> list[Demanded]:
     pairs = [(region, place) for place in range(NUMBER_OF_HANDLES) for region in REGIONS]
-    rows = [
-        (region, f"20.500.{4000 + place % 7}/item-{place}", twelve_count(place, region)) for region, place in pairs
-    ]
+    rows = [(region, f"20.500.{4000 + place % 7}/item-{place}", twelve_count(place, region)) for region, place in pairs]
     return [row for row in rows if row[2]]
 
 

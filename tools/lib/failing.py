@@ -17,7 +17,6 @@ class Call(NamedTuple):
 
 
 def calls_of(lines: Iterable[str]) -> list[Call]:
-    """The calls that a run recorded."""
     numbers: collections.Counter[str] = collections.Counter()
     octets: collections.Counter[tuple[str, str, str]] = collections.Counter()
     calls = []

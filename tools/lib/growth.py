@@ -24,7 +24,6 @@ def numbers(count: int, most: int | None = None) -> Sequence[int]:
 
 
 def jobs_of(words: argparse.ArgumentParser) -> None:
-    """Adds the argument for the number of runs side by side."""
     words.add_argument(
         "--jobs", type=int, default=lanes.processors(), help="number of runs side by side (one for each processor)"
     )

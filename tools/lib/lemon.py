@@ -9,7 +9,6 @@ RULES = ("block", "list")
 
 
 def peer_in(folder: str) -> str:
-    """The peer, compiled."""
     return preload.compiled("measure/lemon_peer.cpp", folder, "g++ -O3", "-llemon")
 
 
@@ -28,6 +27,5 @@ def network(folder: str, counts: list[int], capacities: list[int], arcs: Iterabl
 
 
 def cost_in(path: str) -> str:
-    """The least cost that a plan, or what LEMON prints, states."""
     with open(path, encoding="utf-8") as file:
         return next((line.split()[1] for line in file if line.startswith("cost ")), "-")

@@ -53,7 +53,6 @@ def make(folder: str, case: Case, peer: str, rows: int) -> None:
 
 
 def peer_in(folder: str) -> str:
-    """The peer, compiled."""
     words = "g++ -O3 -std=c++20 -Wno-deprecated-declarations"
     return preload.compiled("measure/prices_peer.cpp", folder, words, "-lcrypto")
 

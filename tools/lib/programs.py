@@ -80,7 +80,6 @@ def storeys() -> List[Tuple[str, List[str]]]:
 
 
 def crate_of(program: str) -> str:
-    """The crate of a program, by the program's name."""
     return program.replace("-", "_")
 
 
@@ -96,7 +95,6 @@ def crates_of(programs: Tuple[str, ...] = PROGRAMS) -> List[str]:
 
 
 def lines_of(crates: List[str]) -> List[str]:
-    """The lines of crates.txt for these crates."""
     return [it for it in text_of("crates.txt").splitlines() if it.split("#")[0].split(":")[0].strip() in crates]
 
 
@@ -178,7 +176,6 @@ def archive() -> str:
 
 
 def package() -> str:
-    """The Debian package."""
     return os.path.join(OUT, f"hsplan_{version()}_amd64.deb")
 
 

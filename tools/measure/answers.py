@@ -88,7 +88,6 @@ def runs_of(program: str, peer: str, fronts: int = 1, front: int = 0) -> dict[st
 
 
 def has_answers(folder: str, program: str) -> bool:
-    """Whether the program answers by prices."""
     ended = subprocess.run([program, *ANSWER.split(), "/dev/null"], cwd=folder, capture_output=True)
     return ended.returncode != 2
 
@@ -97,14 +96,12 @@ def has_answers(folder: str, program: str) -> bool:
 
 
 def seconds_of(words: list[str], folder: str) -> float:
-    """The seconds of a processor that a run takes."""
     before = memory.spent_below()
     subprocess.run(words, cwd=folder, stdout=subprocess.DEVNULL, stderr=subprocess.DEVNULL, check=True)
     return memory.spent_below() - before
 
 
 def measure(folder: str, runs: dict[str, list[str]], turns: int, preloaded: str) -> None:
-    """Prints the figures of the runs over the files of a case."""
     classes = sum(line.startswith(b"class ") for line in lines_of(folder, "right.prices"))
     log = lines_of(folder, LOG)[1:]
     rows, pairs = len(log), len(set(log))
@@ -123,7 +120,6 @@ def measure(folder: str, runs: dict[str, list[str]], turns: int, preloaded: str)
 
 
 def ask(folder: str, program: str) -> None:
-    """Asks a co-process row by row."""
     rows = (line.rstrip(b"\n") for line in lines_of(folder, LOG)[1 : 1 + TALKS])
     print(talks.talk([program, *ANSWER.split(), "/dev/stdin"], folder, rows).line())
 
@@ -142,7 +138,6 @@ def compare_all(folder: str, given: str, peer: str) -> str:
 
 
 def measure_all(given: argparse.Namespace, room: str) -> None:
-    """Compares with the model, then measures each case."""
     peer, preloaded = price_cases.peer_in(room), preload.built("report_memory", room)
     program = compare_all(os.path.join(room, "small"), given.program, peer)
     for name in given.cases.split(","):

@@ -32,7 +32,6 @@ def files_of(crate: str) -> list[tuple[float, str]]:
 
 
 def module_of(crate: str, path: str) -> str:
-    """The module that a file holds, without the crate's name."""
     name = re.sub(r"(\.decls)?\.oantt$", "", os.path.basename(path))
     return re.sub(f"^Rattle-{crate}-?", "", name) or crate
 

@@ -41,7 +41,7 @@ FORMS = {
 FRESH = "server, a new handle in each line"
 # How GoAccess reads a form.
 GOACCESS = {
-    "server": ["--log-format=%h %^ \"%d %t.%^\" %^ %^ %Lms %U", "--date-format=%Y-%m-%d", "--time-format=%H:%M:%S"],
+    "server": ['--log-format=%h %^ "%d %t.%^" %^ %^ %Lms %U', "--date-format=%Y-%m-%d", "--time-format=%H:%M:%S"],
     "proxy": ["--log-format=COMBINED"],
 }
 # The panels that GoAccess fills as it comes, beside that of requests.

@@ -65,9 +65,7 @@ def put_logs(folder: str, rows: list[str], counts: list[int], many: int) -> None
 def answers_of_fronts(folder: str) -> list[str]:
     """The sums of each front's answers, taken out of those of the whole log."""
     sums = [hashlib.sha256() for _ in range(FRONTS)]
-    with open(os.path.join(folder, "events.csv"), "rb") as events, open(
-        os.path.join(folder, "whole"), "rb"
-    ) as answers:
+    with open(os.path.join(folder, "events.csv"), "rb") as events, open(os.path.join(folder, "whole"), "rb") as answers:
         next(events)
         for event, answer in zip(events, answers):
             sums[event[0] - 48].update(answer)
@@ -102,7 +100,6 @@ def counting(workers: int, logs: int) -> list[str]:
 
 
 def timed(way: Way) -> tuple[float, float]:
-    """The seconds of the clock and of the processor."""
     before, begun = resource.getrusage(resource.RUSAGE_CHILDREN), time.monotonic()
     way()
     after = resource.getrusage(resource.RUSAGE_CHILDREN)

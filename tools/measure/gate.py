@@ -48,7 +48,6 @@ class Measured(NamedTuple):
 
 
 def kind_of(words: list[str]) -> str:
-    """What a check of the prover is for, by its words."""
     if "--test" in words:
         return "tests"
     if "--incremental" not in words:
@@ -91,7 +90,6 @@ def loop_seconds() -> float:
 
 
 def measured(jobs: int, log: IO[str]) -> Measured:
-    """Runs rt ci to its end, and the loop beside it."""
     began = time.monotonic()
     seen: dict[tuple[str, str], Check] = {}
     loops: list[float] = []

@@ -78,7 +78,6 @@ def fill(path: str, begins: bytes, pieces: Iterable[bytes]) -> None:
 
 
 def measure(program: str, room: str, preloaded: str, name: str, filler: str) -> str:
-    """A line of the table."""
     path, begins, words = FILES[name]
     folder = os.path.join(room, "data")
     shutil.copytree(os.path.join(programs.TOP, "examples", "base"), folder)

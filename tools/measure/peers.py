@@ -53,7 +53,10 @@ class Instance:
         tables = {
             "settings": (
                 "settings.toml",
-                [f'[[site]]\nname = "site-{at}"\nrecord = "{lemon.record(2, [0] * many)}"' for at, many in enumerate(self.sites)],
+                [
+                    f'[[site]]\nname = "site-{at}"\nrecord = "{lemon.record(2, [0] * many)}"'
+                    for at, many in enumerate(self.sites)
+                ],
             ),
             "demand": (
                 "demand.csv",
@@ -145,7 +148,9 @@ def texts_of(plan: list[str]) -> list[Text]:
 def checked(folder: str, words: list[str], text: Text) -> float:
     """The seconds in which `check`, called by these words, says of a text what it has to say."""
     verdict = os.path.join(folder, "verdict.txt")
-    _, seconds, _, reported = instances.spent_by([*words, "--plan", instances.write(folder, "text.txt", text.lines)], verdict)
+    _, seconds, _, reported = instances.spent_by(
+        [*words, "--plan", instances.write(folder, "text.txt", text.lines)], verdict
+    )
     said = Path(verdict).read_text(encoding="utf-8") + reported
     if said.strip() != text.verdict:
         sys.exit(f"check says {said.strip()}, and not {text.verdict}")
@@ -167,7 +172,6 @@ def parts(folder: str, chosen: argparse.Namespace, factor: float) -> None:
 
 
 def arguments() -> argparse.Namespace:
-    """The words of the command line."""
     words = argparse.ArgumentParser(description="Measures hsplan beside LEMON, or the parts of its check.")
     words.add_argument("--turns", type=int, default=5)
     words.add_argument("--program", default=programs.tested("hsplan"))

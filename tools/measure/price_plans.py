@@ -83,7 +83,6 @@ class Drawn:
 
 
 def with_room(loads: list[int], factor: float) -> list[int]:
-    """Loads times the factor, rounded up."""
     return [min(int(load * factor) + 1, GREATEST_CAPACITY) for load in loads]
 
 
@@ -112,7 +111,6 @@ def settings_of(drawn: Drawn, limits: list[int]) -> list[str]:
 
 
 def make(drawn: Drawn, folder: str) -> None:
-    """Makes the files of a case, where they aren't there yet."""
     if os.path.exists(os.path.join(folder, "capacity.csv")):
         return
     os.makedirs(folder, exist_ok=True)

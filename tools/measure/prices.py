@@ -61,13 +61,11 @@ def one_turn(runs: dict[str, list[str]], folder: str) -> dict[str, float]:
 
 
 def least_seconds(runs: dict[str, list[str]], folder: str, turns: int) -> dict[str, float]:
-    """The least seconds of each run, by turns."""
     spent = [one_turn(runs, folder) for _ in range(turns)]
     return {name: min(own[name] for own in spent) for name in runs}
 
 
 def measure(folder: str, runs: dict[str, list[str]], turns: int, preloaded: str) -> None:
-    """Prints the figures of the runs over the files of a case."""
     certificate = lines_of(folder, "right.prices")
     rows = len(lines_of(folder, "log.csv")) - 1
     classes = sum(line.startswith(b"class ") for line in certificate)

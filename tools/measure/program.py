@@ -39,7 +39,6 @@ def row(name: str, words: list[str], out: str, runs: int) -> int:
 
 
 def measure(factor: float, chosen: argparse.Namespace, folder: str) -> list[str]:
-    """Plans the inputs of a factor, and has the answer judged."""
     _, _, files = instances.inputs(folder, random.Random(1), factor, chosen.hosts)
     answer, sink = os.path.join(folder, "answer.txt"), os.path.join(folder, "sink.txt")
     status = row(f"`plan` at factor {factor}", [chosen.program, "plan"] + files, answer, chosen.runs)

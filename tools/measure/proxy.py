@@ -52,7 +52,6 @@ Way = Callable[[list[Row]], Loads]
 
 
 def example(name: str, room: str) -> str:
-    """A folder of an example."""
     folder = os.path.join(room, name)
     if name == "two-sites":
         shutil.copytree(TOP / "examples" / name, folder)
@@ -240,7 +239,6 @@ class Running:
     process: "subprocess.Popen[bytes]"
 
     def seconds(self) -> float:
-        """The processor time that it has taken."""
         words = Path(f"/proc/{self.process.pid}/stat").read_text().rpartition(")")[2].split()
         return (int(words[11]) + int(words[12])) / os.sysconf("SC_CLK_TCK")
 
@@ -296,7 +294,6 @@ Measured = tuple[float, float, str, str]
 
 
 def asked_by_wrk(own: Running, script: str, seconds: int) -> Measured:
-    """What wrk finds in so many seconds."""
     before = own.seconds()
     words = ["wrk", "-t1", "-c32", f"-d{seconds}s", "--latency", "-s", script, f"http://127.0.0.1:{own.port}"]
     said = subprocess.run(words, capture_output=True, text=True, check=True).stdout
@@ -375,7 +372,9 @@ def main() -> int:
     given = words.parse_args()
     lacking = [name for name in NEEDED[given.what] if not shutil.which(name)]
     if lacking:
-        print(f"proxy: {given.what} needs {' and '.join(lacking)}: apt-get install {' '.join(lacking)}", file=sys.stderr)
+        print(
+            f"proxy: {given.what} needs {' and '.join(lacking)}: apt-get install {' '.join(lacking)}", file=sys.stderr
+        )
         return 1
     os.environ.update(programs.variables())
     if programs.is_absent(*programs.variables().values()):

@@ -28,7 +28,6 @@ def lines_in(*patterns: str) -> int:
 
 
 def lines_of_documents() -> int:
-    """The lines of all documents outside of transcripts."""
     paths = [*TOP.glob("*.md"), *TOP.glob("docs/**/*.md"), *TOP.glob("examples/*.md")]
     outside = re.compile(r"^```console\n.*?^```\n|^```[^\n]*\n", re.MULTILINE | re.DOTALL)
     return sum(outside.sub("", path.read_text()).count("\n") for path in paths)

@@ -38,8 +38,6 @@ STYLE = """fontname="DejaVu Sans"; bgcolor=white;
 
 
 class Server(NamedTuple):
-    """A line of a load report."""
-
     place: int
     number: int
     load: int
@@ -213,9 +211,7 @@ def main() -> int:
     arguments = argparse.ArgumentParser(description="Draws the pictures of docs/pictures/.")
     arguments.add_argument("--check", action="store_true", help="write nothing, and compare the pictures")
     check = arguments.parse_args().check
-    faults = [
-        f"docs/pictures/{it.name} is drawn by nothing" for it in FOLDER.glob("*.svg") if it.name not in PICTURES
-    ]
+    faults = [f"docs/pictures/{it.name} is drawn by nothing" for it in FOLDER.glob("*.svg") if it.name not in PICTURES]
     for name, draw in PICTURES.items():
         path, text = FOLDER / name, draw()
         if not check:
