@@ -4,9 +4,9 @@
     tools/gate/check_release.py              does all
     tools/gate/check_release.py --unbuilt    compares no program with one that is built here, and needs no kit
 
-A release is written once for each version. Where VERSION is ahead of it, it is NOT COMPARED with this tree. With another
-kit than that of release/MADE, two builds may differ. Then the programs are NOT COMPARED, and the cases of checks/hsplan
-are run with the released program. At last a copy of the tree without anything built is tried by somebody without `rt`.
+A release is written once for each version. Where VERSION is ahead of it, it is NOT COMPARED with this tree. With
+another kit than that of release/MADE, two builds may differ. Then the programs are NOT COMPARED, and the cases of
+checks/hsplan are run with the released program. At last somebody without `rt` tries a copy of the tree.
 """
 
 import argparse

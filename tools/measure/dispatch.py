@@ -1,11 +1,11 @@
 #!/usr/bin/env python3
-"""Measures how many rows of a log the built program answers in a second, without fronts and with 64, over an instance at
-the limits, and peers by turns with it.
+"""Measures how many rows of a log the built program answers in a second, without fronts and with 64, over an instance
+at the limits, and peers by turns with it.
 
     tools/measure/dispatch.py [--rows N] [--turns N] [--times N] [--program FILE]
 
-The instance is that of tools/lib/instances.py, with N times its counts by `--times N`. A log draws its rows at random by
-their counts. So most of it is assigned. The peers are tools/measure/dispatch_peer, in Rust over Debian's crates csv and
+The instance is that of tools/lib/instances.py, with N times its counts by `--times N`. A log draws its rows at random
+by their counts. So most of it is assigned. The peers are tools/measure/dispatch_peer, in Rust over Debian's crates csv and
 indexmap (librust-csv-dev, librust-indexmap-dev), where they and cargo are there. They are given the answers of each row
 in their order, and have to answer the log as hsplan does, octet for octet.
 

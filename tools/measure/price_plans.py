@@ -4,8 +4,8 @@
     tools/measure/price_plans.py [--program FILE] [--folder FOLDER] [--cases NAME,..] [--lemon NAME,..]
 
 Each row is put at a random site with its count, and a server takes what is put there, times the case's factor. So there
-is a plan, and where the factor is near 1 it is hard to find. Counts are 1 to 1,000, or of a heavy tail: one row in N has
-a count of N. `check` has to say yes to each certificate, and all costs have to be the same. Seconds are those of a
+is a plan, and where the factor is near 1 it is hard to find. Counts are 1 to 1,000, or of a heavy tail: one row in N
+has a count of N. `check` has to say yes to each certificate, and all costs have to be the same. Seconds are those of a
 processor. The files of a case are kept where --folder names a folder.
 """
 
