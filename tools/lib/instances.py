@@ -6,7 +6,7 @@ import random
 import subprocess
 import sys
 import tempfile
-from collections.abc import Iterable, Sequence
+from collections.abc import Iterable, Mapping, Sequence
 from typing import NamedTuple
 
 SITES, SERVERS, REGIONS, ROWS = 32, 32, 64, 8192
@@ -34,6 +34,12 @@ def write(folder: str, name: str, lines: Iterable[str]) -> str:
     return path
 
 
+def put(folder: str, files: Mapping[str, Iterable[str]]) -> list[str]:
+    """Writes files by their lines. Returns the options that name them."""
+    named = [(f"--{name.partition('.')[0]}", write(folder, name, lines)) for name, lines in files.items()]
+    return [word for pair in named for word in pair]
+
+
 def inputs(folder: str, draw: random.Random, factor: float = 1.5, hosts: int = 0, times: int = 1) -> Instance:
     """The rows, their counts, and the options with the files of an instance. Its capacity is the factor times its
     demand. The limits of its hosts together are three fifths of its capacity."""
@@ -54,8 +60,7 @@ def inputs(folder: str, draw: random.Random, factor: float = 1.5, hosts: int = 0
         "costs.csv": ["region,site,cost", *costs],
         "capacity.csv": ["site,server_id,capacity", *(f"site-{site},{own},{capacity}" for site, own in servers)],
     }
-    named = [(f"--{name.partition('.')[0]}", write(folder, name, lines)) for name, lines in files.items()]
-    return rows, counts, [word for pair in named for word in pair]
+    return rows, counts, put(folder, files)
 
 
 def log(folder: str, name: str, lines: Sequence[str], weights: Sequence[int], many: int, draw: random.Random) -> str:

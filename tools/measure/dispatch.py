@@ -5,9 +5,9 @@ at the limits, and peers by turns with it.
     tools/measure/dispatch.py [--rows N] [--turns N] [--times N] [--program FILE]
 
 The instance is that of tools/lib/instances.py, with N times its counts by `--times N`. A log draws its rows at random
-by their counts. So most of it is assigned. The peers are tools/measure/dispatch_peer, in Rust over Debian's crates csv and
-indexmap (librust-csv-dev, librust-indexmap-dev), where they and cargo are there. They are given the answers of each row
-in their order, and have to answer the log as hsplan does, octet for octet.
+by their counts. So most of it is assigned. The peers are tools/measure/dispatch_peer, in Rust over Debian's crates csv
+and indexmap (librust-csv-dev, librust-indexmap-dev), where they and cargo are there. They are given the answers of each
+row in their order, and have to answer the log as hsplan does, octet for octet.
 
 Seconds are processor seconds, and memory is its peak. A run on a log of only a header measures what is spent before
 the first row. Factors are printed by the fastest runs, and by the median of the turns: on a busy machine these differ.

@@ -49,44 +49,20 @@ class Instance:
 
     def written(self, folder: str) -> list[str]:
         """Writes the four files, and returns the options that name them."""
-        servers = iter(self.capacities)
-        tables = {
-            "settings": (
-                "settings.toml",
-                [
-                    f'[[site]]\nname = "site-{at}"\nrecord = "{lemon.record(2, [0] * many)}"'
-                    for at, many in enumerate(self.sites)
-                ],
-            ),
-            "demand": (
-                "demand.csv",
-                ["region,handle,count"]
-                + [f"region-{self.regions[row]},{self.handle(row)},{self.counts[row]}" for row in range(ROWS)],
-            ),
-            "costs": (
-                "costs.csv",
-                ["region,site,cost"]
-                + [
-                    f"region-{region},site-{site},{self.costs[region][site]}"
-                    for region in range(REGIONS)
-                    for site in range(SITES)
-                ],
-            ),
-            "capacity": (
-                "capacity.csv",
-                ["site,server_id,capacity"]
-                + [
-                    f"site-{site},{place},{next(servers)}"
-                    for site, many in enumerate(self.sites)
-                    for place in range(many)
-                ],
-            ),
+        servers, rows = iter(self.capacities), enumerate(zip(self.regions, self.counts))
+        sites = enumerate(self.sites)
+        records = [f'[[site]]\nname = "site-{at}"\nrecord = "{lemon.record(2, [0] * many)}"' for at, many in sites]
+        demand = [f"region-{region},{self.handle(row)},{count}" for row, (region, count) in rows]
+        pairs = [(region, site) for region in range(REGIONS) for site in range(SITES)]
+        costs = [f"region-{region},site-{site},{self.costs[region][site]}" for region, site in pairs]
+        places = [(site, place) for site, many in enumerate(self.sites) for place in range(many)]
+        files = {
+            "settings.toml": records,
+            "demand.csv": ["region,handle,count", *demand],
+            "costs.csv": ["region,site,cost", *costs],
+            "capacity.csv": ["site,server_id,capacity", *(f"site-{at},{own},{next(servers)}" for at, own in places)],
         }
-        return [
-            word
-            for option, (name, lines) in tables.items()
-            for word in (f"--{option}", instances.write(folder, name, lines))
-        ]
+        return instances.put(folder, files)
 
     def network(self, program: str, folder: str) -> str:
         """A file of the network in numbers, with the servers that `hsplan locate` names for each handle."""
