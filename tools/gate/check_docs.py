@@ -285,12 +285,8 @@ def wrong_commands(program: str, shells: tuple[str, ...]) -> Found:
     found = {path: steps_in(path) for path in documents()}
     found.update({page: manual_steps(page) for page in PAGES})
     faults = [fault for path, steps in found.items() if steps for fault in transcripts.faults_of(path, steps, program)]
-    for shell in shells:
-        faults += wrong_in(
-            shell,
-            {path: steps for path, steps in found.items() if path == "README.md" or path.startswith("docs/use/")},
-            program,
-        )
+    own = {path: steps for path, steps in found.items() if path == "README.md" or path.startswith("docs/use/")}
+    faults += [fault for shell in shells for fault in wrong_in(shell, own, program)]
     return faults, sum(len(it) for it in found.values())
 
 

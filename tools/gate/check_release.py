@@ -108,13 +108,8 @@ def visit(visitor: Visitor) -> list[str]:
     begun = time.monotonic()
     faults = expected(visitor, "make demo", 0, [released, "\nyes\n", "bound 523976 - 216760 = 307216"])
     faults += expected(visitor, "make install PREFIX=$HOME/.local", 0, [released])
-    faults += expected(
-        visitor,
-        f"{installed} {PLAN.format(visitor.top + '/' + example, 'demand.csv')}",
-        0,
-        ["cost 307216"],
-        within=".local",
-    )
+    plan = f"{installed} {PLAN.format(visitor.top + '/' + example, 'demand.csv')}"
+    faults += expected(visitor, plan, 0, ["cost 307216"], within=".local")
     gone = time.monotonic() - begun
     faults += [f"demo, installation and a plan took {gone:.1f} seconds"] if gone > LIMIT else []
     faults += expected(visitor, f"make try ARGS='{short}'", 0, ["SHORTAGE", "\nstatus 3\n"])
