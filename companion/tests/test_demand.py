@@ -104,32 +104,31 @@ def csv_line(*fields: str) -> str:
     return out.getvalue()
 
 
-FORMS: dict[str, tuple[list[str], Callable[[Asked], str], list[str]]] = {
-    "server": ([], server_line, []),
-    "proxy": ([], proxy_line, []),
-    "csv": (["time,client,handle"], lambda it: csv_line("1", it.client, it.handle), []),
-    "table of paths": (
-        ["url,ip"],
-        lambda it: csv_line("/" + quote(it.handle), it.client),
-        ["--format", "csv", "--client", "ip", "--path", "url"],
+# A line of each form, the line before the first one where there is one, and the options that it needs.
+FORMS: dict[str, Callable[[Asked], str]] = {
+    "server": server_line,
+    "proxy": proxy_line,
+    "csv": lambda it: csv_line("1", it.client, it.handle),
+    "table of paths": lambda it: csv_line("/" + quote(it.handle), it.client),
+    "json": lambda it: json.dumps({"status": 302, "handle": it.handle, "client": it.client}),
+    "json of paths": lambda it: json.dumps(
+        {"remote_addr": it.client, "uri": f"/api/handles/{quote(it.handle)}?type=URL"}
     ),
-    "json": ([], lambda it: json.dumps({"status": 302, "handle": it.handle, "client": it.client}), []),
-    "json of paths": (
-        [],
-        lambda it: json.dumps({"remote_addr": it.client, "uri": f"/api/handles/{quote(it.handle)}?type=URL"}),
-        ["--format", "json", "--client", "remote_addr", "--path", "uri"],
-    ),
-    "regex": (
-        [],
-        lambda it: f"10:00 <{it.client}> asks '{it.handle}' 3 ms",
-        ["--regex", r"^\d\d:\d\d <(?P<client>[^>]+)> asks '(?P<handle>.+)' \d+ ms$"],
-    ),
-    "regex of paths": (
-        [],
-        lambda it: f"host:443 {it.client} GET /hdl:{quote(it.handle)} 302",
-        ["--regex", r"^\S+ (?P<client>\S+) GET (?P<path>\S+)"],
-    ),
+    "regex": lambda it: f"10:00 <{it.client}> asks '{it.handle}' 3 ms",
+    "regex of paths": lambda it: f"host:443 {it.client} GET /hdl:{quote(it.handle)} 302",
 }
+HEADS = {"csv": ["time,client,handle"], "table of paths": ["url,ip"]}
+OPTIONS = {
+    "table of paths": ["--format", "csv", "--client", "ip", "--path", "url"],
+    "json of paths": ["--format", "json", "--client", "remote_addr", "--path", "uri"],
+    "regex": ["--regex", r"^\d\d:\d\d <(?P<client>[^>]+)> asks '(?P<handle>.+)' \d+ ms$"],
+    "regex of paths": ["--regex", r"^\S+ (?P<client>\S+) GET (?P<path>\S+)"],
+}
+
+
+def lines_of(name: str, rows: list[Asked]) -> list[str]:
+    """A log of a form."""
+    return [*HEADS.get(name, []), *map(FORMS[name], rows)]
 
 
 def regions_file(tmp_path: Path) -> str:
@@ -150,10 +149,9 @@ def wanted(queries_of: list[Asked]) -> dict[tuple[str, str], int]:
 
 @pytest.mark.parametrize("name", FORMS)
 def test_each_form_has_the_counts_that_were_written(tmp_path: Path, name: str) -> None:
-    head, line, options = FORMS[name]
     rows = asked(LINES, 7)
-    (tmp_path / "log").write_text("\n".join(head + [line(it) for it in rows]) + "\n", encoding="utf-8")
-    result = invoke("demand", tmp_path / "log", "--regions", regions_file(tmp_path), *options)
+    (tmp_path / "log").write_text("\n".join([*lines_of(name, rows), ""]), encoding="utf-8")
+    result = invoke("demand", tmp_path / "log", "--regions", regions_file(tmp_path), *OPTIONS.get(name, []))
     assert counts_of(result.stdout) == wanted(rows)
     handles = len({it.handle for it in rows})
     first = result.stderr.splitlines()[0]
@@ -343,15 +341,15 @@ def test_random_octets_in_logs_end_well(tmp_path: Path) -> None:
     regions = regions_file(tmp_path)
     found = set()
     for number in range(80):
-        head, line, options = FORMS[draw.choice(list(FORMS))]
-        octets = bytearray("\n".join(head + [line(it) for it in asked(30, number)]).encode())
+        name = draw.choice(list(FORMS))
+        octets = bytearray("\n".join(lines_of(name, asked(30, number))).encode())
         for _ in range(draw.randint(1, 40)):
             at = draw.randrange(len(octets))
             octets[at : at + draw.randint(0, 3)] = draw.choice(
                 (b"", b"\xff", b'"', b"\n", b"\0", b"\\", b"%", b"{", b"," * 9)
             )
         (tmp_path / "log").write_bytes(octets)
-        result = run_here(["demand", tmp_path / "log", "--regions", regions, *options])
+        result = run_here(["demand", tmp_path / "log", "--regions", regions, *OPTIONS.get(name, [])])
         assert result.exit_code == 0 or result.stderr.count("\n") == 1
         found.add(result.exit_code)
     assert found <= {0, 1} and 0 in found

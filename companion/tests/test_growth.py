@@ -34,14 +34,9 @@ def test_two_sites_by_hand(hsp: Hsp, folder: Path) -> None:
 def status_at(folder: Path, factor: int, region: str | None, programs: Programs) -> bool:
     """Whether hsplan has a plan where each row, or each of a region, counts so many times as much, rounded up."""
     service = read_service(str(folder), programs, {})
-    rows = [
-        (
-            row.region,
-            row.handle,
-            times(row.count, Fraction(factor, STEP)) if region in (None, row.region) else row.count,
-        )
-        for row in service.rows
-    ]
+    grown_by = Fraction(factor, STEP)
+    counts = [times(row.count, grown_by) if region in (None, row.region) else row.count for row in service.rows]
+    rows = [(row.region, row.handle, count) for row, count in zip(service.rows, counts)]
     path = programs.put(demand_of(rows), ".csv")
     return programs.plan(service.inputs.but(demand=path))[0].is_plan
 

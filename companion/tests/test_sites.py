@@ -23,26 +23,12 @@ from conftest import Hsp, run_here
 ADDRESSES = examples.TWO_SITES
 PARIS = examples.site_octets("paris", 7, ADDRESSES["paris"])
 RESTON = examples.site_octets("reston", 8, ADDRESSES["reston"])
-PROTOCOLS = ("UDP", "TCP", "HTTP")
 
 
 def site_json(name: str, serial: int, **more: Any) -> dict[str, Any]:
     """The JSON of an example's site, as handle.net documents it."""
-    servers = [
-        {
-            "serverId": at + 1,
-            "address": address,
-            "publicKey": {"format": "base64", "value": base64.b64encode(examples.key_of(name, at + 1)).decode()},
-            "interfaces": [
-                {"query": True, "admin": True, "protocol": PROTOCOLS[protocol], "port": port}
-                for _, protocol, port in examples.interfaces_of(at, ADDRESSES[name])
-            ],
-        }
-        for at, address in enumerate(ADDRESSES[name])
-    ]
-    head = {"version": 1, "protocolVersion": "2.11", "serialNumber": serial, "primarySite": False}
     attributes = [{"name": "desc", "value": f"mirror {name}"}]
-    return {**head, "multiPrimary": False, "attributes": attributes, "servers": servers, **more}
+    return {**examples.site_json(name, serial, ADDRESSES[name]), "attributes": attributes, **more}
 
 
 def value_json(index: int, site: Any) -> dict[str, Any]:

@@ -8,26 +8,8 @@ again with something changed: its text, the rows, a bound or the service."""
 from collections.abc import Mapping, Sequence
 from typing import Any, NamedTuple
 
-from draws import (
-    ANY_HANDLE,
-    BLANK,
-    BOOLEAN,
-    END,
-    FEW,
-    MARK,
-    OFTEN,
-    REGION,
-    REGIONS,
-    TEN,
-    Draw,
-    Entry,
-    Log,
-    Where,
-    at_random,
-    changed,
-    pick,
-    services,
-)
+from draws import ANY_HANDLE, BLANK, BOOLEAN, END, FEW, MARK, OFTEN, REGION, REGIONS, TEN
+from draws import Draw, Entry, Log, Where, at_random, changed, pick, services
 from hypothesis import strategies as st
 from runner import Answer, Kind, Runner, answered, same
 

@@ -139,16 +139,8 @@ def functions_of(path: str, names: set[str], is_open: bool) -> Iterator[Function
                 or (crate == "hsplan" and head.group("name") == "main")
             )
             text = "\n".join(lines[at : stop + 1])
-            yield Function(
-                head.group("name"),
-                seen,
-                file,
-                (at, end),
-                public,
-                doc_above(lines, at),
-                tuple(clauses_in(text, cited)),
-                "\n".join(lines[stop : end + 1]),
-            )
+            clauses, body = tuple(clauses_in(text, cited)), "\n".join(lines[stop : end + 1])
+            yield Function(head["name"], seen, file, (at, end), public, doc_above(lines, at), clauses, body)
             at = end
         elif item:
             end = next(it for it in range(at, len(lines)) if lines[it].rstrip().endswith(";"))

@@ -175,14 +175,8 @@ def folder_of(case: Case, room: str, data: str) -> str:
 
 def run(program: str, words: list[bytes], given: bytes, folder: str, **means: str) -> Ended:
     """Runs a program. Returns what it printed on both streams, and its status."""
-    ended = subprocess.run(
-        [program.encode(), *words],
-        input=given,
-        cwd=folder,
-        stdout=subprocess.PIPE,
-        stderr=subprocess.PIPE,
-        env=dict(os.environ, **means),
-    )
+    whole, env = [program.encode(), *words], {**os.environ, **means}
+    ended = subprocess.run(whole, input=given, cwd=folder, capture_output=True, env=env)
     return ended.stdout, ended.stderr, ended.returncode
 
 
