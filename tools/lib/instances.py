@@ -100,9 +100,8 @@ def spent_by(words: list[str], out: str = os.devnull, folder: str = ".") -> Spen
     reading, writing = os.pipe()
     begun = [sys.executable, "-S", "-E", "-c", BEGIN, folder, *words]
     with open(out, "wb") as printed, tempfile.TemporaryFile("w+") as reported:
-        streams = ((printed, 1), (reported, 2))
-        actions = [(os.POSIX_SPAWN_DUP2, file.fileno(), number) for file, number in streams]
-        actions.append((os.POSIX_SPAWN_DUP2, writing, 3))
+        files = {1: printed.fileno(), 2: reported.fileno(), 3: writing}
+        actions = [(os.POSIX_SPAWN_DUP2, file, number) for number, file in files.items()]
         started = os.posix_spawn(sys.executable, begun, os.environ, file_actions=actions)
         os.close(writing)
         with open(reading) as answer:
