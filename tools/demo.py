@@ -51,9 +51,7 @@ def ran(program: str, folder: str) -> bool:
             [program, *words.split()], cwd=folder, stdout=subprocess.PIPE, stderr=subprocess.STDOUT, text=True
         )
         print(
-            f"\n# {meaning}\n$ hsplan {words}{' > ' + kept if kept else ''}\n{shown(ended.stdout)}",
-            end="",
-            flush=True,
+            f"\n# {meaning}\n$ hsplan {words}{' > ' + kept if kept else ''}\n{shown(ended.stdout)}", end="", flush=True
         )
         if ended.returncode:
             return False

@@ -104,9 +104,7 @@ def companion_line(path: str) -> str:
 
 def path_line(folder: str) -> str:
     """What is missing for the programs to be found by their names, if anything is."""
-    if os.path.realpath(folder) in {
-        os.path.realpath(it) for it in os.environ.get("PATH", "").split(os.pathsep) if it
-    }:
+    if os.path.realpath(folder) in {os.path.realpath(it) for it in os.environ.get("PATH", "").split(os.pathsep) if it}:
         return ""
     return f'not in PATH yet; in this shell: export PATH="{folder}:$PATH"'
 

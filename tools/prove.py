@@ -42,49 +42,24 @@ class Kit:
         """The command that proves a crate, and builds its library or its object file in the folder `room`."""
         below = programs.dependencies()
         is_program = crate in map(programs.crate_of, programs.PROGRAMS)
-        words = [
-            self.path("bin", "rattle"),
-            "build",
-            "--crate-name",
-            crate,
-            "src/main.rt" if is_program else "src/lib.rt",
-        ]
+        words = [self.path("bin", "rattle"), "build", "--crate-name", crate]
+        words += ["src/main.rt" if is_program else "src/lib.rt"]
         for name in self.libraries(crate):
             words += ["--extern", f"{name}={self.path('rlibs', name + '.rlib')}"]
         words += ["-L", f"dependency={self.path('rlibs')}", "-L", f"dependency={room}"]
         for name in below[crate]:
             words += ["--extern", f"{name}={os.path.join(room, name + '.rlib')}"]
-        words += [
-            "--antt-project",
-            self.path("rattle", "logic", "antt-project.json"),
-            "--logic-built",
-            self.path("logic_built"),
-            "--links",
-            f"{crate}=",
-        ]
+        words += ["--antt-project", self.path("rattle", "logic", "antt-project.json")]
+        words += ["--logic-built", self.path("logic_built"), "--links", f"{crate}="]
         made = ["--toolchain", self.path("toolchain"), "--backend", "llvm", "-o", os.path.join(room, crate + ".o")]
-        return (
-            words
-            + ["--jobs", str(jobs)]
-            + (made if is_program else ["--statements", "-o", os.path.join(room, crate + ".rlib")])
-        )
+        library = ["--statements", "-o", os.path.join(room, crate + ".rlib")]
+        return [*words, "--jobs", str(jobs), *(made if is_program else library)]
 
     def link(self, program: str, room: str) -> list[str]:
         """The command that links a program's object file with the C library."""
-        words = [
-            self.path("bin", "rattle-link"),
-            "--target",
-            "x86_64-unknown-linux-gnu",
-            "--toolchain",
-            self.path("toolchain"),
-        ]
-        return words + [
-            "-o",
-            os.path.join(room, program),
-            os.path.join(room, program + ".o"),
-            self.path("c", "libos_c.a"),
-            self.path("c", "liblibc_c.a"),
-        ]
+        words = [self.path("bin", "rattle-link"), "--target", "x86_64-unknown-linux-gnu"]
+        words += ["--toolchain", self.path("toolchain"), "-o", os.path.join(room, program)]
+        return [*words, os.path.join(room, f"{program}.o"), *(self.path("c", f"lib{it}_c.a") for it in ("os", "libc"))]
 
 
 def seconds() -> dict[str, float]:
@@ -146,9 +121,7 @@ class Run:
         gone = (time.monotonic() - self.begun) / 60
         proved, every = sum(self.plan.weights[it] for it in self.done), sum(self.plan.weights.values())
         rest = f", about {gone * (every - proved) / proved:.0f} left" if every / 20 < proved < every else ""
-        print(
-            f"crate {len(self.done)} of {len(self.whole)}: {crate} proved; {gone:.1f} minutes gone{rest}", flush=True
-        )
+        print(f"crate {len(self.done)} of {len(self.whole)}: {crate} proved; {gone:.1f} minutes gone{rest}", flush=True)
 
     def ended(self) -> Optional[str]:
         """Takes what has ended, and returns the crate that was not proved, if there is one."""

@@ -1,7 +1,5 @@
 """Pages in headless Chromium, as the tests of pages see them."""
 
-from __future__ import annotations
-
 import base64
 import hashlib
 import json
@@ -53,8 +51,6 @@ def widened(two: Path, wider: Path) -> Path:
 
 
 class Page:
-    """A page in a browser."""
-
     def __init__(self, browser: Any, path: Path, width: int, scheme: str) -> None:
         self.browser, self.path = browser, path
         media = [{"name": "prefers-color-scheme", "value": scheme}]
@@ -79,7 +75,9 @@ class Page:
 
     def shown(self) -> list[list[str]]:
         """The cells of the rows that the table shows."""
-        cells = "return [...document.getElementById('rows').tBodies[0].rows].map(r => [...r.cells].map(c => c.textContent))"
+        cells = (
+            "return [...document.getElementById('rows').tBodies[0].rows].map(r => [...r.cells].map(c => c.textContent))"
+        )
         return list(self.run(cells))
 
     def choose(self, field: str, value: str) -> None:

@@ -1,18 +1,17 @@
 """Clusters of Dask on this machine that tests start by themselves: a scheduler, and workers of it."""
 
-from __future__ import annotations
-
 import contextlib
 import json
 import os
 import subprocess
 import sys
-import time
 from collections.abc import Callable, Iterator
 from pathlib import Path
 from typing import NamedTuple
 
 from hsp.fleet.local import QUIET
+
+from conftest import until
 
 
 class Cluster(NamedTuple):
@@ -43,9 +42,7 @@ def running(folder: Path, keys: list[str]) -> Iterator[Cluster]:
     where = ("--host", "127.0.0.1", "--port", "0", "--dashboard-address", "127.0.0.1:0")
     try:
         start("dask_scheduler", os.environ["PATH"], "--scheduler-file", str(file), "--no-show", *where)
-        until = time.monotonic() + 60
-        while not (file.exists() and file.read_text().endswith("}")) and time.monotonic() < until:
-            time.sleep(0.02)
+        until(lambda: file.exists() and file.read_text().endswith("}"))
         address = str(json.loads(file.read_text())["address"])
         yield Cluster(address, begun[0].pid, worker)
     finally:

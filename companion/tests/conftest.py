@@ -3,18 +3,18 @@
 The programs are those of HSPLAN and HSPLAN_STREAM, or those that are built here.
 """
 
-from __future__ import annotations
-
 import contextlib
 import os
+import re
 import shutil
 import subprocess
 import sys
-from collections.abc import Callable, Iterator
+import time
+from collections.abc import Callable, Iterable
 from pathlib import Path
 
 import pytest
-from click.testing import CliRunner
+from click.testing import CliRunner, Result
 
 TOP = Path(__file__).resolve().parents[2]
 sys.path[:0] = [str(TOP / "companion"), str(TOP / "tools")]
@@ -23,6 +23,8 @@ from lib import examples, programs  # noqa: E402
 from hsp.cli import main  # noqa: E402
 
 Hsp = Callable[..., "subprocess.CompletedProcess[str]"]
+# Copies an example.
+Example = Callable[[str], Path]
 # Before a command that gets a signal: what runs the tests, as nohup, may have signals ignored.
 WITH_SIGNALS = ["env", "--default-signal=HUP,INT,TERM"]
 
@@ -40,6 +42,18 @@ def children(process: int) -> list[int]:
         for thread in os.listdir(f"/proc/{process}/task"):
             found += map(int, Path(f"/proc/{process}/task/{thread}/children").read_text().split())
     return found
+
+
+def until(is_so: Callable[[], object], seconds: float = 60, pause: float = 0.02) -> None:
+    end = time.monotonic() + seconds
+    while not is_so():
+        assert time.monotonic() < end
+        time.sleep(pause)
+
+
+def rewrite(path: Path, pattern: str, new: str | Callable[[re.Match[str]], str]) -> None:
+    """Writes a file anew, with something else wherever a pattern stands in it."""
+    path.write_text(re.sub(pattern, new, path.read_text(), flags=re.M))
 
 
 def named(process: int, word: str) -> bool:
@@ -72,9 +86,15 @@ def _ran_apart(words: tuple[str, ...], more: dict[str, str]) -> "subprocess.Comp
     return subprocess.run(command, text=True, env=variables(**more), **streams)  # type: ignore[call-overload,no-any-return]
 
 
+def run_here(words: Iterable[object], **more: str) -> Result:
+    """Runs a command of hsp in this process. A traceback would be an exception other than an exit."""
+    result = CliRunner(mix_stderr=False).invoke(main, [*map(str, words)], env=more, prog_name="hsp")
+    assert result.exception is None or isinstance(result.exception, SystemExit), f"{words}: {result.exception!r}"
+    return result
+
+
 def _ran_here(words: tuple[str, ...], more: dict[str, str]) -> "subprocess.CompletedProcess[str]":
-    result = CliRunner(mix_stderr=False).invoke(main, words, env=more, prog_name="hsp")
-    assert result.exception is None or isinstance(result.exception, SystemExit), repr(result.exception)
+    result = run_here(words, **more)
     return subprocess.CompletedProcess(words, result.exit_code, result.stdout, result.stderr)
 
 
@@ -94,8 +114,6 @@ def hsp() -> Hsp:
 
 @pytest.fixture(scope="session")
 def hsp_apart() -> Hsp:
-    """Runs hsp in a process of its own, as its users do."""
-
     def run(*words: str, status: int = 0, **more: str) -> "subprocess.CompletedProcess[str]":
         ended = _ran_apart(words, more)
         assert ended.returncode == status, ended.stdout + ended.stderr
@@ -106,17 +124,21 @@ def hsp_apart() -> Hsp:
 
 @pytest.fixture(scope="session")
 def twelve(tmp_path_factory: pytest.TempPathFactory) -> Path:
-    """A folder with the example of twelve sites."""
     folder = tmp_path_factory.mktemp("twelve-sites")
     examples.write(str(folder), examples.twelve_sites())
     return folder
 
 
 @pytest.fixture
-def example(tmp_path: Path) -> Iterator[Callable[[str], Path]]:
+def example(tmp_path: Path) -> Example:
     """Copies an example into a folder of the test's own."""
 
     def copied(name: str) -> Path:
         return Path(shutil.copytree(TOP / "examples" / name, tmp_path / name))
 
-    yield copied
+    return copied
+
+
+@pytest.fixture
+def folder(example: Example) -> Path:
+    return example("two-sites")

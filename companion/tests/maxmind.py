@@ -1,7 +1,5 @@
 """A writer of small MaxMind databases (MaxMind DB file format, version 2.0), only for the tests."""
 
-from __future__ import annotations
-
 import ipaddress
 from typing import Any
 
@@ -63,15 +61,7 @@ def database(networks: dict[str, Any]) -> bytes:
     records = [
         numbers[id(it)] if isinstance(it, _Node) else leaves.get(it, said[id(None)]) for n in nodes for it in n.below
     ]
-    metadata = {
-        "node_count": (6, len(nodes)),
-        "record_size": (5, 24),
-        "ip_version": (5, 6),
-        "database_type": "Test",
-        "languages": ["en"],
-        "binary_format_major_version": (5, 2),
-        "binary_format_minor_version": (5, 0),
-        "build_epoch": (9, 1774000000),
-        "description": {"en": "test"},
-    }
+    metadata = {"node_count": (6, len(nodes)), "record_size": (5, 24), "ip_version": (5, 6), "database_type": "Test"}
+    metadata |= {"languages": ["en"], "binary_format_major_version": (5, 2), "binary_format_minor_version": (5, 0)}
+    metadata |= {"build_epoch": (9, 1774000000), "description": {"en": "test"}}
     return b"".join(it.to_bytes(3, "big") for it in records) + bytes(16) + data + MARK + _value(metadata)

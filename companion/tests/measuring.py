@@ -1,8 +1,6 @@
 """What is measured, by the tools themselves: back ends that answer after a known time, and proxies before them that log
 it."""
 
-from __future__ import annotations
-
 import asyncio
 import contextlib
 import subprocess
@@ -48,7 +46,6 @@ def running(words: Sequence[str], **more: Any) -> Iterator["subprocess.Popen[byt
 
 @contextlib.contextmanager
 def backends(ports: Sequence[int]) -> Iterator[None]:
-    """A server at each port."""
     with running([sys.executable, "-c", BACK_ENDS, *map(str, ports)], stdout=subprocess.PIPE) as process:
         assert process.stdout and process.stdout.readline()
         yield
@@ -118,10 +115,7 @@ http {{
     location /direct/ {{ return 302 /; }} location /nowhere {{ return 404; }} }}
 }}
 """
-SERVERS = {
-    "apache": (APACHE, ["apache2", "-D", "FOREGROUND", "-f"]),
-    "nginx": (NGINX, ["nginx", "-c"]),
-}
+SERVERS = {"apache": (APACHE, ["apache2", "-D", "FOREGROUND", "-f"]), "nginx": (NGINX, ["nginx", "-c"])}
 
 
 @contextlib.contextmanager

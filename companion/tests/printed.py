@@ -5,8 +5,6 @@ With HSP_KEEP in the environment tests write what they print in place of it. The
 has changed before it is committed.
 """
 
-from __future__ import annotations
-
 import difflib
 import functools
 import os
@@ -41,7 +39,5 @@ def assert_kept(name: str, head: str, text: str) -> None:
         (FOLDER / f"{name}.txt").write_bytes(whole.encode())
     assert head in kept(name), f"nothing is kept under {head}: run the test with HSP_KEEP=1"
     if text != kept(name)[head]:
-        changes = difflib.unified_diff(
-            kept(name)[head].splitlines(), text.splitlines(), "kept", "printed", lineterm=""
-        )
+        changes = difflib.unified_diff(kept(name)[head].splitlines(), text.splitlines(), "kept", "printed", lineterm="")
         pytest.fail("\n".join([f"{name}.txt, {head}:", *changes]), pytrace=False)

@@ -1,18 +1,15 @@
 """A real HAProxy on loopback, with files that hsp wrote."""
 
-from __future__ import annotations
-
 import contextlib
 import http.client
 import socket
 import subprocess
 import tempfile
-import time
 from collections.abc import Iterator
 from dataclasses import dataclass, field
 from pathlib import Path
 
-from conftest import Hsp
+from conftest import Hsp, until
 
 
 def free_ports(number: int) -> list[int]:
@@ -59,14 +56,11 @@ class Front:
         self.start()
 
     def start(self) -> None:
-        """Starts HAProxy, and waits until it listens."""
         with open(self.log, "ab") as file:
             command = ["haproxy", "-f", str(self.config)]
             self.process = subprocess.Popen(command, stdout=file, stderr=subprocess.STDOUT, cwd="/")
         wait(self.process, self.port, self.log)
-        until = time.monotonic() + 60
-        while not self._is_spoken_to() and self.process.poll() is None and time.monotonic() < until:
-            time.sleep(0.01)  # it listens at the port first
+        until(lambda: self._is_spoken_to() or self.process.poll() is not None)  # it listens at the port first
 
     def _is_spoken_to(self) -> bool:
         """Whether the runtime socket is that of a process, and not what one left that is gone."""
@@ -74,7 +68,6 @@ class Front:
             return own.connect_ex(self.socket) == 0
 
     def kill(self) -> None:
-        """Ends HAProxy without a word."""
         self.process.kill()
         self.process.wait(10)
         self._asked.close()
@@ -84,7 +77,6 @@ class Front:
         self.process.wait(10)
 
     def ask(self, path: str, client: str = "", method: str = "GET", **headers: str) -> Answer:
-        """What is answered for a path, to a client behind a trusted proxy."""
         given = {"X-Forwarded-For": client, **headers} if client else headers
         self._asked.request(method, path, headers=given)
         response = self._asked.getresponse()
@@ -112,9 +104,7 @@ class Front:
 
     def logged(self, lines: int) -> Path:
         """The log, once it has so many lines. HAProxy writes one after it has answered."""
-        until = time.monotonic() + 60
-        while self.log.read_bytes().count(b"\n") < lines and time.monotonic() < until:
-            time.sleep(0.01)
+        until(lambda: self.log.read_bytes().count(b"\n") >= lines)
         return self.log
 
     def taken(self) -> dict[str, int]:
@@ -148,10 +138,10 @@ def answering(hsp: Hsp, folder: Path, into: Path, *words: str) -> Iterator[Front
 
 
 def wait(process: "subprocess.Popen[bytes]", port: int, log: Path) -> None:
-    """Waits until a HAProxy listens."""
-    until = time.monotonic() + 60
-    while time.monotonic() < until and process.poll() is None:
+    def listens() -> bool:
+        assert process.poll() is None, f"HAProxy doesn't listen: {log.read_text()}"
         with contextlib.suppress(OSError), socket.create_connection(("127.0.0.1", port), timeout=1):
-            return
-        time.sleep(0.05)
-    raise AssertionError(f"HAProxy doesn't listen: {log.read_text()}")
+            return True
+        return False
+
+    until(listens)

@@ -1,9 +1,7 @@
 """What the tests of plans in time share: drawn services with hosts, and their problems as integer programmes."""
 
-from __future__ import annotations
-
 import random
-from collections.abc import Callable
+from collections.abc import Callable, Sequence
 from pathlib import Path
 from typing import Any
 
@@ -13,7 +11,6 @@ from scipy import optimize
 from hsp.plans.service import Service
 from lib import examples
 
-Example = Callable[[str], Path]
 Draw = random.Random
 
 
@@ -29,6 +26,25 @@ def demand_of(rows: list[tuple[str, str, int]]) -> bytes:
     return examples.table("region,handle,count", rows)
 
 
+def service_in(
+    folder: Path,
+    sites: dict[str, list[str]],
+    rows: list[tuple[str, str, int]],
+    costs: Sequence[tuple[object, ...]],
+    rooms: Sequence[tuple[object, ...]],
+    hosts: Sequence[tuple[str, int]] = (),
+) -> Path:
+    """Writes a service: its sites with the addresses of their servers, the rows of its tables, and machines' limits."""
+    records = [(name, examples.site_octets(name, 1, own)) for name, own in sites.items()]
+    files = {
+        "settings.toml": examples.settings_text(records) + examples.hosts_text(hosts),
+        "demand.csv": demand_of(rows),
+        "costs.csv": examples.table("region,site,cost", costs),
+        "capacity.csv": examples.table("site,server_id,capacity", rooms),
+    }
+    return put(folder, files)
+
+
 def drawn_service(draw: Draw, folder: Path, hosts: bool = True) -> Path:
     """Two or three sites of one to three servers, of which some share a machine, with room that is scarce."""
     names = ["a", "b", "c"][: draw.randint(2, 3)]
@@ -37,21 +53,11 @@ def drawn_service(draw: Draw, folder: Path, hosts: bool = True) -> Path:
     rows = [(region, f"20.1/{at}", draw.randint(0, 6)) for region in regions for at in range(draw.randint(2, 5))]
     whole = max(1, sum(row[2] for row in rows))
     servers = [(name, at + 1) for name in names for at in range(len(addresses[name]))]
-    settings = examples.settings_text([(name, examples.site_octets(name, 1, addresses[name])) for name in names])
-    if hosts:
-        shared = sorted({own for group in addresses.values() for own in group})
-        settings += examples.hosts_text([(own, draw.randint(whole // 2, whole)) for own in shared[:2]])
+    shared = sorted({own for group in addresses.values() for own in group})
+    limits = [(own, draw.randint(whole // 2, whole)) for own in shared[:2]] if hosts else []
     costs = [(region, name, draw.randint(0, 4)) for region in regions for name in names]
     capacity = [(*server, draw.randint(1 + whole // 3, whole + 1)) for server in servers]
-    return put(
-        folder,
-        {
-            "settings.toml": settings,
-            "demand.csv": demand_of(rows),
-            "costs.csv": examples.table("region,site,cost", costs),
-            "capacity.csv": examples.table("site,server_id,capacity", capacity),
-        },
-    )
+    return service_in(folder, addresses, rows, costs, capacity, limits)
 
 
 class Flows:

@@ -1,8 +1,7 @@
 """What tests share: small services as texts, and a random one with the queries of its log."""
 
-from __future__ import annotations
-
 import csv
+import io
 import ipaddress
 import random
 from dataclasses import dataclass
@@ -10,6 +9,8 @@ from pathlib import Path
 
 from hsp.intake.records import Interface, ServerRecord, SiteRecord
 from hsp.intake.skeleton import BOTH
+from hsp.base.programs import Programs
+from hsp.plans.service import Service, read_service
 
 NETWORKS = "network,region\n10.1.0.0/16,eu\n10.2.0.0/16,us\n10.3.0.0/16,asia\n"
 CLIENTS = {"10.1.0.1": "eu", "10.2.0.1": "us", "10.3.0.1": "asia"}
@@ -27,17 +28,13 @@ class Place:
         octets = [ipaddress.ip_address(it).packed.rjust(16, b"\0") for it in self.addresses]
         # Each server has a port of its own, whatever other sites are at its address.
         first = 64 * int.from_bytes(self.name.encode()[-3:], "big")
-        servers = tuple(
-            ServerRecord(at, it, b"", (Interface(BOTH, 0, first + at),)) for at, it in enumerate(octets, 1)
-        )
+        servers = tuple(ServerRecord(at, it, b"", (Interface(BOTH, 0, first + at),)) for at, it in enumerate(octets, 1))
         record = SiteRecord(1, (2, 11), 1, 0, self.option, b"", (), servers).octets().hex()
         return f'[[site]]\nname = "{self.name}"\nrecord = "{record}"\n'
 
 
 def host(address: str, limit: int) -> str:
-    return (
-        f'[[host]]\naddress = "{ipaddress.ip_address(address).packed.rjust(16, bytes(1)).hex()}"\nlimit = {limit}\n'
-    )
+    return f'[[host]]\naddress = "{ipaddress.ip_address(address).packed.rjust(16, bytes(1)).hex()}"\nlimit = {limit}\n'
 
 
 def written(folder: Path, **texts: str) -> Path:
@@ -52,6 +49,16 @@ def written(folder: Path, **texts: str) -> Path:
 
 def rows(path: Path) -> list[list[str]]:
     return list(csv.reader(path.read_text().splitlines()))[1:]
+
+
+def read(folder: Path, **given: str) -> tuple[Service, Programs]:
+    programs = Programs()
+    return read_service(str(folder), programs, dict(given)), programs
+
+
+def table_of(text: str) -> list[dict[str, str]]:
+    """The rows of a table by its header."""
+    return list(csv.DictReader(io.StringIO(text, newline="")))
 
 
 TWO_IN_ONE = Place("north", 2, ["192.0.2.1", "192.0.2.1"])

@@ -1,7 +1,5 @@
 """What hsp holds in memory and on disk, and how long it takes, for files that are large or forged."""
 
-from __future__ import annotations
-
 import bz2
 import gzip
 import json
@@ -37,10 +35,9 @@ from hsp.intake.sitefiles import Files
 from hsp.intake.tally import Tally
 from hsp.plans.service import settings_in, table
 
-from conftest import variables
+from conftest import Example, until, variables
 from test_sites import PARIS, invoke, site_json
 
-Example = Callable[[str], Path]
 TOO_LARGE = "more than 67,108,864 octets; a file that is read whole has at most so many"
 
 
@@ -109,8 +106,7 @@ def test_standard_input_has_the_limit_too() -> None:
     assert (done.returncode, done.stderr) == (1, f"hsp: -: {TOO_LARGE}\n")
 
 
-def test_a_pipe_without_an_end_is_read_to_the_limit(example: Example) -> None:
-    folder = example("two-sites")
+def test_a_pipe_without_an_end_is_read_to_the_limit(folder: Path) -> None:
     said = invoke("plan", folder, "--demand", "/dev/zero", status=5).stderr
     assert said.startswith("error: the file has more than 67,108,864 octets\n--> /dev/zero\n")
 
@@ -137,9 +133,7 @@ def test_a_long_key_takes_little_memory(tmp_path: Path) -> None:
 
 def forged_list(values: int, zeros: int) -> bytes:
     """Octets that look like so many values of a list, each of which goes on to the end."""
-    return b"".join(b"\0\0\0\1\0\0\0\7HS_SITE" + zeros.to_bytes(4, "big") for _ in range(values)) + bytes(
-        zeros + 9000
-    )
+    return b"".join(b"\0\0\0\1\0\0\0\7HS_SITE" + zeros.to_bytes(4, "big") for _ in range(values)) + bytes(zeros + 9000)
 
 
 def test_candidates_are_not_kept(tmp_path: Path, monkeypatch: pytest.MonkeyPatch) -> None:
@@ -230,7 +224,11 @@ def test_what_follows_a_stream_of_bzip2_is_one(tmp_path: Path) -> None:
     with opened(str(path)) as file:
         assert file.read() == text + b"more\n"
     damaged = b"BZx" + more[3:]
-    for octets, why in ((first + damaged, "Invalid"), (first + b"junk", "Invalid"), (first + more[:9], "the file ends")):
+    for octets, why in (
+        (first + damaged, "Invalid"),
+        (first + b"junk", "Invalid"),
+        (first + more[:9], "the file ends"),
+    ):
         path.write_bytes(octets)
         with pytest.raises(Unfit, match=rf"log.bz2: line 100001: it can't be unpacked further: .*{why}"):
             list(numbered(str(path), Skipped()))
@@ -329,8 +327,7 @@ def test_a_file_without_a_fault_may_be_too_large_for_warnings(
     assert said.startswith("the files are too large to be looked at for warnings\nno fault")
 
 
-def test_empty_lines_and_comments_are_read_over(example: Example) -> None:
-    folder = example("two-sites")
+def test_empty_lines_and_comments_are_read_over(folder: Path) -> None:
     settings, demand = folder / "settings.toml", folder / "demand.csv"
     read, rows = settings_in(str(settings)), table(str(demand))
     settings.write_text("\ufeff# above\n \t# [[site]]\n\n" + settings.read_text().replace("\n", "\r\n#\r\n\r\n"))
@@ -342,9 +339,8 @@ def test_empty_lines_and_comments_are_read_over(example: Example) -> None:
     assert table(str(demand)) == [["x\n\ny", "1"]]
 
 
-def test_a_key_of_titles_has_few_parts(example: Example) -> None:
+def test_a_key_of_titles_has_few_parts(folder: Path) -> None:
     """A reader of TOML takes time that grows with the square of them."""
-    folder = example("two-sites")
     (folder / "hsp.toml").write_text("a." * 100 + "a = 1\n" + 'title = "' + "." * 200 + '"\n')
     assert invoke("plan", folder).stdout.startswith("." * 200)
     (folder / "hsp.toml").write_text("a." * 101 + "a = 1\n")
@@ -361,7 +357,4 @@ def test_what_an_explanation_has_started_ends_with_it(tmp_path: Path, monkeypatc
     words = ["sh", "-c", f"echo $$ > {tmp_path}/own; mv {tmp_path}/own {tmp_path}/pid; exec sleep 60"]
     assert guard.guarded(lambda _: subprocess.run(words)).is_ended
     status = Path(f"/proc/{int((tmp_path / 'pid').read_text())}/status")
-    until = time.monotonic() + 10
-    while status.exists() and "State:\tZ" not in status.read_text():
-        assert time.monotonic() < until
-        time.sleep(0.01)
+    until(lambda: not status.exists() or "State:\tZ" in status.read_text(), 10)

@@ -1,18 +1,12 @@
 """Folders that are broken at random: hsp ends with a status and a line, and never with a traceback."""
 
-from __future__ import annotations
-
 import random
 import shutil
 import subprocess
 import sys
 from pathlib import Path
 
-from click.testing import CliRunner
-
-from hsp.cli import main
-
-from conftest import TOP, variables
+from conftest import TOP, run_here, variables
 
 FOLDERS = 150
 FILES = ("settings.toml", "demand.csv", "costs.csv", "capacity.csv")
@@ -59,9 +53,7 @@ def apart(command: str, folder: Path) -> tuple[int, str]:
 
 
 def here(command: str, folder: Path) -> tuple[int, str]:
-    """The same in this process, where a traceback is a fault other than an exit."""
-    done = CliRunner(mix_stderr=False).invoke(main, [command, str(folder)])
-    assert done.exception is None or isinstance(done.exception, SystemExit), f"{folder}: {done.exception!r}"
+    done = run_here([command, folder])
     return done.exit_code, done.stderr
 
 

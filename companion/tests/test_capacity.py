@@ -1,7 +1,5 @@
 """hsp capacity: from numbers, load tests and logs to a table of capacities."""
 
-from __future__ import annotations
-
 import datetime
 import json
 import random
@@ -75,24 +73,9 @@ WRK = """Running 30s test @ http://127.0.0.1:8080/
 Requests/sec:   {rate}
 Transfer/sec:      0.92MB
 """
-VEGETA = {
-    "latencies": {
-        "total": 1,
-        "mean": 2e6,
-        "50th": 1e6,
-        "90th": 4e6,
-        "95th": 6e6,
-        "99th": 9e6,
-        "max": 2e7,
-        "min": 1e5,
-    },
-    "duration": 1,
-    "requests": 100,
-    "rate": 55.5,
-    "throughput": 50.25,
-    "success": 1,
-    "status_codes": {"200": 100},
-}
+TIMES = {"total": 1, "mean": 2e6, "50th": 1e6, "90th": 4e6, "95th": 6e6, "99th": 9e6, "max": 2e7, "min": 1e5}
+VEGETA = {"latencies": TIMES, "duration": 1, "requests": 100, "rate": 55.5, "throughput": 50.25, "success": 1}
+VEGETA["status_codes"] = {"200": 100}
 
 
 def test_of_load_tests_the_highest_rate_within_the_time_counts(two: Path, tmp_path: Path, hsp: Hsp) -> None:
@@ -113,10 +96,8 @@ def test_of_load_tests_the_highest_rate_within_the_time_counts(two: Path, tmp_pa
     assert f"only 90% are known to be below 10 ms at 900 a second, {tmp_path}/late\n" in said
     hsp("capacity", *files, "--below", "6", "--share", "90", *words)
     assert taken(two)["paris 1"] == 54000  # the late one too had 90% below 6 ms
-    assert (
-        "names no server: write SITE,ID="
-        in hsp("capacity", str(tmp_path / "slow"), "--below", "1", *words, status=2).stderr
-    )
+    said = hsp("capacity", str(tmp_path / "slow"), "--below", "1", *words, status=2).stderr
+    assert "names no server: write SITE,ID=" in said
 
 
 @pytest.mark.skipif(not all(map(shutil.which, ("wrk", "h2load", "nginx"))), reason="no wrk, h2load or nginx")
@@ -133,13 +114,8 @@ def test_what_wrk_and_h2load_print_is_read(two: Path, tmp_path: Path, hsp: Hsp) 
     files = [f"paris,1={tmp_path}/wrk.txt", f"paris,2={tmp_path}/h2.txt", f"reston,1={tmp_path}/lost.txt"]
     words = ["--below", "5000", "--into", str(two), "--seconds", "1"]
     said = hsp("capacity", *files, f"reston,2={tmp_path}/h2.log", *words).stdout
-    rates = [
-        float(re.search(form, (tmp_path / name).read_text())[1])
-        for form, name in (  # type: ignore[index]
-            (r"Requests/sec: +([0-9.]+)", "wrk.txt"),
-            (r", ([0-9.]+) req/s", "h2.txt"),
-        )
-    ]
+    forms = {"wrk.txt": r"Requests/sec: +([0-9.]+)", "h2.txt": r", ([0-9.]+) req/s"}
+    rates = [float(re.findall(form, (tmp_path / name).read_text())[0]) for name, form in forms.items()]
     assert [taken(two)["paris 1"], taken(two)["paris 2"]] == list(map(int, rates))
     assert "only 0% are known to be below 5000 ms at 0 a second" in said
     assert "a fit takes 30" in said and f"took  {tmp_path}/h2.log: 300 of a log of h2load" in said
@@ -210,13 +186,6 @@ def test_what_is_no_source_is_refused(two: Path, tmp_path: Path, hsp: Hsp) -> No
     for text in ("paris,1,x", "vienna,1,5", "paris,9,5"):
         table.write_text(f"site,server_id,capacity\n{text}\n")
         assert hsp("capacity", str(table), "--into", str(two), status=2).stderr.count("Error: ") == 1
-    for words, status in (
-        (["vienna=1"], 2),
-        (["paris,9=1"], 2),
-        (["paris=1e9"], 1),
-        (["absent"], 1),
-        ([""], 2),
-        ([], 2),
-    ):
-        hsp("capacity", *words, "--into", str(two), status=status)
+    for words in (["vienna=1"], ["paris,9=1"], ["paris=1e9"], ["absent"], [""], []):
+        hsp("capacity", *words, "--into", str(two), status=1 if words in (["paris=1e9"], ["absent"]) else 2)
     assert_one_line(hsp("capacity", str(two / "capacity.csv"), "--into", str(two), status=1), "read and written")

@@ -1,10 +1,7 @@
 """hsp sites --update, --remove and --host: what a change does is said, and all else in the files stays as it is."""
 
-from __future__ import annotations
-
 import random
 import subprocess
-from collections.abc import Callable
 from pathlib import Path
 
 import pytest
@@ -15,7 +12,6 @@ from hsp.base.programs import program
 from conftest import Hsp
 from services import rows
 
-Example = Callable[[str], Path]
 PARIS = examples.TWO_SITES["paris"]
 
 
@@ -37,8 +33,7 @@ def servers(folder: Path, handles: list[str]) -> dict[tuple[str, str], str]:
 
 
 @pytest.mark.parametrize("addresses", [[*PARIS, "192.0.2.13"], PARIS[:1], PARIS, [PARIS[0], "192.0.2.99"]])
-def test_the_share_that_changes_is_that_of_the_hash(addresses: list[str], example: Example, hsp: Hsp) -> None:
-    folder = example("two-sites")
+def test_the_share_that_changes_is_that_of_the_hash(addresses: list[str], folder: Path, hsp: Hsp) -> None:
     demand = [(handle, int(count)) for _, handle, count in rows(folder / "demand.csv")]
     handles = sorted({handle for handle, _ in demand})
     before = servers(folder, handles)
@@ -64,8 +59,7 @@ def test_the_share_that_changes_is_that_of_the_hash(addresses: list[str], exampl
     assert hsp("doctor", str(folder)).stdout.splitlines()[-1].startswith("no fault")
 
 
-def test_comments_and_other_sites_stay(example: Example, hsp: Hsp) -> None:
-    folder = example("two-sites")
+def test_comments_and_other_sites_stay(folder: Path, hsp: Hsp) -> None:
     settings = folder / "settings.toml"
     lines = settings.read_text().splitlines()
     text = "\r\n".join(["# mine", lines[0], "# of paris", *lines[1:3], "# of reston", *lines[3:]])
@@ -80,14 +74,11 @@ def test_comments_and_other_sites_stay(example: Example, hsp: Hsp) -> None:
     assert {site for site, *_ in rows(folder / "capacity.csv")} == {site for _, site, _ in rows(folder / "costs.csv")}
     hsp("sites", "--host", "198.51.100.22=2500", "--into", str(folder))
     assert settings.read_text().count("[[host]]") == 1 and "limit = 2500\n" in settings.read_text()
-    settings.write_text(
-        settings.read_text().replace("[[site]]", "site = [\n{").replace('reston"\nrec', 'reston", rec')
-    )
+    settings.write_text(settings.read_text().replace("[[site]]", "site = [\n{").replace('reston"\nrec', 'reston", rec'))
     assert "\n" not in hsp("sites", "--remove", "reston", "--into", str(folder), status=1).stderr.rstrip("\n")
 
 
-def test_of_a_long_demand_a_sample_is_looked_at(example: Example, hsp: Hsp) -> None:
-    folder = example("two-sites")
+def test_of_a_long_demand_a_sample_is_looked_at(folder: Path, hsp: Hsp) -> None:
     draw = random.Random(4)
     lines = "".join(f'eu,"20.500.1234/it,{draw.randrange(10**9)}",2\n' for _ in range(20_000))
     (folder / "demand.csv").write_text(f"region,handle,count\n{lines}")
@@ -99,8 +90,7 @@ def test_of_a_long_demand_a_sample_is_looked_at(example: Example, hsp: Hsp) -> N
     assert "(by 8,192 of 20,000 rows, \u00b11%)" in said
 
 
-def test_what_cannot_be_changed_is_refused(example: Example, hsp: Hsp) -> None:
-    folder = example("two-sites")
+def test_what_cannot_be_changed_is_refused(folder: Path, hsp: Hsp) -> None:
     octets = record(folder.parent, 8, PARIS, "pariss")
     into = ["--into", str(folder)]
     assert "did you mean --name paris?" in hsp("sites", octets, "--update", *into, status=1).stderr

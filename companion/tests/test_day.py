@@ -1,9 +1,5 @@
 """hsp day: hours against the planner, blocks against all that could be, and against their hours' own queries."""
 
-from __future__ import annotations
-
-import csv
-import io
 import os
 import random
 import re
@@ -23,8 +19,9 @@ from hsp.scenarios.judged import Judged
 from hsp.scenarios.nearest import homes_of, portions_of
 
 from browsers import WIDTHS, Page, allowed, assert_stands, browser
-from conftest import Hsp
-from scenarios import Example, Flows, demand_of, drawn_service
+from conftest import TOP, Example, Hsp, rewrite
+from scenarios import Flows, demand_of, drawn_service
+from services import table_of
 
 __all__ = ["browser"]
 
@@ -102,7 +99,7 @@ def test_each_hour_is_planned(hsp: Hsp, tmp_path: Path) -> None:
     folder = drawn_day(random.Random(11), tmp_path / "it", 4)
     text = hsp("day", str(folder), "--csv").stdout
     programs = Programs()
-    rows = list(csv.DictReader(io.StringIO(text)))
+    rows = table_of(text)
     assert [it["hour"] for it in rows] == ["h00", "h01", "h02", "h03"]
     for it in rows:
         service = read_service(str(folder), programs, {"demand": str(folder / it["hour"] / "demand.csv")})
@@ -117,7 +114,7 @@ def test_each_hour_is_planned(hsp: Hsp, tmp_path: Path) -> None:
 def test_a_chain_moves_the_fewest_from_hour_to_hour(hsp: Hsp, tmp_path: Path, seed: int) -> None:
     folder = drawn_day(random.Random(seed), tmp_path / "it", 4)
     text = hsp("day", str(folder), "--near", "--csv", status=status_of(folder)).stdout
-    rows = list(csv.DictReader(io.StringIO(text)))
+    rows = table_of(text)
     programs = Judged()
     service, hours = read_day(folder, programs)
     before: Service | None = None
@@ -166,8 +163,7 @@ def test_short_hours_keep_no_plan(hsp: Hsp, day: Path) -> None:
     """An hour that lacks room is named, ends with status 3, and loses the plan that it had."""
     hsp("day", str(day))
     assert (day / "h13/plan.txt").exists()
-    rows = (day / "h13/demand.csv").read_text()
-    (day / "h13/demand.csv").write_text(re.sub(r",(\d+)$", lambda it: f",{3 * int(it[1])}", rows, flags=re.M))
+    rewrite(day / "h13/demand.csv", r"\d+$", lambda it: f"{3 * int(it[0])}")
     lines = hsp("day", str(day), status=3).stdout.splitlines()
     assert any(re.match(r"  13 +\d+,\d+  short by [\d,]+ queries", line) for line in lines)
     assert "short 1 hour: 13" in lines and any(line.startswith("worst 13:00: short by") for line in lines)
@@ -178,9 +174,7 @@ def test_short_hours_keep_no_plan(hsp: Hsp, day: Path) -> None:
 
 def test_what_is_no_day(hsp: Hsp, day: Path, tmp_path: Path) -> None:
     ended = hsp("day", str(tmp_path), status=5)
-    assert ended.stderr == (
-        f"hsp: {tmp_path}/h00: no demand of hours is here; hsp demand --by hour --into writes it\n"
-    )
+    assert ended.stderr == (f"hsp: {tmp_path}/h00: no demand of hours is here; hsp demand --by hour --into writes it\n")
     assert "weekday-hour" in hsp("day", str(day), "--week", status=5).stderr
     (day / "h05/demand.csv").write_text("region,handle,count\neu,20.1/x,1\n")
     assert f"{day}/h05/demand.csv: its rows are others than those of {day}/h00/demand.csv" in (
@@ -217,15 +211,14 @@ def test_a_week_has_its_own_hours(hsp: Hsp, day: Path) -> None:
         (day / name).mkdir()
         (day / name / "demand.csv").write_bytes((day / "h09/demand.csv").read_bytes())
     assert len(names_in(str(day))) == 24
-    rows = list(csv.DictReader(io.StringIO(hsp("day", str(day), "--week", "--csv").stdout)))
+    rows = table_of(hsp("day", str(day), "--week", "--csv").stdout)
     assert [it["hour"] for it in rows] == ["mon-h09", "tue-h00", "sun-h23"]
     assert "plans through the week" in (day / "day.html").read_text()
 
 
 def test_hours_are_answered_by_their_commands(hsp: Hsp, day: Path) -> None:
     """By the plan of an hour and by that of a block, with the capacities less a reserve that are kept."""
-    rooms = re.sub(r",(\d+)$", r",\g<1>0", (day / "capacity.csv").read_text(), flags=re.M)
-    (day / "capacity.csv").write_text(rooms)
+    rewrite(day / "capacity.csv", r"(\d)$", r"\g<1>0")
     hsp("day", str(day), "--reserve", "10")
     page = (day / "day.html").read_text()
     first = min((day / "blocks").iterdir()).name
@@ -234,10 +227,7 @@ def test_hours_are_answered_by_their_commands(hsp: Hsp, day: Path) -> None:
         assert command and "capacity-less-reserve.csv" in command[0] and f"{name}/demand.csv" in command[0]
         words = command[0].replace("\\u0026", "&").split()[1:]
         done = subprocess.run(
-            [program("hsplan"), *words],
-            input="region,handle\neu,20.500.1234/film-5\n",
-            capture_output=True,
-            text=True,
+            [program("hsplan"), *words], input="region,handle\neu,20.500.1234/film-5\n", capture_output=True, text=True
         )
         assert done.stdout.startswith("assigned "), done
 
@@ -260,8 +250,7 @@ def test_inputs_of_earlier_hours_go_where_no_other_plan_may_stand_by_them(hsp: H
 
 def test_one_plan_of_all_hours_costs_more(hsp: Hsp, day: Path) -> None:
     """Where there is room for all, one block has all hours."""
-    rooms = re.sub(r",(\d+)$", r",\g<1>00", (day / "capacity.csv").read_text(), flags=re.M)
-    (day / "capacity.csv").write_text(rooms)
+    rewrite(day / "capacity.csv", r"(\d)$", r"\g<1>00")
     assert "block 1 plan serves 24 hours as it stands: 00-23; " in hsp("day", str(day)).stdout
     assert re.search(r"1 plan for a block of hours costs [0-9.<]+% more\.", (day / "day.html").read_text())
 
@@ -321,8 +310,7 @@ def test_folders_that_are_no_blocks_stay(hsp: Hsp, example: Example, tmp_path: P
 
 def test_no_block_goes_over_an_hour_without_a_demand(hsp: Hsp, day: Path) -> None:
     """All hours ask for little, so that one plan serves all that stand in a row."""
-    rooms = re.sub(r",(\d+)$", r",\g<1>0", (day / "capacity.csv").read_text(), flags=re.M)
-    (day / "capacity.csv").write_text(rooms)
+    rewrite(day / "capacity.csv", r"(\d)$", r"\g<1>0")
     assert "block 1 plan serves 24 hours as it stands: 00-23; " in hsp("day", str(day)).stdout
     (day / "h05/demand.csv").unlink()
     lines = hsp("day", str(day)).stdout.splitlines()
@@ -335,10 +323,6 @@ def test_no_block_goes_over_an_hour_without_a_demand(hsp: Hsp, day: Path) -> Non
 
 @pytest.fixture(scope="module")
 def page_of_day(hsp: Hsp, tmp_path_factory: pytest.TempPathFactory) -> Path:
-    import shutil
-
-    from conftest import TOP
-
     folder = Path(shutil.copytree(TOP / "examples/two-sites", tmp_path_factory.mktemp("day") / "two"))
     (folder / "plan.html").unlink()
     hsp("day", str(with_hours(folder)), "--near", "--unit", "ms")
@@ -427,32 +411,27 @@ def test_a_page_without_scripts_has_its_hours(browser: Any, page_of_day: Path, t
 
 def test_hours_and_losses_of_a_log(hsp: Hsp, day: Path, monkeypatch: pytest.MonkeyPatch) -> None:
     """A demand that no table holds is planned by prices: each hour and each loss, without portions and blocks."""
-    as_table = list(csv.DictReader(io.StringIO(hsp("day", str(day), "--csv").stdout)))
+    as_table = table_of(hsp("day", str(day), "--csv").stdout)
     losses = hsp("survive", str(day), "--csv", "--no-save", status=3).stdout
     monkeypatch.setattr("hsp.plans.counted.MOST_DEMAND_ROWS", 2)
-    rows = list(csv.DictReader(io.StringIO(hsp("day", str(day), "--csv").stdout)))
+    rows = table_of(hsp("day", str(day), "--csv").stdout)
     assert [(it["hour"], it["queries"], it["cost"]) for it in rows] == [
         (it["hour"], it["queries"], it["cost"]) for it in as_table
     ]
     assert (day / "h09/plan.txt").read_text().startswith("HSPLAN PRICES 1\n")
     assert "near  no: the rows of a log have no portions" in hsp("day", str(day), "--near").stdout
     assert f"--prices {day}/h09/plan.txt" in (day / "day.html").read_text()
-    for kept, own in zip(csv_rows(losses), csv_rows(hsp("survive", str(day), "--csv", "--no-save", status=3).stdout)):
+    for kept, own in zip(table_of(losses), table_of(hsp("survive", str(day), "--csv", "--no-save", status=3).stdout)):
         assert (kept["what"], kept["lack"], kept["cost"]) == (own["what"], own["lack"], own["cost"])
     printed = hsp("plan", str(day), "--near", str(day), "--more").stdout
     assert "near  no: the rows of a log have no portions; this is the plain plan" in printed
     assert "loss  without site reston short by 3,272 queries" in printed
-    roomy = re.sub(r",(\d+)$", r",\g<1>0", (day / "capacity.csv").read_text(), flags=re.M)
-    (day / "capacity.csv").write_text(roomy)
+    rewrite(day / "capacity.csv", r"(\d)$", r"\g<1>0")
     printed = hsp("survive", str(day), "--buy").stdout
     assert "kept  8 fallback plans" in printed and "the rows of a log have no portions" in printed
     programs = Programs()
     service = read_service(str(day), programs, {"costs": str(day / "fallback/site-paris/costs.csv")})
     assert service.log and programs.verdict(service.inputs, str(day / "fallback/site-paris/plan.txt")) == "yes"
-
-
-def csv_rows(text: str) -> list[dict[str, str]]:
-    return list(csv.DictReader(io.StringIO(text)))
 
 
 def test_one_purchase_serves_all_losses_of_a_log(hsp: Hsp, day: Path, monkeypatch: pytest.MonkeyPatch) -> None:
@@ -486,8 +465,7 @@ def test_hours_that_lack_a_plan_are_named_where_plans_are_kept(hsp: Hsp, tmp_pat
     shutil.rmtree(folder / "h02")
     (folder / "h06/demand.csv").unlink()
     for hour in ("h00", "h04"):
-        text = (folder / hour / "demand.csv").read_text()
-        (folder / hour / "demand.csv").write_text(re.sub(r",[0-9]+$", ",999", text, flags=re.M))
+        rewrite(folder / hour / "demand.csv", r"\d+$", "999")
     kept = [line for line in hsp("day", str(folder), status=3).stdout.splitlines() if line.startswith("kept")]
     assert kept[0].startswith("kept  3 plans beside the demands of h01 to h05 but h02 and h04, ")
     for hour in ("h01", "h03"):

@@ -1,7 +1,5 @@
 """hsp demand: logs of every form, regions against Python's `ipaddress`, and what is passed over."""
 
-from __future__ import annotations
-
 import bz2
 import csv
 import gzip
@@ -13,6 +11,7 @@ import os
 import pty
 import random
 import re
+import shutil
 import subprocess
 import sys
 from collections import Counter
@@ -22,11 +21,9 @@ from typing import NamedTuple
 from urllib.parse import quote
 
 import pytest
-from click.testing import CliRunner
 
 import maxmind
 from hsp.base.programs import Programs
-from hsp.cli import main
 from hsp.intake.forms import Form
 from hsp.intake.logs import LONGEST, Skipped, numbered
 from hsp.intake.queries import Judge, Reading
@@ -34,7 +31,7 @@ from hsp.intake.regions import Database, Networks, Seek, regions_in
 from hsp.intake.side_by_side import parts_of
 from hsp.intake.tally import Tally
 
-from conftest import TOP, Hsp, variables
+from conftest import TOP, Hsp, run_here, variables
 from test_sites import invoke
 
 LINES = 10_000
@@ -59,16 +56,25 @@ class Asked(NamedTuple):
     handle: str
 
 
-def region_of(address: str) -> str | None:
+Parsed = list[tuple[ipaddress.IPv4Network | ipaddress.IPv6Network, str]]
+
+
+def parsed(networks: dict[str, str]) -> Parsed:
+    return [(ipaddress.ip_network(it), region) for it, region in networks.items()]
+
+
+PARSED = parsed(NETWORKS)
+
+
+def region_of(address: str, networks: Parsed = PARSED) -> str | None:
     """The region by the longest prefix, as `ipaddress` has it."""
     own = ipaddress.ip_address(address)
     if own.version == 6 and own.ipv4_mapped:
         own = own.ipv4_mapped
-    fitting = [(it.prefixlen, region) for it, region in PARSED if it.version == own.version and own in it]
+    fitting = [(it.prefixlen, region) for it, region in networks if it.version == own.version and own in it]
     return max(fitting)[1] if fitting else None
 
 
-PARSED = [(ipaddress.ip_network(it), region) for it, region in NETWORKS.items()]
 CLIENTS = ["10.1.2.3", "10.200.1.1", "10.200.7.9", "192.0.2.7", "2001:db8::1", "2001:db8:5::1", "::ffff:10.200.7.1"]
 
 
@@ -98,32 +104,31 @@ def csv_line(*fields: str) -> str:
     return out.getvalue()
 
 
-FORMS: dict[str, tuple[list[str], Callable[[Asked], str], list[str]]] = {
-    "server": ([], server_line, []),
-    "proxy": ([], proxy_line, []),
-    "csv": (["time,client,handle"], lambda it: csv_line("1", it.client, it.handle), []),
-    "table of paths": (
-        ["url,ip"],
-        lambda it: csv_line("/" + quote(it.handle), it.client),
-        ["--format", "csv", "--client", "ip", "--path", "url"],
+# A line of each form, the line before the first one where there is one, and the options that it needs.
+FORMS: dict[str, Callable[[Asked], str]] = {
+    "server": server_line,
+    "proxy": proxy_line,
+    "csv": lambda it: csv_line("1", it.client, it.handle),
+    "table of paths": lambda it: csv_line("/" + quote(it.handle), it.client),
+    "json": lambda it: json.dumps({"status": 302, "handle": it.handle, "client": it.client}),
+    "json of paths": lambda it: json.dumps(
+        {"remote_addr": it.client, "uri": f"/api/handles/{quote(it.handle)}?type=URL"}
     ),
-    "json": ([], lambda it: json.dumps({"status": 302, "handle": it.handle, "client": it.client}), []),
-    "json of paths": (
-        [],
-        lambda it: json.dumps({"remote_addr": it.client, "uri": f"/api/handles/{quote(it.handle)}?type=URL"}),
-        ["--format", "json", "--client", "remote_addr", "--path", "uri"],
-    ),
-    "regex": (
-        [],
-        lambda it: f"10:00 <{it.client}> asks '{it.handle}' 3 ms",
-        ["--regex", r"^\d\d:\d\d <(?P<client>[^>]+)> asks '(?P<handle>.+)' \d+ ms$"],
-    ),
-    "regex of paths": (
-        [],
-        lambda it: f"host:443 {it.client} GET /hdl:{quote(it.handle)} 302",
-        ["--regex", r"^\S+ (?P<client>\S+) GET (?P<path>\S+)"],
-    ),
+    "regex": lambda it: f"10:00 <{it.client}> asks '{it.handle}' 3 ms",
+    "regex of paths": lambda it: f"host:443 {it.client} GET /hdl:{quote(it.handle)} 302",
 }
+HEADS = {"csv": ["time,client,handle"], "table of paths": ["url,ip"]}
+OPTIONS = {
+    "table of paths": ["--format", "csv", "--client", "ip", "--path", "url"],
+    "json of paths": ["--format", "json", "--client", "remote_addr", "--path", "uri"],
+    "regex": ["--regex", r"^\d\d:\d\d <(?P<client>[^>]+)> asks '(?P<handle>.+)' \d+ ms$"],
+    "regex of paths": ["--regex", r"^\S+ (?P<client>\S+) GET (?P<path>\S+)"],
+}
+
+
+def lines_of(name: str, rows: list[Asked]) -> list[str]:
+    """A log of a form."""
+    return [*HEADS.get(name, []), *map(FORMS[name], rows)]
 
 
 def regions_file(tmp_path: Path) -> str:
@@ -144,10 +149,9 @@ def wanted(queries_of: list[Asked]) -> dict[tuple[str, str], int]:
 
 @pytest.mark.parametrize("name", FORMS)
 def test_each_form_has_the_counts_that_were_written(tmp_path: Path, name: str) -> None:
-    head, line, options = FORMS[name]
     rows = asked(LINES, 7)
-    (tmp_path / "log").write_text("\n".join(head + [line(it) for it in rows]) + "\n", encoding="utf-8")
-    result = invoke("demand", tmp_path / "log", "--regions", regions_file(tmp_path), *options)
+    (tmp_path / "log").write_text("\n".join([*lines_of(name, rows), ""]), encoding="utf-8")
+    result = invoke("demand", tmp_path / "log", "--regions", regions_file(tmp_path), *OPTIONS.get(name, []))
     assert counts_of(result.stdout) == wanted(rows)
     handles = len({it.handle for it in rows})
     first = result.stderr.splitlines()[0]
@@ -159,12 +163,7 @@ def test_each_form_has_the_counts_that_were_written(tmp_path: Path, name: str) -
 def test_packed_logs_and_line_ends(tmp_path: Path, ending: str) -> None:
     rows = asked(400, 8)
     octets = ("\ufeff" + ending.join(map(server_line, rows)) + ending * 2).encode()
-    packed = {
-        "a.gz": gzip.compress(octets),
-        "b.bz2": bz2.compress(octets),
-        "c.xz": lzma.compress(octets),
-        "d": octets,
-    }
+    packed = {"a.gz": gzip.compress(octets), "b.bz2": bz2.compress(octets), "c.xz": lzma.compress(octets), "d": octets}
     packed["twice.gz"] = gzip.compress(octets) + gzip.compress(octets[3:])
     for name, it in packed.items():
         (tmp_path / name).write_bytes(it)
@@ -215,9 +214,7 @@ def test_what_is_skipped_is_counted_with_its_first_line(tmp_path: Path) -> None:
     elsewhere = counts_of(invoke(*words, "--elsewhere", "far").stdout)
     assert elsewhere == {**wanted(rows), ("far", "20.1/a"): counts["no region for the client's address"]}
     only = invoke(*words, "--prefix", "20.500.1234")
-    assert counts_of(only.stdout) == {
-        key: it for key, it in wanted(rows).items() if key[1].startswith("20.500.1234/")
-    }
+    assert counts_of(only.stdout) == {key: it for key, it in wanted(rows).items() if key[1].startswith("20.500.1234/")}
     assert "a handle of another prefix" in only.stderr
 
 
@@ -276,25 +273,11 @@ def random_addresses(draw: random.Random, networks: dict[str, str]) -> list[str]
         network = ipaddress.ip_network(it)
         most = (1 << network.max_prefixlen) - 1
         first, last = int(network.network_address), int(network.broadcast_address)
-        for number in (
-            first,
-            last,
-            max(0, first - 1),
-            min(most, last + 1),
-            draw.randint(first, last),
-            draw.randint(0, most),
-        ):
+        beside = (max(0, first - 1), min(most, last + 1))
+        for number in (first, last, *beside, draw.randint(first, last), draw.randint(0, most)):
             kind = ipaddress.IPv4Address if network.version == 4 else ipaddress.IPv6Address
             found.append(str(kind(number)))
     return found
-
-
-def longest(parsed: list[tuple[ipaddress.IPv4Network | ipaddress.IPv6Network, str]], address: str) -> str | None:
-    own = ipaddress.ip_address(address)
-    if own.version == 6 and own.ipv4_mapped:
-        own = own.ipv4_mapped
-    fitting = [(it.prefixlen, region) for it, region in parsed if it.version == own.version and own in it]
-    return max(fitting)[1] if fitting else None
 
 
 def test_regions_are_those_of_ipaddress(tmp_path: Path) -> None:
@@ -304,12 +287,11 @@ def test_regions_are_those_of_ipaddress(tmp_path: Path) -> None:
     draw.shuffle(rows)
     table = "network,region\r\n" + "".join(f'"{it}",{region}\r\n' for it, region in rows)
     own = Networks("t", table.encode(), None)
-    parsed = [(ipaddress.ip_network(it), region) for it, region in networks.items()]
-    addresses = random_addresses(draw, networks)
+    known, addresses = parsed(networks), random_addresses(draw, networks)
     assert len(addresses) == 6 * len(networks) > 2000
     kinds = set()
     for it in addresses:
-        region, found = longest(parsed, it), own.seek(it.encode())
+        region, found = region_of(it, known), own.seek(it.encode())
         assert found == (region.encode() if region else "no region for the client's address"), it
         kinds.add(region is None)
     assert kinds == {True, False} and "0.0.0.0/0" in networks
@@ -324,8 +306,7 @@ def test_regions_are_those_of_ipaddress(tmp_path: Path) -> None:
 def test_regions_of_a_maxmind_database(tmp_path: Path) -> None:
     pytest.importorskip("maxminddb")
     said = {
-        it: {"continent": {"code": region.upper()}, "country": {"iso_code": region}}
-        for it, region in NETWORKS.items()
+        it: {"continent": {"code": region.upper()}, "country": {"iso_code": region}} for it, region in NETWORKS.items()
     }
     path = tmp_path / "base.mmdb"
     path.write_bytes(maxmind.database({**said, "198.51.100.0/24": {"continent": {}}}))
@@ -360,17 +341,15 @@ def test_random_octets_in_logs_end_well(tmp_path: Path) -> None:
     regions = regions_file(tmp_path)
     found = set()
     for number in range(80):
-        head, line, options = FORMS[draw.choice(list(FORMS))]
-        octets = bytearray("\n".join(head + [line(it) for it in asked(30, number)]).encode())
+        name = draw.choice(list(FORMS))
+        octets = bytearray("\n".join(lines_of(name, asked(30, number))).encode())
         for _ in range(draw.randint(1, 40)):
             at = draw.randrange(len(octets))
             octets[at : at + draw.randint(0, 3)] = draw.choice(
                 (b"", b"\xff", b'"', b"\n", b"\0", b"\\", b"%", b"{", b"," * 9)
             )
         (tmp_path / "log").write_bytes(octets)
-        words = ["demand", str(tmp_path / "log"), "--regions", regions, *options]
-        result = CliRunner(mix_stderr=False).invoke(main, words)
-        assert result.exception is None or isinstance(result.exception, SystemExit), repr(result.exception)
+        result = run_here(["demand", tmp_path / "log", "--regions", regions, *OPTIONS.get(name, [])])
         assert result.exit_code == 0 or result.stderr.count("\n") == 1
         found.add(result.exit_code)
     assert found <= {0, 1} and 0 in found
@@ -390,18 +369,12 @@ def service(tmp_path: Path) -> Path:
     """A folder with the sites of an example, and costs of the regions of these logs."""
     folder = tmp_path / "service"
     folder.mkdir()
-    text = (TOP / "examples" / "two-sites" / "settings.toml").read_text()
-    (folder / "settings.toml").write_text(text)
-    costs = [
-        (region, site, 10 + 7 * at) for at, region in enumerate(("eu", "us", "asia")) for site in ("paris", "reston")
-    ]
-    (folder / "costs.csv").write_text("region,site,cost\n" + "".join(f"{a},{b},{c}\n" for a, b, c in costs))
-    capacity = [
-        (site, at, 10**9) for site, servers in (("paris", 2), ("reston", 3)) for at in range(1, servers + 1)
-    ]
-    (folder / "capacity.csv").write_text(
-        "site,server_id,capacity\n" + "".join(f"{a},{b},{c}\n" for a, b, c in capacity)
-    )
+    two = TOP / "examples" / "two-sites"
+    shutil.copy(two / "settings.toml", folder)
+    shutil.copy(two / "boundless.csv", folder / "capacity.csv")
+    regions = enumerate(("eu", "us", "asia"))
+    costs = [f"{region},{site},{10 + 7 * at}\n" for at, region in regions for site in ("paris", "reston")]
+    (folder / "costs.csv").write_text("region,site,cost\n" + "".join(costs))
     return folder
 
 
@@ -503,9 +476,7 @@ def test_a_plan_of_the_demand_answers_the_whole_log(hsp: Hsp, tmp_path: Path) ->
     rows = [it for it in asked(LINES, 18) if it.region != "lab"]
     (tmp_path / "log").write_text("\n".join(map(proxy_line, rows)), encoding="utf-8")
     log = folder / "log.csv"
-    hsp(
-        "demand", str(tmp_path / "log"), "--regions", regions_file(tmp_path), "--into", str(folder), "--log", str(log)
-    )
+    hsp("demand", str(tmp_path / "log"), "--regions", regions_file(tmp_path), "--into", str(folder), "--log", str(log))
     hsp("plan", str(folder))
     files = [
         it
@@ -547,20 +518,9 @@ def test_progress_is_shown_on_a_terminal(tmp_path: Path, is_packed: bool) -> Non
     rows = asked(LINES, 22) * 4
     octets = "\n".join(map(server_line, rows)).encode()
     (tmp_path / "log").write_bytes(gzip.compress(octets) if is_packed else octets)
-    words = [
-        sys.executable,
-        "-m",
-        "hsp",
-        "demand",
-        str(tmp_path / "log"),
-        "--regions",
-        regions_file(tmp_path),
-        "-o",
-        "out.csv",
-    ]
     own, its = pty.openpty()
-    environment = variables()
-    done = subprocess.run(words, stdout=subprocess.PIPE, stderr=its, env=environment, cwd=tmp_path)
+    words = [sys.executable, "-m", "hsp", "demand", f"{tmp_path}/log", "--regions", regions_file(tmp_path)]
+    done = subprocess.run([*words, "-o", "out.csv"], stdout=subprocess.PIPE, stderr=its, env=variables(), cwd=tmp_path)
     os.close(its)
     shown = os.read(own, 1 << 16).decode()
     os.close(own)

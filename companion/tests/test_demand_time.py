@@ -1,7 +1,5 @@
 """hsp demand by the times of lines, against sums made here; rare prefixes; files that are given twice."""
 
-from __future__ import annotations
-
 import csv
 import datetime
 import io
@@ -51,58 +49,33 @@ def row(*fields: str) -> str:
     return out.getvalue()
 
 
-# Each form: the lines before the first one, a line, and the options that it needs.
-FORMS: dict[str, tuple[list[str], Callable[[Asked], str], list[str]]] = {
-    "server": (
-        [],
-        lambda it: f'{it.client} UDP:HDL "{it.time:%Y-%m-%d %H:%M:%S.123%z}" 1 1 3ms {it.handle}',
-        [],
-    ),
-    "proxy": (
-        [],
-        lambda it: f'{it.client} - - [{it.time:%d/%b/%Y:%H:%M:%S %z}] "GET /{it.handle} HTTP/1.1" 302 - "-" "[x]"',
-        [],
-    ),
-    "json": (
-        [],
-        lambda it: json.dumps({"client": it.client, "handle": it.handle, "at": it.time.isoformat()}),
-        ["--time", "at"],
-    ),
-    "json of seconds": (
-        [],
-        lambda it: json.dumps({"client": it.client, "handle": it.handle, "time": it.time.timestamp()}),
-        [],
-    ),
-    "csv": (
-        ["when,client,handle"],
-        lambda it: row(f"{it.time:%Y-%m-%dT%H:%M:%S%z}", it.client, it.handle),
-        ["--time", "when"],
-    ),
-    "csv of thousandths": (
-        ["client,handle,time"],
-        lambda it: row(it.client, it.handle, str(int(it.time.timestamp() * 1000))),
-        [],
-    ),
-    "regex": (
-        [],
-        lambda it: f"<{it.time:%d/%b/%Y:%H:%M:%S %z}> {it.client} asks {it.handle}",
-        ["--regex", r"^<(?P<time>[^>]+)> (?P<client>\S+) asks (?P<handle>\S+)$"],
-    ),
+# A line of each form, the line before the first one where there is one, and the options that it needs.
+LINES: dict[str, Callable[[Asked], str]] = {
+    "server": lambda it: f'{it.client} UDP:HDL "{it.time:%Y-%m-%d %H:%M:%S.123%z}" 1 1 3ms {it.handle}',
+    "proxy": lambda it: f'{it.client} - - [{it.time:%d/%b/%Y:%H:%M:%S %z}] "GET /{it.handle} HTTP/1.1" 302 - "-" "[x]"',
+    "json": lambda it: json.dumps({"client": it.client, "handle": it.handle, "at": it.time.isoformat()}),
+    "json of seconds": lambda it: json.dumps({"client": it.client, "handle": it.handle, "time": it.time.timestamp()}),
+    "csv": lambda it: row(f"{it.time:%Y-%m-%dT%H:%M:%S%z}", it.client, it.handle),
+    "csv of thousandths": lambda it: row(it.client, it.handle, str(int(it.time.timestamp() * 1000))),
+    "regex": lambda it: f"<{it.time:%d/%b/%Y:%H:%M:%S %z}> {it.client} asks {it.handle}",
 }
+HEADS = {"csv": ["when,client,handle"], "csv of thousandths": ["client,handle,time"]}
+OPTIONS = {"json": ["--time", "at"], "csv": ["--time", "when"]}
+OPTIONS["regex"] = ["--regex", r"^<(?P<time>[^>]+)> (?P<client>\S+) asks (?P<handle>\S+)$"]
 
 
 def written(tmp_path: Path, name: str, rows: list[Asked]) -> list[str]:
-    head, line, options = FORMS[name]
-    (tmp_path / "log").write_text("\n".join(head + [line(it) for it in rows]) + "\n")
+    lines = [*HEADS.get(name, []), *map(LINES[name], rows)]
+    (tmp_path / "log").write_text("\n".join(lines) + "\n")
     (tmp_path / "networks.csv").write_text("network,region\n10.1.0.0/16,eu\n10.2.0.0/16,us\n")
-    return ["demand", str(tmp_path / "log"), "--regions", str(tmp_path / "networks.csv"), *options]
+    return ["demand", str(tmp_path / "log"), "--regions", str(tmp_path / "networks.csv"), *OPTIONS.get(name, [])]
 
 
 def wanted(rows: list[Asked], first: datetime.datetime, last: datetime.datetime) -> dict[tuple[str, str], int]:
     return dict(Counter((CLIENTS[it.client], it.handle) for it in rows if first <= it.time < last))
 
 
-@pytest.mark.parametrize("name", FORMS)
+@pytest.mark.parametrize("name", LINES)
 def test_a_span_of_time_in_each_form(tmp_path: Path, name: str) -> None:
     """The offset of each line counts, and that of the options."""
     rows = asked(4000, 1)
@@ -116,7 +89,7 @@ def test_a_span_of_time_in_each_form(tmp_path: Path, name: str) -> None:
     assert counts_of(later.stdout) == wanted(rows, last, BEGIN + datetime.timedelta(days=9))
 
 
-@pytest.mark.parametrize("name", FORMS)
+@pytest.mark.parametrize("name", LINES)
 def test_the_busiest_hour_in_each_form(tmp_path: Path, name: str) -> None:
     rows = asked(4000, 2)
     words = written(tmp_path, name, rows)

@@ -1,10 +1,7 @@
 """hsp doctor on files with more faults than it explains at once: how many there may be."""
 
-from __future__ import annotations
-
 import json
 import re
-from collections.abc import Callable
 from pathlib import Path
 
 import pytest
@@ -13,9 +10,9 @@ from hsp.doctor import faults, guard, word_doubts
 from hsp.doctor.cut_short import cut_short, likely
 from hsp.doctor.findings import NOTE, WARNING, Finding
 
+from conftest import Example
 from test_sites import invoke
 
-Example = Callable[[str], Path]
 FILES = ("settings.toml", "demand.csv", "costs.csv", "capacity.csv")
 HEADER = "region,site,cost\n"
 AGAIN = "mend these, and ask again"
@@ -41,9 +38,8 @@ def few(monkeypatch: pytest.MonkeyPatch) -> None:
 
 @pytest.mark.parametrize("bad, good, said", [(1, 0, "2,000"), (1, 4, "400"), (3, 2, "1,200")])
 def test_the_findings_of_all_rows_are_estimated_by_those_that_were_read(
-    example: Example, few: None, bad: int, good: int, said: str
+    folder: Path, few: None, bad: int, good: int, said: str
 ) -> None:
-    folder = example("two-sites")
     (folder / "costs.csv").write_text(rows(bad, good, 2000 // (bad + good)))
     shown = invoke("doctor", folder, status=1).stdout
     assert shown.splitlines()[-1] == f"the first 12 of some {said} findings: {AGAIN}"
@@ -58,8 +54,7 @@ def words_of(command: str, folder: Path, *names: str) -> list[str | Path]:
     return ["--", command, *(it for name in names for it in (f"--{name.partition('.')[0]}", folder / name))]
 
 
-def test_faults_of_words_are_estimated_too(example: Example, few: None) -> None:
-    folder = example("two-sites")
+def test_faults_of_words_are_estimated_too(folder: Path, few: None) -> None:
     (folder / "costs.csv").write_text(rows(1, 1, 500))
     said = invoke("doctor", *words_of("plan", folder, *FILES), status=1).stdout
     assert f"the first 12 of some 500 findings: {AGAIN}\n" in said
@@ -97,13 +92,7 @@ def test_only_lines_behind_the_last_finding_are_estimated(tmp_path: Path) -> Non
 def test_what_cannot_be_estimated_is_not(tmp_path: Path) -> None:
     path = tmp_path / "costs.csv"
     path.write_text("x\n" * 1000)
-    for last in (
-        at(tmp_path / "none", 3),
-        at(path, 0),
-        at(path, 3, severity=WARNING),
-        at(path, 1001),
-        at(tmp_path, 3),
-    ):
+    for last in (at(tmp_path / "none", 3), at(path, 0), at(path, 3, severity=WARNING), at(path, 1001), at(tmp_path, 3)):
         assert cut_short([at(path, 2), last]).message == "the first 2 findings; there may be more"
     assert cut_short([at(path, 3)]).message == "the first 1 of some 500 findings"
     assert cut_short([at(path, 1000)]) == Finding("the first 1 finding; there may be more", AGAIN, severity=NOTE)
@@ -115,11 +104,8 @@ def test_warnings_without_an_end_are_said_in_json_too(example: Example, monkeypa
     assert (only["severity"], only["message"]) == (NOTE, "the files are too large to be looked at for warnings")
 
 
-def test_large_files_are_asked_about_a_few_times(
-    example: Example, few: None, monkeypatch: pytest.MonkeyPatch
-) -> None:
+def test_large_files_are_asked_about_a_few_times(folder: Path, few: None, monkeypatch: pytest.MonkeyPatch) -> None:
     """As often as there is room for copies, but three times at least."""
-    folder = example("two-sites")
     (folder / "costs.csv").write_text(rows(1, 0, 100))
     octets = sum((folder / it).stat().st_size for it in (*FILES, "sites.values"))
     for room, turns in ((1, 3), (4 * octets, 4), (5 * octets - 1, 4), (10**9, 12)):

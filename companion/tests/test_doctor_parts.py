@@ -1,7 +1,5 @@
 """Parts of the doctor that no folder shows by itself: numbers of lines, mended copies, and faults of streams."""
 
-from __future__ import annotations
-
 from pathlib import Path
 
 import pytest

@@ -1,8 +1,6 @@
 """Folders and words that are broken at random: the doctor explains each fault of hsplan, and finds none where hsplan has
 none."""
 
-from __future__ import annotations
-
 import json
 import os
 import random
@@ -19,7 +17,7 @@ from hsp.doctor import Examined, examined, examined_words
 from hsp.doctor.commands import line_of
 from hsp.doctor.printing import json_of, lines
 
-from conftest import TOP
+from conftest import TOP, Example
 from test_broken import FILES, break_folder
 from test_printed import FILES as OPTIONS
 
@@ -135,7 +133,7 @@ def spoilt(words: list[str], draw: random.Random) -> list[str]:
     return found
 
 
-def test_words_that_are_spoilt_at_random(example: Callable[[str], Path], monkeypatch: pytest.MonkeyPatch) -> None:
+def test_words_that_are_spoilt_at_random(example: Example, monkeypatch: pytest.MonkeyPatch) -> None:
     """The doctor's status is hsplan's, and no fault of words is explained by a sentence that fits any."""
     monkeypatch.chdir(example("two-sites"))
     with open("plan.txt", "wb") as plan:

@@ -1,11 +1,8 @@
 """Faulty rows of tables and logs, as hsplan-stream lists them: all of them, in a few runs, each with its place."""
 
-from __future__ import annotations
-
 import os
 import re
 import subprocess
-from collections.abc import Callable
 from pathlib import Path
 
 import pytest
@@ -14,9 +11,8 @@ from hsp.base.programs import Programs
 from hsp.doctor import examined, faults, table_faults
 from hsp.doctor.question import Diagnosis, Question, draft_of
 
-from conftest import Hsp
+from conftest import Example, Hsp
 
-Example = Callable[[str], Path]
 HEAD = b"region,handle,count\n"
 
 
@@ -85,8 +81,7 @@ def test_a_header_is_no_row(tmp_path: Path) -> None:
     assert faults._without_faulty(question, "demand", result) is question and result.findings == []
 
 
-def test_a_matrix_of_costs_is_turned_by_a_command(hsp: Hsp, example: Example) -> None:
-    folder = example("two-sites")
+def test_a_matrix_of_costs_is_turned_by_a_command(hsp: Hsp, folder: Path) -> None:
     rows = [line.split(",") for line in (folder / "costs.csv").read_text().splitlines()[1:]]
     sites = list(dict.fromkeys(site for _, site, _ in rows))
     costs = {(region, site): cost for region, site, cost in rows}
@@ -102,7 +97,6 @@ def test_a_matrix_of_costs_is_turned_by_a_command(hsp: Hsp, example: Example) ->
     assert turned[0] == "region,site,cost" and sorted(turned[1:]) == sorted(map(",".join, rows))
 
 
-def test_no_sign_stands_for_all_servers(hsp: Hsp, example: Example) -> None:
-    folder = example("two-sites")
+def test_no_sign_stands_for_all_servers(hsp: Hsp, folder: Path) -> None:
     (folder / "capacity.csv").write_text("site,server_id,capacity\nparis,*,1500\nreston,1,9\n")
     assert "a row for each server, as no sign stands for all" in hsp("doctor", str(folder), status=1).stdout

@@ -1,7 +1,5 @@
 """What LIMITS says of streams, of limits of a shell, and of line ends: each is tried with the programs."""
 
-from __future__ import annotations
-
 import os
 import signal
 import socket

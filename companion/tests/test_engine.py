@@ -1,7 +1,5 @@
 """Parts of hsp fleet by themselves: what a run makes of a cluster that answers, waits, fails or goes away."""
 
-from __future__ import annotations
-
 import asyncio
 import contextlib
 import errno
@@ -11,7 +9,6 @@ import socket
 import subprocess
 import sys
 import time
-from collections.abc import Callable
 from pathlib import Path
 from types import SimpleNamespace
 from typing import Any
@@ -24,8 +21,6 @@ from hsp.fleet import answers, engine, local, parts, progress, remote, session
 from hsp.fleet.engine import NOT_YET, ByValue, Engine, Place, Unfinished
 from hsp.fleet.local import Gone, Local
 from hsp.fleet.split import Parted
-
-Example = Callable[[str], Path]
 
 
 class Future:
@@ -77,7 +72,6 @@ def fit(host: str = "10.0.0.1", mark: int = 1, **more: Any) -> dict[str, Any]:
 
 
 def made(client: Client, patience: float = 60, **more: Any) -> Engine:
-    """An engine that has begun already."""
     found = Engine.__new__(Engine)
     own = {"_client": client, "_place": Place(patience=patience), "local": None, "_hosts": set(), "_futures": []}
     seal = SimpleNamespace(mark="mark")
@@ -301,8 +295,6 @@ def test_the_end_of_a_run_takes_away_what_is_not_published(tmp_path: Path) -> No
 
 
 class Process:
-    """A process that has ended, or runs."""
-
     def __init__(self, status: int | None = None) -> None:
         self.status, self.said = status, list[str]()
 
@@ -510,9 +502,7 @@ def test_a_part_stages_its_files_and_leaves_none_behind_a_fault(
         (OSError(28, "No space left on device", "there"), {"again": "there: No space left on device", "status": 5}),
     ],
 )
-def test_a_fault_of_a_part_is_a_reply(
-    monkeypatch: pytest.MonkeyPatch, fault: Exception, reply: dict[str, Any]
-) -> None:
+def test_a_fault_of_a_part_is_a_reply(monkeypatch: pytest.MonkeyPatch, fault: Exception, reply: dict[str, Any]) -> None:
     def failing(_: dict[str, Any]) -> dict[str, Any]:
         raise fault
 
@@ -605,7 +595,9 @@ def test_what_a_refusal_of_hsplan_comes_to(tmp_path: Path) -> None:
 
 
 def test_sums_and_parts_of_answers(tmp_path: Path, monkeypatch: pytest.MonkeyPatch) -> None:
-    text = b"assigned paris 0 1\nspent\nunknown\nrefused Fields\nassigned reston 1 2\nspent\ndiverted a 0 1\nfull\nfull\n"
+    text = (
+        b"assigned paris 0 1\nspent\nunknown\nrefused Fields\nassigned reston 1 2\nspent\ndiverted a 0 1\nfull\nfull\n"
+    )
     sums = dict(zip(answers.SUMS, (2, 2, 1, 2, 1, 0, 1)))
     for size in (1, 2, 7, 1 << 16):
         monkeypatch.setattr(answers, "BLOCK", size)

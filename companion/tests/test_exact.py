@@ -1,7 +1,5 @@
 """Small parts at their bounds: the last value on one side, and the first on the other."""
 
-from __future__ import annotations
-
 import doctest
 import os
 import time
@@ -195,5 +193,3 @@ def test_a_terminal_gets_bold_dim_and_coloured_words(monkeypatch: pytest.MonkeyP
         "a\ufffd",
         "\u2423é\u2423",
     ]
-
-

@@ -1,7 +1,5 @@
 """hsp fleet: the octets of one run, whatever happens to workers, files, disks and schedulers."""
 
-from __future__ import annotations
-
 import bz2
 import contextlib
 import csv
@@ -31,7 +29,7 @@ from hsp.intake.times import Span
 
 import clusters
 from clusters import Cluster
-from conftest import TOP, WITH_SIGNALS, Hsp, children, named, variables
+from conftest import TOP, WITH_SIGNALS, Hsp, children, named, rewrite, until, variables
 from test_demand import Asked, asked, regions_file, server_line, service
 from test_sites import invoke
 
@@ -60,14 +58,15 @@ def fleet(*words: object, status: int = 0) -> str:
 
 
 def at_work(run: "subprocess.Popen[str]") -> int:
-    """A worker of a run that has begun a part."""
-    until = time.monotonic() + 60
-    while time.monotonic() < until and run.poll() is None:
-        for worker in children(run.pid):
-            if any(named(it, "hsp.fleet.parts") for it in children(worker)):
-                return worker
-        time.sleep(0.005)
-    raise AssertionError("no worker has begun a part")
+    found: list[int] = []
+
+    def has_begun() -> bool:
+        assert run.poll() is None, "no worker has begun a part"
+        found[:] = [it for it in children(run.pid) if any(named(own, "hsp.fleet.parts") for own in children(it))]
+        return bool(found)
+
+    until(has_begun, pause=0.005)
+    return found[0]
 
 
 def left(folder: Path) -> list[str]:
@@ -102,9 +101,13 @@ def changed(path: Path, octets: bytes) -> None:
     path.write_bytes(octets)
 
 
-def words_of(folder: Path) -> list[str]:
+def files_of(folder: Path) -> dict[str, str]:
     names = ("settings.toml", "demand.csv", "costs.csv", "capacity.csv", "plan.txt")
-    return [it for name in names for it in (f"--{name.split('.')[0]}", str(folder / name))]
+    return {name.split(".")[0]: str(folder / name) for name in names}
+
+
+def words_of(folder: Path) -> list[str]:
+    return [word for option, path in files_of(folder).items() for word in (f"--{option}", path)]
 
 
 def one_run(folder: Path, log: Path, fronts: int = FRONTS) -> "subprocess.CompletedProcess[bytes]":
@@ -153,9 +156,8 @@ def test_a_worker_is_killed_while_a_million_rows_are_answered(million: Million, 
     said = ended(run, 0)
     assert said.startswith("1,000,000 rows: ") and million.are_answered(tmp_path)
     spent = million.answers.count(b"spent")
-    assert f", {spent:,} spent, " in said and said.endswith(
-        "\nhsp: 1 worker ended early; another one did its parts\n"
-    )
+    assert f", {spent:,} spent, " in said
+    assert said.endswith("\nhsp: 1 worker ended early; another one did its parts\n")
 
 
 @pytest.mark.parametrize("seconds", [0.0, 0.8])
@@ -228,31 +230,13 @@ def test_a_bad_row_of_all_fronts_is_the_first_of_the_log(million: Million, tmp_p
 
 
 # Rows of a log of two fronts: good ones, odd ones, and such as hsplan refuses.
-ROWS = [
-    b"0,eu,20.1/a",
-    b"1,eu,20.1/b",
-    b"0,us,20.500.1/nobody",
-    b"1,asia,20.1/c,d",
-    b"",
-    b"2,eu,20.1/a",
-    b"01,eu,20.1/a",
-]
-ROWS += [
-    b" 0,eu,20.1/a",
-    b"0",
-    b",",
-    b"0,eu,none",
-    b"\xff,eu,20.1/a",
-    b'1,"eu",20.1/a',
-    b'1,eu,"20.1/a\nb"',
-    b"0,eu,20.1/\xff",
-]
+ROWS = b"0,eu,20.1/a|1,eu,20.1/b|0,us,20.500.1/nobody|1,asia,20.1/c,d||2,eu,20.1/a|01,eu,20.1/a".split(b"|")
+ROWS += b' 0,eu,20.1/a|0|,|0,eu,none|\xff,eu,20.1/a|1,"eu",20.1/a|1,eu,"20.1/a\nb"|0,eu,20.1/\xff'.split(b"|")
 
 
 def test_logs_of_any_rows_are_parted_as_one_run_reads_them(million: Million, tmp_path: Path) -> None:
     draw, seen = random.Random(94), set()
-    files = {it.split(".")[0]: str(million.folder / it) for it in ("settings.toml", "demand.csv", "plan.txt")}
-    files |= {it: str(million.folder / f"{it}.csv") for it in ("costs", "capacity")}
+    files = files_of(million.folder)
     for number in range(60):
         kinds = draw.sample(ROWS, draw.randrange(1, 4)) + ROWS[:5]
         lines = [draw.choice(kinds) + draw.choice([b"\n"] * 9 + [b"\r\n"] * draw.randrange(2)) for _ in range(12)]
@@ -325,8 +309,7 @@ def test_a_worker_is_killed_while_logs_are_counted(logs: Logs, tmp_path: Path) -
 def test_what_is_counted_is_planned_and_answered(logs: Logs, tmp_path: Path, hsp: Hsp, worker: list[str]) -> None:
     folder, paths = tmp_path / "service", logs.paths[2:4]
     fleet("demand", *paths, *logs.options, *worker, "--keep", ".csv")
-    capacity = (folder / "capacity.csv").read_text().replace("1000000000", "500000000")
-    (folder / "capacity.csv").write_text(capacity)
+    rewrite(folder / "capacity.csv", "1000000000", "500000000")
     hsp("plan", str(folder))
     said = fleet("dispatch", folder, "--fronts", 1, *worker, *(f"0={it}.csv" for it in paths))
     rows = sum(it.read_bytes().count(b"\n") for it in paths)
@@ -414,8 +397,7 @@ def test_a_damaged_log_is_named_and_not_tried_again(
     (tmp_path / "parts").mkdir()
     with pytest.raises(Unfit, match=wanted.format("all")):
         Parted(f"{tmp_path}/all", f"{tmp_path}/parts", FRONTS)
-    files = {it.split(".")[0]: str(million.folder / it) for it in ("settings.toml", "demand.csv", "plan.txt")}
-    files |= {it: str(million.folder / f"{it}.csv") for it in ("costs", "capacity")}
+    files = files_of(million.folder)
     asked = {"fronts": FRONTS, "by_prices": False, "files": files, "front": 0, "what": "answer"}
     reply = parts.replied({**asked, "logs": [f"{tmp_path}/front"], "staged": [f"{tmp_path}/out"]})
     assert reply["status"] == 1 and re.fullmatch(wanted.format("front"), reply["fault"]), reply
@@ -473,14 +455,11 @@ def test_a_plan_that_is_older_than_its_files(million: Million, tmp_path: Path) -
     capacity.write_text(head + first.rpartition(",")[0] + ",0\n" + "".join(rest))
     os.utime(capacity, (os.stat(plan).st_mtime + 10,) * 2)
     said = fleet("dispatch", folder, "--fronts", FRONTS, f"0={log}", status=1)
-    assert said.startswith(
-        f"hsp: {plan}: the plan is older than capacity.csv: hsp plan {folder}; hsplan check says no "
-    )
+    rest = f"hsp plan {folder}; hsplan check says no "
+    assert said.startswith(f"hsp: {plan}: the plan is older than capacity.csv: {rest}")
     os.utime(capacity, (os.stat(plan).st_mtime - 10,) * 2)
     said = fleet("dispatch", folder, "--fronts", FRONTS, f"0={log}", status=1)
-    assert said.startswith(
-        f"hsp: {plan}: the plan isn't one of these files: hsp plan {folder}; hsplan check says no "
-    )
+    assert said.startswith(f"hsp: {plan}: the plan isn't one of these files: {rest}")
 
 
 @pytest.fixture
@@ -537,15 +516,12 @@ def test_a_worker_whose_program_has_one_octet_more_gets_no_part(
     reason = f"gets no part: {tmp_path}/bin-bad/hsplan has another SHA-256 sum\n"
     assert reason in said and said.endswith("hsp: no worker is fit\n") and said.count("\n") == 2
     cluster.worker("good", paths["good"])
-    until = time.monotonic() + 60
-    while (tmp_path / "dask_scheduler.log").read_text().count("Starting worker compute stream") < 2:
-        assert time.monotonic() < until
-        time.sleep(0.05)
+    log_of = tmp_path / "dask_scheduler.log"
+    until(lambda: log_of.read_text().count("Starting worker compute stream") >= 2)
     said = fleet("dispatch", million.folder, *options, f"3@127.0.0.1={log}", status=0)
     assert reason in said and (tmp_path / "front-3.csv.answers").read_bytes() == million.of_front[3]
-    assert "no fit worker is at 192.0.2.1" in fleet(
-        "dispatch", million.folder, *options, f"3@192.0.2.1={log}", status=3
-    )
+    said = fleet("dispatch", million.folder, *options, f"3@192.0.2.1={log}", status=3)
+    assert "no fit worker is at 192.0.2.1" in said
     assert not left(tmp_path)
 
 
@@ -556,9 +532,7 @@ def begun(cluster: Cluster, folder: Path) -> "subprocess.Popen[str]":
     log.write_text("".join(f"{server_line(it)}\n" for it in asked(10_000, 92)) * 40)
     options = ["--regions", regions_file(folder), "--scheduler", cluster.address, "--keep", ".rows"]
     run = started("demand", log, *options, "-o", folder / "t")
-    until = time.monotonic() + 60
-    while not left(folder) and run.poll() is None and time.monotonic() < until:
-        time.sleep(0.01)
+    until(lambda: left(folder) or run.poll() is not None, pause=0.01)
     assert left(folder)
     return run
 
@@ -571,10 +545,8 @@ def test_a_cluster_ends_the_parts_of_a_run_that_is_gone(
     os.kill(run.pid, number)
     run.communicate(timeout=60)
     assert run.returncode == (130 if number == signal.SIGINT else -signal.SIGKILL)
-    until = time.monotonic() + 20
-    while left(tmp_path) and time.monotonic() < until:
-        time.sleep(0.05)
-    assert not left(tmp_path) and not (tmp_path / "t").exists() and not (tmp_path / "log.rows").exists()
+    until(lambda: not left(tmp_path), 20)
+    assert not (tmp_path / "t").exists() and not (tmp_path / "log.rows").exists()
 
 
 @pytest.mark.parametrize("cluster", ["tls"], indirect=True)
@@ -584,16 +556,11 @@ def test_a_cluster_with_keys_answers_who_has_one(million: Million, cluster: Clus
     options = ["--fronts", FRONTS, "--scheduler", cluster.address, "--patience", 10]
     keys = ["--tls-ca", tmp_path / "ca.pem", "--tls-cert", tmp_path / "cert.pem", "--tls-key", tmp_path / "key.pem"]
     fleet("dispatch", million.folder, *options, *keys, f"1={log}")
-    assert (
-        cluster.address.startswith("tls://")
-        and (tmp_path / "front-1.csv.answers").read_bytes() == million.of_front[1]
-    )
+    assert cluster.address.startswith("tls://")
+    assert (tmp_path / "front-1.csv.answers").read_bytes() == million.of_front[1]
     (tmp_path / "other").mkdir()
     keys_by_recipe(tmp_path / "other")
-    strange = [
-        *keys[:2],
-        *(it if str(it).startswith("--") else tmp_path / "other" / Path(it).name for it in keys[2:]),
-    ]
+    strange = [*keys[:2], *(it if "--" in str(it) else tmp_path / "other" / Path(it).name for it in keys[2:])]
     said = fleet("dispatch", million.folder, *options, *strange, f"1={log}", status=5)
     assert said.startswith(f"hsp: no scheduler answers at {cluster.address}: ") and said.count("\n") == 1
     absent = [*keys[:-1], tmp_path / "absent.pem"]

@@ -1,7 +1,5 @@
 """What the hours of weeks usually ask for, and how well the last week would have been planned by those before it."""
 
-from __future__ import annotations
-
 import csv
 import datetime
 import random
@@ -136,8 +134,7 @@ def test_what_cannot_be_foreseen_is_refused(service: Path, hsp: Hsp) -> None:
     done = hsp("forecast", str(service), str(log), *words, status=1)
     assert "the logs are of 8 days, and two whole weeks are needed; with --by hour" in done.stderr
     assert (
-        done.stderr.splitlines()[:-1] == [it for it in done.stderr.splitlines() if "warning" in it]
-        and not done.stdout
+        done.stderr.splitlines()[:-1] == [it for it in done.stderr.splitlines() if "warning" in it] and not done.stdout
     )
     for more in (["--busiest-hour"], ["--by", "hour", "--regions", "absent"]):
         hsp("forecast", str(service), str(log), *words, *more, status=2 if more[0] == "--busiest-hour" else 5)

@@ -1,7 +1,5 @@
 """hsp grow: by hand for two sites, and against the planner for drawn services."""
 
-from __future__ import annotations
-
 import json
 import random
 import re
@@ -16,14 +14,13 @@ from hsp.plans.service import Service, read_service
 from hsp.scenarios.growth import STEP, Growing, Growth, grown, percent_of
 from hsp.scenarios.judged import Judged
 
-from conftest import Hsp
-from scenarios import Example, demand_of, drawn_service, put
+from conftest import Example, Hsp, rewrite
+from scenarios import demand_of, drawn_service, service_in
 
 
-def test_two_sites_by_hand(hsp: Hsp, example: Example) -> None:
+def test_two_sites_by_hand(hsp: Hsp, folder: Path) -> None:
     """All servers take 7,390, and 6,282 queries are asked for: a share of 1.17637, and so short from 1.1764 on. The
     rows count 6,282 x 1.1733 rounded up one by one, and what is then asked for fits."""
-    folder = example("two-sites")
     service = read_service(str(folder), Judged(), {})
     assert sum(service.capacities.values()) == 7_390 and service.asked == 6_282
     assert Fraction(7_390, 6_282) * STEP > 11_763 and Fraction(7_390, 6_282) * STEP < 11_764
@@ -37,14 +34,9 @@ def test_two_sites_by_hand(hsp: Hsp, example: Example) -> None:
 def status_at(folder: Path, factor: int, region: str | None, programs: Programs) -> bool:
     """Whether hsplan has a plan where each row, or each of a region, counts so many times as much, rounded up."""
     service = read_service(str(folder), programs, {})
-    rows = [
-        (
-            row.region,
-            row.handle,
-            times(row.count, Fraction(factor, STEP)) if region in (None, row.region) else row.count,
-        )
-        for row in service.rows
-    ]
+    grown_by = Fraction(factor, STEP)
+    counts = [times(row.count, grown_by) if region in (None, row.region) else row.count for row in service.rows]
+    rows = [(row.region, row.handle, count) for row, count in zip(service.rows, counts)]
     path = programs.put(demand_of(rows), ".csv")
     return programs.plan(service.inputs.but(demand=path))[0].is_plan
 
@@ -71,22 +63,9 @@ def test_growth_is_what_the_planner_says(tmp_path: Path, seed: int) -> None:
 
 
 def one_site(folder: Path, rows: list[tuple[str, str, int]], rooms: list[int]) -> Path:
-    from lib import examples
-
     addresses = [f"192.0.2.{at}" for at in range(len(rooms))]
-    return put(
-        folder,
-        {
-            "settings.toml": examples.settings_text([("a", examples.site_octets("a", 1, addresses))]),
-            "demand.csv": demand_of(rows),
-            "costs.csv": examples.table(
-                "region,site,cost", [(region, "a", 1) for region in {row[0] for row in rows}]
-            ),
-            "capacity.csv": examples.table(
-                "site,server_id,capacity", [("a", at + 1, n) for at, n in enumerate(rooms)]
-            ),
-        },
-    )
+    costs = [(region, "a", 1) for region in {row[0] for row in rows}]
+    return service_in(folder, {"a": addresses}, rows, costs, [("a", at, room) for at, room in enumerate(rooms, 1)])
 
 
 def test_some_handles_are_full(hsp: Hsp, tmp_path: Path) -> None:
@@ -205,16 +184,14 @@ def test_counts_near_their_greatest(hsp: Hsp, tmp_path: Path) -> None:
 
 @pytest.mark.parametrize("said", [-1.0, 1e9])
 def test_growth_over_a_log_says_beforehand_what_it_does(
-    hsp: Hsp, example: Example, monkeypatch: pytest.MonkeyPatch, said: float
+    hsp: Hsp, folder: Path, monkeypatch: pytest.MonkeyPatch, said: float
 ) -> None:
     """Where that takes long: what is read once more, how many plans follow, and how long both take. Of a table nothing is
     said."""
-    folder = example("two-sites")
     monkeypatch.setattr("hsp.scenarios.command.SAID", said)
     monkeypatch.setattr("hsp.scenarios.judged.SAID", said)
     assert "planned" not in hsp("grow", str(folder)).stderr and "made" not in hsp("grow", str(folder)).stderr
-    capacity = (folder / "capacity.csv").read_text()
-    (folder / "capacity.csv").write_text(re.sub(r",(\d+)$", r",\g<1>000", capacity, flags=re.M))
+    rewrite(folder / "capacity.csv", r"(\d)$", r"\g<1>000")
     demand = (folder / "demand.csv").read_text()
     (folder / "demand.csv").write_text(re.sub(r",(\d+)$", r",\g<1>0000", demand, count=3, flags=re.M))
     words = ("grow", str(folder), "--percent", "10", "--percent", "20", "--percent", "10")

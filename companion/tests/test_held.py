@@ -1,7 +1,5 @@
 """Files that are changed while a command reads them: nothing is printed or kept that is of none of their texts."""
 
-from __future__ import annotations
-
 import os
 import shutil
 from collections.abc import Callable
@@ -11,11 +9,10 @@ import pytest
 
 from hsp.base.held import Held
 
-from conftest import Hsp
+from conftest import Example, Hsp
 from scenarios import demand_of
 from test_proxy import NETWORKS
 
-Example = Callable[[str], Path]
 # At which time that a program gets an order a file is changed, by the command that asks for it.
 COMMANDS = {
     "plan": ("report", 1),
@@ -70,7 +67,6 @@ def changing(tmp_path: Path, monkeypatch: pytest.MonkeyPatch) -> Callable[[Path,
 
 
 def words_of(command: str, folder: Path) -> list[str]:
-    """The words of a command, of its folder and what else it has to have."""
     more = {
         "where": ["us", "20.500.1234/film-5"],
         "export": ["--into", f"{folder}/proxy", "--regions", f"{folder.parent}/networks.csv", "--socket", "/tmp/s"],

@@ -1,7 +1,5 @@
 """hsp demand --by hour and --by weekday-hour, against tables that are counted here by their definition."""
 
-from __future__ import annotations
-
 import csv
 import datetime
 import io

@@ -1,7 +1,5 @@
 """The time that a demand counts: how long it is, by which clock, and what is noted of it."""
 
-from __future__ import annotations
-
 import gzip
 import shutil
 import tomllib

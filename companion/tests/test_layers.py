@@ -1,7 +1,5 @@
 """The packages of hsp stand on each other in one order, and no module on itself by a way round."""
 
-from __future__ import annotations
-
 import ast
 from graphlib import TopologicalSorter
 from pathlib import Path
@@ -12,7 +10,6 @@ LAYERS = ["base", "plans", "intake", "measures", "doctor", "scenarios", "proxy",
 
 
 def modules() -> dict[str, Path]:
-    """The files of the modules by their whole names."""
     paths = {".".join(path.relative_to(PACKAGE.parent).with_suffix("").parts): path for path in PACKAGE.rglob("*.py")}
     return {name.removesuffix(".__init__"): path for name, path in paths.items()}
 

@@ -1,9 +1,5 @@
 """hsp view of a demand that no table holds, in headless Chromium."""
 
-from __future__ import annotations
-
-import csv
-import io
 import json
 import re
 import shlex
@@ -21,6 +17,7 @@ from hsp.plans.service import read_service
 
 from browsers import WIDTHS, Page, allowed, assert_stands, browser, viewed, widened
 from conftest import TOP, Hsp
+from services import table_of
 
 __all__ = ["browser"]
 NAMES = ("log", "short", "compared")
@@ -80,7 +77,7 @@ def test_the_rows_are_what_the_plan_sends(
         "const it = document.getElementById('save'); it.addEventListener('click', event => event.preventDefault());"
         "it.click(); return it.href"
     )
-    rows = list(csv.DictReader(io.StringIO(unquote(link.partition(",")[2]), newline="")))
+    rows = table_of(unquote(link.partition(",")[2]))
     loads: Counter[tuple[str, str]] = Counter()
     for own in rows:
         loads[own["site"], own["server_id"]] += int(own["queries"])

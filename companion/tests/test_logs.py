@@ -1,7 +1,5 @@
 """Demands that no table holds: planned by prices, against tables of the same rows and against hsplan-stream."""
 
-from __future__ import annotations
-
 import csv
 import io
 import json
@@ -10,7 +8,6 @@ import random
 import re
 import subprocess
 from collections import Counter
-from collections.abc import Callable
 from fractions import Fraction
 from pathlib import Path
 
@@ -21,14 +18,12 @@ from hsp.base.unfit import Unfit
 from hsp.plans.counted import counted_in, grown, is_log, rows_of
 from hsp.plans.joined import joined
 from hsp.plans.plans import cheapest, least_purchase, planned, shortage, with_gains, with_purchase
-from hsp.plans.service import Service, read_service
 from hsp.plans.whatif import Changes, standard
 
-from conftest import Hsp
+from conftest import Example, Hsp
 from test_sites import invoke
-from services import Place, random_service, rows, written
+from services import Place, random_service, read, rows, table_of, written
 
-Example = Callable[[str], Path]
 HEAD = "region,handle,count\n"
 SIZES = (7, 8, 9, 11, 5)
 
@@ -39,13 +34,7 @@ def small(monkeypatch: pytest.MonkeyPatch) -> None:
     monkeypatch.setattr("hsp.plans.counted.MOST_DEMAND_ROWS", 2)
 
 
-def read(folder: Path, **given: str) -> tuple[Service, Programs]:
-    programs = Programs()
-    return read_service(str(folder), programs, dict(given)), programs
-
-
 def stream(*words: object) -> str:
-    """What hsplan-stream prints."""
     done = subprocess.run([program("hsplan-stream"), *map(str, words)], capture_output=True, text=True, check=True)
     return done.stdout
 
@@ -125,9 +114,7 @@ def test_a_log_is_read_as_python_reads_it(tmp_path: Path, monkeypatch: pytest.Mo
     path = tmp_path / "log.csv"
     path.write_bytes(octets)
     found = [row for part in rows_of(str(path)) for row in part]
-    assert [[it.region.decode(), next(csv.reader([it.handle.decode()]))[0], str(it.queries)] for it in found] == [
-        *rows
-    ]
+    assert [[it.region.decode(), next(csv.reader([it.handle.decode()]))[0], str(it.queries)] for it in found] == [*rows]
     sums: Counter[str] = Counter()
     for region, _, count in rows:
         sums[region] += int(count)
@@ -162,7 +149,7 @@ def test_a_plan_has_the_sums_of_the_reports(hsp: Hsp, wide: Path) -> None:
     assert said["regions"] == wanted
     assert regions[-1] == ["total", str(said["queries"]), str(said["cost"])]
     assert said["rows_are"] == "log"
-    rows = list(csv.DictReader(io.StringIO(hsp("plan", str(wide), "--csv", "--no-save").stdout)))
+    rows = table_of(hsp("plan", str(wide), "--csv", "--no-save").stdout)
     for asked, _, name in regions[:-1]:
         assert sum(int(it["queries"]) for it in rows if it["region"] == name) == int(asked)
     for site in {it[-1] for it in loads}:
@@ -196,9 +183,7 @@ def numbers(folder: Path) -> list[object]:
 
 
 @pytest.mark.parametrize("seed", range(4))
-def test_a_log_is_planned_as_the_table_of_its_rows(
-    tmp_path: Path, monkeypatch: pytest.MonkeyPatch, seed: int
-) -> None:
+def test_a_log_is_planned_as_the_table_of_its_rows(tmp_path: Path, monkeypatch: pytest.MonkeyPatch, seed: int) -> None:
     """By both programs: the cost, what room saves, lost sites, the least purchase. Some services have a shortage."""
     service = random_service(tmp_path, seed, 60, 0.75 if seed else 0.4)
     invoke("demand", service.log, "--regions", tmp_path / "networks.csv", "--into", service.folder)
@@ -237,9 +222,8 @@ def test_sums_that_differ_are_no_plan(example: Example, small: None, monkeypatch
         planned(service, programs)
 
 
-def test_a_shortage_names_its_servers_and_regions(example: Example, small: None, hsp: Hsp) -> None:
+def test_a_shortage_names_its_servers_and_regions(folder: Path, small: None, hsp: Hsp) -> None:
     """The film of premiere.csv lacks room for 270 queries at the two servers that it may use."""
-    folder = example("two-sites")
     words = [str(folder), "--demand", str(folder / "premiere.csv")]
     done = hsp("plan", *words, status=3).stdout.splitlines()
     assert done[1] == (
@@ -258,8 +242,7 @@ def test_a_shortage_names_its_servers_and_regions(example: Example, small: None,
     assert sum(it["more"] for it in purchase) == 270
 
 
-def test_a_region_without_costs_is_a_shortage(example: Example, small: None, hsp: Hsp) -> None:
-    folder = example("two-sites")
+def test_a_region_without_costs_is_a_shortage(folder: Path, small: None, hsp: Hsp) -> None:
     costs = folder / "costs.csv"
     costs.write_text("".join(it for it in costs.read_text().splitlines(True) if not it.startswith("asia")))
     said = hsp("plan", str(folder), status=3).stdout
@@ -313,8 +296,7 @@ def test_where_of_a_table_is_what_its_row_says(hsp: Hsp, example: Example) -> No
     assert "there is no plan: hsp plan" in hsp(*short, status=3).stderr
 
 
-def test_where_says_which_file_lacks_what(hsp: Hsp, example: Example) -> None:
-    folder = example("two-sites")
+def test_where_says_which_file_lacks_what(hsp: Hsp, folder: Path) -> None:
     demand, costs = (folder / name for name in ("demand.csv", "costs.csv"))
     demand.write_text("region,handle,count\nus,20.500.1234/film-5,3\nus,20.500.1234/film-6,0\n")
     for region, handle, answer, why in [
@@ -330,8 +312,7 @@ def test_where_says_which_file_lacks_what(hsp: Hsp, example: Example) -> None:
     assert json.loads(hsp("where", str(folder), "us", "20.500.1234/film-5", "--json").stdout)["why"] is None
 
 
-def test_where_of_a_handle_that_a_table_lacks_is_by_prices(hsp: Hsp, example: Example) -> None:
-    folder = example("two-sites")
+def test_where_of_a_handle_that_a_table_lacks_is_by_prices(hsp: Hsp, folder: Path) -> None:
     said = json.loads(hsp("where", str(folder), "eu", "20.500.1234/dataset-24", "--json").stdout)
     assert said["why"] == f"{folder}/demand.csv has no row of it, so this is by prices of the same demand"
     (folder / "own.prices").write_text(stream("plan", *priced(folder)[:-2], "--log", folder / "demand.csv"))
@@ -391,9 +372,7 @@ def test_fronts_answer_by_prices(hsp: Hsp, wide: Path, tmp_path: Path) -> None:
         assert (tmp_path / f"front-{front}.csv.answers").read_text() == answers(wide, "plan.txt", log, front)
 
 
-def test_a_table_is_answered_by_prices_where_its_certificate_is_one(
-    hsp: Hsp, example: Example, tmp_path: Path
-) -> None:
+def test_a_table_is_answered_by_prices_where_its_certificate_is_one(hsp: Hsp, example: Example, tmp_path: Path) -> None:
     """Of each front, and of one log of both fronts."""
     folder, logs = example("two-sites"), fronts(tmp_path)
     words = ["fleet", "dispatch", str(folder), "--plan", str(folder / "plan.prices"), "--fronts", "2", "--workers", "1"]

@@ -1,7 +1,5 @@
 """Plans near the one in force: against integer programmes, and as hsp plan --near prints them."""
 
-from __future__ import annotations
-
 import json
 import random
 import re
@@ -19,9 +17,10 @@ from hsp.scenarios.judged import Judged
 from hsp.scenarios.nearest import Portions, TooMany, homes_of, moved_between, portions_of, shared
 from hsp.scenarios.reserve import reserved
 
-from conftest import Hsp
+from conftest import Hsp, rewrite
 from lib import examples
-from scenarios import Example, Flows, demand_of, drawn_service
+from scenarios import Flows, demand_of, drawn_service
+from services import read
 
 
 def rows_of(folder: Path) -> list[list[str]]:
@@ -41,9 +40,8 @@ def test_a_nearest_plan_is_that_of_an_integer_programme(
     old = Path(shutil.copytree(folder, tmp_path / "old"))
     counts = [(region, handle, draw.randint(0, 6)) for region, handle, _ in rows_of(folder)]
     (old / "demand.csv").write_bytes(demand_of(counts))
-    rooms = (old / "capacity.csv").read_text().replace("\n", "0\n").replace("capacity0", "capacity")
-    (old / "capacity.csv").write_text(rooms)
-    (old / "settings.toml").write_text((old / "settings.toml").read_text().partition("[[host]]")[0])
+    rewrite(old / "capacity.csv", r"(\d)$", r"\g<1>0")
+    rewrite(old / "settings.toml", r"(?s)^\[\[host\]\].*", "")
     programs = Judged()
     before, now = (read_service(str(own), programs, {}) for own in (old, folder))
     assert before.certificate.is_plan
@@ -71,8 +69,7 @@ def test_shares_are_whole_and_fair() -> None:
     assert shared(0, {0: 5}) == {} and shared(5, {}) == {} and shared(7, {3: 2}) == {3: 7}
 
 
-def test_a_plan_moves_nothing_from_itself(hsp: Hsp, example: Example) -> None:
-    folder = example("two-sites")
+def test_a_plan_moves_nothing_from_itself(hsp: Hsp, folder: Path) -> None:
     hsp("plan", str(folder))
     plan = (folder / "plan.txt").read_bytes()
     printed = hsp("plan", str(folder), "--near", str(folder)).stdout
@@ -93,8 +90,7 @@ def test_what_is_kept_shows_both(hsp: Hsp, twelve: Path, tmp_path: Path) -> None
     line = next(line for line in printed.splitlines() if line.startswith("near  moves"))
     moved, plain = (int(part.split(" (")[0].replace(",", "")) for part in (line[12:], line.rpartition("plain ")[2]))
     assert 0 < moved < plain / 4
-    programs = Programs()
-    service = read_service(str(now), programs, {})
+    service, programs = read(now)
     assert programs.verdict(service.inputs, str(now / "plan.txt")) == "yes"
     portions = service.inputs.but(demand=str(now / "near/demand.csv"), costs=str(now / "near/costs.csv"))
     assert programs.verdict(portions, str(now / "near/plan.txt")) == "yes"
@@ -126,11 +122,8 @@ def test_what_is_kept_shows_both(hsp: Hsp, twelve: Path, tmp_path: Path) -> None
         (("HSPLAN 1\nPLAN\n", "HSPLAN PRICES 1\nPLAN\n"), "by prices"),
     ],
 )
-def test_a_wrong_certificate_is_no_plan_in_force(
-    hsp: Hsp, example: Example, wrong: tuple[str, str], why: str
-) -> None:
+def test_a_wrong_certificate_is_no_plan_in_force(hsp: Hsp, folder: Path, wrong: tuple[str, str], why: str) -> None:
     """Other rows than those of the demand, and what isn't a certificate by rows, octet for octet."""
-    folder = example("two-sites")
     hsp("plan", str(folder))
     service = read_service(str(folder), Programs(), {})
     text = (folder / "plan.txt").read_text()
@@ -140,8 +133,7 @@ def test_a_wrong_certificate_is_no_plan_in_force(
         in_force(str(folder / "old.txt"), service, Judged())
 
 
-def test_a_fault_beside_the_plan_in_force_is_said_to_be_there(hsp: Hsp, example: Example) -> None:
-    folder = example("two-sites")
+def test_a_fault_beside_the_plan_in_force_is_said_to_be_there(hsp: Hsp, folder: Path) -> None:
     hsp("plan", str(folder))
     old = Path(shutil.copytree(folder, folder.parent / "old"))
     (old / "demand.csv").write_text("region,handle,count\neu,20.1/x,many\n")
@@ -150,8 +142,7 @@ def test_a_fault_beside_the_plan_in_force_is_said_to_be_there(hsp: Hsp, example:
     assert ended.stderr == f"hsp: {old}/plan.txt: {why}\n"
 
 
-def test_an_absent_certificate_is_named(hsp: Hsp, example: Example) -> None:
-    folder = example("two-sites")
+def test_an_absent_certificate_is_named(hsp: Hsp, folder: Path) -> None:
     ended = hsp("plan", str(folder), "--near", str(folder / "absent.txt"), status=5)
     assert ended.stderr == f"hsp: {folder}/absent.txt: no such file; give a certificate, or a folder with plan.txt\n"
 
@@ -159,8 +150,7 @@ def test_an_absent_certificate_is_named(hsp: Hsp, example: Example) -> None:
 @pytest.mark.parametrize(
     "name", ["settings.toml", "demand.csv", "costs.csv", "capacity.csv", "sites.values", "hsp.toml"]
 )
-def test_files_of_the_plan_in_force_are_not_written_over(hsp: Hsp, example: Example, name: str) -> None:
-    folder = example("two-sites")
+def test_files_of_the_plan_in_force_are_not_written_over(hsp: Hsp, folder: Path, name: str) -> None:
     hsp("plan", str(folder))
     old = Path(shutil.copytree(folder, folder.parent / "old"))
     (old / name).touch()
@@ -173,9 +163,8 @@ def test_files_of_the_plan_in_force_are_not_written_over(hsp: Hsp, example: Exam
     assert (old / name).read_bytes() == before
 
 
-def test_portions_are_not_written_over_the_plan_in_force(hsp: Hsp, example: Example) -> None:
+def test_portions_are_not_written_over_the_plan_in_force(hsp: Hsp, folder: Path) -> None:
     """The plan of portions is no plan in force of the rows, and stays."""
-    folder = example("two-sites")
     hsp("plan", str(folder))
     hsp("plan", str(folder), "--near", str(folder))
     before = (folder / "near/demand.csv").read_bytes()
@@ -184,8 +173,7 @@ def test_portions_are_not_written_over_the_plan_in_force(hsp: Hsp, example: Exam
     assert (folder / "near/demand.csv").read_bytes() == before
 
 
-def test_portions_are_not_written_through_a_link(hsp: Hsp, example: Example, tmp_path: Path) -> None:
-    folder = example("two-sites")
+def test_portions_are_not_written_through_a_link(hsp: Hsp, folder: Path, tmp_path: Path) -> None:
     hsp("plan", str(folder))
     (tmp_path / "other").mkdir()
     (tmp_path / "other/plan.txt").write_text("mine")
@@ -199,8 +187,7 @@ def test_portions_are_not_written_through_a_link(hsp: Hsp, example: Example, tmp
     assert (tmp_path / "other/plan.txt").read_text() == "mine" and (folder / "plan.txt").read_bytes() == plan
 
 
-def test_a_plan_of_another_service_moves_nothing_that_is_asked_for(hsp: Hsp, example: Example) -> None:
-    folder = example("two-sites")
+def test_a_plan_of_another_service_moves_nothing_that_is_asked_for(hsp: Hsp, folder: Path) -> None:
     old = Path(shutil.copytree(folder, folder.parent / "old"))
     (old / "demand.csv").write_text((old / "demand.csv").read_text().replace("20.500.1234/", "10.1/"))
     hsp("plan", str(old))
@@ -210,14 +197,12 @@ def test_a_plan_of_another_service_moves_nothing_that_is_asked_for(hsp: Hsp, exa
     assert "the fewest of all cheapest plans" not in printed
 
 
-def test_beyond_the_tables_a_line_says_so(hsp: Hsp, example: Example, monkeypatch: pytest.MonkeyPatch) -> None:
-    folder = example("two-sites")
+def test_beyond_the_tables_a_line_says_so(hsp: Hsp, folder: Path, monkeypatch: pytest.MonkeyPatch) -> None:
     hsp("plan", str(folder))
     monkeypatch.setattr("hsp.scenarios.nearest.MOST_REGIONS", 2)
     printed = hsp("plan", str(folder), "--near", str(folder), "--no-save").stdout
     assert (
-        "near  no: 6 regions with their homes, more than tables hold; this is the plain plan, which moves 0"
-        in printed
+        "near  no: 6 regions with their homes, more than tables hold; this is the plain plan, which moves 0" in printed
     )
     monkeypatch.setattr("hsp.scenarios.nearest.MOST_DEMAND_ROWS", 30)
     with pytest.raises(TooMany, match="38 portions and 6 regions with their homes"):
@@ -225,10 +210,9 @@ def test_beyond_the_tables_a_line_says_so(hsp: Hsp, example: Example, monkeypatc
         Portions(service, homes_of(service, service.certificate), Judged())
 
 
-def test_what_had_a_server_that_is_gone_is_moved(hsp: Hsp, example: Example) -> None:
+def test_what_had_a_server_that_is_gone_is_moved(hsp: Hsp, folder: Path) -> None:
     """A site whose number of servers changed has other servers for its handles. Every plan moves what they had, so it
     counts as moved, and no portion is at home."""
-    folder = example("two-sites")
     service = read_service(str(folder), Programs(), {})
     homes = homes_of(service, service.certificate)
     renamed = {
@@ -242,11 +226,9 @@ def test_what_had_a_server_that_is_gone_is_moved(hsp: Hsp, example: Example) -> 
     assert near and near.moved == 6_282 and portions.forced(()) == 6_282
 
 
-def test_a_site_that_is_gone_has_moved_its_queries(hsp: Hsp, example: Example) -> None:
+def test_a_site_that_is_gone_has_moved_its_queries(hsp: Hsp, folder: Path) -> None:
     """What yesterday's plan sent to reston is moved today, since reston is gone. Paris has room for all of it."""
-    folder = example("two-sites")
-    rooms = re.sub(r",(\d+)$", r",\g<1>0", (folder / "capacity.csv").read_text(), flags=re.M)
-    (folder / "capacity.csv").write_text(rooms)
+    rewrite(folder / "capacity.csv", r"(\d)$", r"\g<1>0")
     old = Path(shutil.copytree(folder, folder.parent / "old"))
     shares = hsp("plan", str(old), "--csv").stdout
     of_reston = sum(int(line.split(",")[2]) for line in shares.splitlines()[1:] if line.split(",")[1] == "reston")
@@ -273,11 +255,9 @@ def with_site(folder: Path, name: str, addresses: list[str], first: bool = False
         file.writelines(f"{name},{at + 1},10000\n" for at in range(len(addresses)))
 
 
-def test_all_that_goes_to_a_new_site_has_moved(hsp: Hsp, example: Example, tmp_path: Path) -> None:
+def test_all_that_goes_to_a_new_site_has_moved(hsp: Hsp, folder: Path, tmp_path: Path) -> None:
     """And all that was at a site which is gone."""
-    folder = example("two-sites")
-    rooms = re.sub(r",(\d+)$", r",\g<1>0", (folder / "capacity.csv").read_text(), flags=re.M)
-    (folder / "capacity.csv").write_text(rooms)
+    rewrite(folder / "capacity.csv", r"(\d)$", r"\g<1>0")
     hsp("plan", str(folder))
     old = Path(shutil.copytree(folder, tmp_path / "old"))
     assert "near  moves 0 (0%) of 6,282 queries" in hsp("plan", str(folder), "--near", str(old)).stdout
@@ -287,9 +267,8 @@ def test_all_that_goes_to_a_new_site_has_moved(hsp: Hsp, example: Example, tmp_p
     assert "near  moves 6,282 (100%) of 6,282" in hsp("plan", str(old), "--near", str(folder)).stdout
 
 
-def test_a_plan_of_other_settings_is_no_plan_in_force(hsp: Hsp, example: Example) -> None:
+def test_a_plan_of_other_settings_is_no_plan_in_force(hsp: Hsp, folder: Path) -> None:
     """Its sites have other numbers, since a site stands before them."""
-    folder = example("two-sites")
     hsp("plan", str(folder))
     with_site(folder, "lima", ["203.0.113.1"], first=True)
     assert "since the plan before" not in hsp("plan", str(folder), "--more", "--no-save").stdout
@@ -298,9 +277,8 @@ def test_a_plan_of_other_settings_is_no_plan_in_force(hsp: Hsp, example: Example
 
 
 @pytest.mark.parametrize("shape", ["as it is", "both of two servers"])
-def test_sites_in_another_order_are_other_settings(hsp: Hsp, example: Example, shape: str) -> None:
+def test_sites_in_another_order_are_other_settings(hsp: Hsp, folder: Path, shape: str) -> None:
     """As many servers, and uses that fit the rows: only the checker knows that the numbers are of other sites."""
-    folder = example("two-sites")
     if shape == "both of two servers":
         own = {name: [f"192.0.2.{ends}{at}" for at in (1, 2)] for ends, name in ((1, "paris"), (2, "reston"))}
         octets = [(name, examples.site_octets(name, 1, addresses)) for name, addresses in own.items()]
@@ -326,16 +304,14 @@ def test_a_plan_of_other_capacities_is_a_plan_in_force(tmp_path: Path, seed: int
     if not then.certificate.is_plan:
         return
     (folder / "plan.txt").write_text(then.certificate.text)
-    rooms = (folder / "capacity.csv").read_text().replace("\n", "0\n").replace("capacity0", "capacity")
-    (folder / "capacity.csv").write_text(rooms)
+    rewrite(folder / "capacity.csv", r"(\d)$", r"\g<1>0")
     settings = (folder / "settings.toml").read_text()
     (folder / "settings.toml").write_text(re.sub(r"(limit = \d+)", r"\g<1>0", settings))
     now = read_service(str(folder), programs, {})
     assert in_force(str(folder), now, programs).homes == homes_of(then, then.certificate)
 
 
-def test_json_has_what_moves_and_what_lies_ahead(hsp: Hsp, example: Example) -> None:
-    folder = example("two-sites")
+def test_json_has_what_moves_and_what_lies_ahead(hsp: Hsp, folder: Path) -> None:
     hsp("plan", str(folder))
     found = json.loads(hsp("plan", str(folder), "--near", str(folder), "--more", "--json").stdout)
     assert (found["moved"], found["moved_is_fewest"], found["moved_by_plain_plan"]) == (0, True, 0)

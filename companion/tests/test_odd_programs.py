@@ -1,7 +1,5 @@
 """hsp beside programs that print what they shouldn't, and files that change or can't be read."""
 
-from __future__ import annotations
-
 import contextlib
 import errno
 import os
@@ -25,11 +23,9 @@ from hsp.fleet import demand, dispatch
 from hsp.fleet.remote import Mark, Seal
 from hsp.plans import service
 
-from conftest import TOP
+from conftest import TOP, Example
 from test_sites import invoke
 from services import OTHER, TWO_IN_ONE, Place, host, written
-
-Example = Callable[[str], Path]
 
 
 @pytest.fixture
@@ -46,8 +42,7 @@ def odd(tmp_path: Path, monkeypatch: pytest.MonkeyPatch) -> Callable[[str, str],
     return put
 
 
-def test_a_plan_that_its_own_checker_refuses(example: Example, odd: Callable[[str, str], None]) -> None:
-    folder = example("two-sites")
+def test_a_plan_that_its_own_checker_refuses(folder: Path, odd: Callable[[str, str], None]) -> None:
     odd("hsplan", '[ "$1" = check ] && { echo "no 5 Cost"; exit 3; }')
     line = "hsp: hsplan check says no 5 Cost to hsplan's own plan: please report this with your files\n"
     networks = TOP / "examples" / "bring-in" / "networks.csv"
@@ -106,12 +101,9 @@ def test_the_memory_of_a_process_that_has_ended() -> None:
     assert guard._octets(child) == 0 and guard._octets(os.getpid()) > 1_000_000
 
 
-def test_a_file_that_may_not_be_read(example: Example, monkeypatch: pytest.MonkeyPatch) -> None:
-    folder = example("two-sites")
+def test_a_file_that_may_not_be_read(folder: Path, monkeypatch: pytest.MonkeyPatch) -> None:
     monkeypatch.setattr("hsp.doctor.file_faults.os.access", lambda path, mode: False)
-    monkeypatch.setattr(
-        "hsp.doctor.question.read_text", lambda path: (_ for _ in ()).throw(PermissionError(13, "no"))
-    )
+    monkeypatch.setattr("hsp.doctor.question.read_text", lambda path: (_ for _ in ()).throw(PermissionError(13, "no")))
     found = examined(str(folder), Programs(), {"demand": str(folder / "none.csv")})
     closed = [it for it in found.findings if it.message == "you may not read this file"]
     assert closed and closed[0].remedy == f"chmod +r {closed[0].file}, or run as its owner"
@@ -186,9 +178,7 @@ def test_costs_that_are_no_table(tmp_path: Path) -> None:
 def test_files_of_a_folder_that_are_absent(tmp_path: Path) -> None:
     (tmp_path / "cost.csv").touch()
     names = [str(tmp_path / it) for it in service.NAMES.values()]
-    assert service._absent("DIR", names) == [
-        "DIR: none of settings.toml, demand.csv, costs.csv, capacity.csv is here"
-    ]
+    assert service._absent("DIR", names) == ["DIR: none of settings.toml, demand.csv, costs.csv, capacity.csv is here"]
 
 
 class Odd:

@@ -1,12 +1,10 @@
 """Defaults and bounds of options, the sites of a new service, and the ends of a run that another try doesn't change."""
 
-from __future__ import annotations
-
 import os
 import re
 import shlex
 import subprocess
-from collections.abc import Callable, Iterator
+from collections.abc import Iterator
 from pathlib import Path
 
 import click
@@ -17,7 +15,7 @@ from hsp.base.options import PathName
 from hsp.cli import main
 from hsp.fleet import answers
 
-from conftest import TOP, Hsp
+from conftest import TOP, Example, Hsp
 from test_sites import invoke
 
 # What the manual page says of each option that has a default or bounds: its default, its least and its greatest value.
@@ -96,11 +94,7 @@ REFUSED = [
     ("whatif", "--points 9", "--points needs --server"),
     ("whatif", "--from 1", "--from needs --server"),
     ("whatif", "--to 1", "--to needs --server"),
-    (
-        "whatif",
-        "--server a:1 --step 10",
-        "--step does nothing with --server: it is of more room at each full server",
-    ),
+    ("whatif", "--server a:1 --step 10", "--step does nothing with --server: it is of more room at each full server"),
     ("survive", "--no-save --into F", "--into and --no-save don't go together: no fallback plan is kept"),
     ("survive", "--csv --buy", "--buy does nothing with --csv: the table has losses only"),
     ("survive", "--csv --all", "--all does nothing with --csv: the table has all losses"),
@@ -130,7 +124,7 @@ REFUSED = [
 
 @pytest.mark.parametrize("command, words, line", REFUSED)
 def test_an_option_that_does_nothing_is_refused(
-    hsp: Hsp, example: Callable[[str], Path], monkeypatch: pytest.MonkeyPatch, command: str, words: str, line: str
+    hsp: Hsp, example: Example, monkeypatch: pytest.MonkeyPatch, command: str, words: str, line: str
 ) -> None:
     folder = example("bring-in")
     monkeypatch.chdir(folder)
@@ -184,9 +178,7 @@ def test_a_new_service_has_sites_that_answer_both_ways(tmp_path: Path) -> None:
     for at, record in enumerate(records):
         path = tmp_path / f"{at}.record"
         path.write_bytes(bytes.fromhex(record))
-        printed = subprocess.run(
-            [os.environ["HSPLAN"], "site", str(path)], capture_output=True, text=True, check=True
-        )
+        printed = subprocess.run([os.environ["HSPLAN"], "site", str(path)], capture_output=True, text=True, check=True)
         servers = re.findall(r"^server [0-9]+ ([0-9]+) [0-9a-f]{32} 0 2$", printed.stdout, re.M)
         assert servers == [str(it) for it in range(1, len(servers) + 1)]
         both = "00000002" + "0300" + "00000a51" + "0301" + "00000a51"

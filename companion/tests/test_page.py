@@ -1,16 +1,11 @@
 """hsp view: each page in headless Chromium, at two widths, in light and dark."""
 
-from __future__ import annotations
-
-import csv
-import io
 import json
 import random
 import re
 import shutil
 import subprocess
 from collections import Counter
-from collections.abc import Callable
 from dataclasses import replace
 from fractions import Fraction
 from pathlib import Path
@@ -25,16 +20,17 @@ from hsp.plans.plans import planned
 from hsp.plans.service import read_service
 
 from browsers import WIDTHS, Page, allowed, assert_stands, browser, viewed, widened
-from conftest import TOP, Hsp
+from conftest import TOP, Example, Hsp
+from services import read, table_of
 
 from lib import instances, memory
 
 __all__ = ["browser"]
-Example = Callable[[str], Path]
 PAGES = ("two-sites", "base", "hosts", "shortage", "compared", "ahead", "twelve-sites")
+
+
 @pytest.fixture(scope="module")
 def pages(hsp: Hsp, twelve: Path, tmp_path_factory: pytest.TempPathFactory) -> dict[str, Path]:
-    """The pages of all examples."""
     room = tmp_path_factory.mktemp("pages")
     two = Path(shutil.copytree(TOP / "examples" / "two-sites", room / "two-sites"))
     base = Path(shutil.copytree(TOP / "examples" / "base", room / "base"))
@@ -61,8 +57,7 @@ def test_a_page_stands(browser: Any, pages: dict[str, Path], name: str, width: i
 @pytest.mark.parametrize("name", ["two-sites", "base", "twelve-sites"])
 def test_a_page_has_the_numbers_of_the_reports(browser: Any, pages: dict[str, Path], twelve: Path, name: str) -> None:
     folder = twelve if name == "twelve-sites" else pages[name].parent / name
-    programs = Programs()
-    service = read_service(str(folder), programs, {})
+    service, programs = read(folder)
     plan = planned(service, programs)
     page = Page(browser, pages[name], 1200, "light")
     text = page.text()
@@ -81,9 +76,7 @@ def test_a_page_has_the_numbers_of_the_reports(browser: Any, pages: dict[str, Pa
         for at, share in enumerate(shares):
             sent = plan.shares.get((region, at), 0)
             exact = 100 * sent / asked
-            said = (
-                {"": 0.0, "<1%": 0.5, ">99%": 99.5}.get(share) if share in ("", "<1%", ">99%") else float(share[:-1])
-            )
+            said = {"": 0.0, "<1%": 0.5, ">99%": 99.5}.get(share) if share in ("", "<1%", ">99%") else float(share[:-1])
             assert said is not None and abs(said - exact) <= 0.5
 
 
@@ -113,9 +106,8 @@ def test_rows_are_a_download(browser: Any, pages: dict[str, Path]) -> None:
         "it.click(); return [it.download, it.href]"
     )
     assert link[0] == "rows.csv" and link[1].startswith("data:text/csv;charset=utf-8,")
-    rows = list(csv.DictReader(io.StringIO(unquote(link[1].partition(",")[2]), newline="")))
-    programs = Programs()
-    service = read_service(str(pages["two-sites"].parent / "two-sites"), programs, {})
+    rows = table_of(unquote(link[1].partition(",")[2]))
+    service, programs = read(pages["two-sites"].parent / "two-sites")
     own = [service.rows[use.row] for use in service.certificate.uses]
     wanted = Counter(
         (it.region, it.handle, str(it.count), service.sites[use.site].name, str(use.queries))
@@ -126,9 +118,8 @@ def test_rows_are_a_download(browser: Any, pages: dict[str, Path]) -> None:
     assert {(row["site"], row["server_id"]) for row in rows} <= {(it.site, str(it.id)) for it in service.servers}
 
 
-def test_a_page_names_what_it_was_made_of(hsp: Hsp, example: Example) -> None:
+def test_a_page_names_what_it_was_made_of(hsp: Hsp, folder: Path) -> None:
     """The sums are those of sha256sum, and the time is that of SOURCE_DATE_EPOCH, as date -u has it."""
-    folder = example("two-sites")
     hsp("view", str(folder), SOURCE_DATE_EPOCH="1795600800")
     text = (folder / "plan.html").read_text(encoding="utf-8")
     assert "planned 25 November 2026, 10:00 UTC" in text
@@ -195,9 +186,8 @@ def test_a_long_purchase_names_its_largest_parts(hsp: Hsp, browser: Any, twelve:
     assert page.run("return document.querySelectorAll('.bar .bought').length") == len(bought)
 
 
-def test_a_purchase_counts_in_what_is_above_capacity(hsp: Hsp, example: Example) -> None:
+def test_a_purchase_counts_in_what_is_above_capacity(hsp: Hsp, folder: Path) -> None:
     """The page of a shortage compares what the page of a folder with the purchase does, and so marks its servers."""
-    folder = example("two-sites")
     demand = ["--demand", str(folder / "premiere.csv")]
     hsp("view", str(folder), *demand, status=3)
     short, table = (folder / "plan.html").read_text(encoding="utf-8"), folder / "capacity.csv"
@@ -212,8 +202,7 @@ def test_a_purchase_counts_in_what_is_above_capacity(hsp: Hsp, example: Example)
     assert above and above[0] in short and short.count("<small>left alone") == bought.count("<small>left alone")
 
 
-def test_two_plans_of_one_title_have_distinct_names(hsp: Hsp, browser: Any, example: Example) -> None:
-    folder = example("two-sites")
+def test_two_plans_of_one_title_have_distinct_names(hsp: Hsp, browser: Any, folder: Path) -> None:
     (folder / "hsp.toml").write_text('title = "Films"\n')
     later = Path(shutil.copytree(folder, folder.parent / "later"))
     hsp("view", str(later), "--before", str(folder))
@@ -232,8 +221,7 @@ def test_a_page_needs_no_script(browser: Any, pages: dict[str, Path], tmp_path: 
     assert page.run("return document.getElementById('controls').hidden")
 
 
-def test_a_handle_stays_text(hsp: Hsp, browser: Any, example: Example) -> None:
-    folder = example("two-sites")
+def test_a_handle_stays_text(hsp: Hsp, browser: Any, folder: Path) -> None:
     evil = "20.500.1234/<script>document.title='evil'</script><img src=x onerror=alert(1)>"
     with open(folder / "demand.csv", "a", encoding="utf-8") as file:
         file.write(f'eu,"{evil}",1\n')
@@ -246,9 +234,8 @@ def test_a_handle_stays_text(hsp: Hsp, browser: Any, example: Example) -> None:
 
 
 @pytest.mark.parametrize("region", ["scandinavia", "thelandsabouttheseaofthenorth"])
-def test_the_rows_stay_within_a_narrow_page(hsp: Hsp, browser: Any, example: Example, region: str) -> None:
+def test_the_rows_stay_within_a_narrow_page(hsp: Hsp, browser: Any, folder: Path, region: str) -> None:
     """A handle is broken behind its slash, not within a word, and no name widens the page."""
-    folder = example("two-sites")
     for name in ("demand.csv", "costs.csv"):
         text = (folder / name).read_text().replace("asia,", f"{region},").replace("report-", "herbarium.")
         (folder / name).write_text(text)

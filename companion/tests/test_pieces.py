@@ -1,7 +1,5 @@
 """hsp demand over logs in pieces, and by several processes: it finds what was written into them, octet for octet."""
 
-from __future__ import annotations
-
 import bz2
 import contextlib
 import csv
@@ -12,7 +10,6 @@ import random
 import signal
 import subprocess
 import sys
-import time
 from collections import Counter
 from collections.abc import Callable
 from pathlib import Path
@@ -31,7 +28,7 @@ from hsp.intake.regions import Networks
 from hsp.intake.side_by_side import parts_of
 from hsp.intake.times import Span
 
-from conftest import WITH_SIGNALS, children, variables
+from conftest import WITH_SIGNALS, children, until, variables
 from test_sites import invoke
 
 NETWORKS = b"network,region\n10.1.0.0/16,eu\n10.2.0.0/16,us\n2001:db8::/32,asia\n"
@@ -377,7 +374,7 @@ def test_a_fault_in_the_code_is_shown_with_its_place(
 ) -> None:
     paths, _ = many(tmp_path, "server", 300, 4)
     monkeypatch.setattr(side_by_side, "parts", failing(15_000, ZeroDivisionError("by nothing")))
-    with pytest.raises(RuntimeError, match=r'(?s)Traceback.*in parts.*ZeroDivisionError: by nothing'):
+    with pytest.raises(RuntimeError, match=r"(?s)Traceback.*in parts.*ZeroDivisionError: by nothing"):
         counts_until(paths[0], 3)
 
 
@@ -406,13 +403,6 @@ def started(tmp_path: Path) -> "subprocess.Popen[str]":
     run = subprocess.Popen(command, env=variables(), stderr=subprocess.PIPE, text=True, start_new_session=True)
     until(lambda: len(children(run.pid)) >= 4)
     return run
-
-
-def until(is_so: Callable[[], bool]) -> None:
-    end = time.monotonic() + 60
-    while not is_so():
-        assert time.monotonic() < end
-        time.sleep(0.05)
 
 
 def are_gone(processes: list[int]) -> bool:

@@ -1,9 +1,5 @@
 """hsp plan: its lines and tables, against hsplan's reports and against plans of changed inputs."""
 
-from __future__ import annotations
-
-import csv
-import io
 import json
 import os
 import shlex
@@ -11,32 +7,22 @@ import shutil
 import subprocess
 import sys
 from collections import Counter
-from collections.abc import Callable
 from dataclasses import replace
 from pathlib import Path
 from typing import Any
 
 import pytest
-from click.testing import CliRunner
 
 from hsp.base.numbers import part
 from hsp.base.programs import BOUNDLESS, Programs, Refused, program
-from hsp.cli import main
 from hsp.plans.plans import capacity_file, cheapest, least_purchase, planned, purchased, shortage, with_gains
 from hsp.plans.service import Service, read_service
 
-from conftest import Hsp
-from services import random_service, rows
+from conftest import Example, Hsp
+from services import random_service, read, rows, table_of
 from test_sites import invoke
 
 from lib import companion
-
-Example = Callable[[str], Path]
-
-
-def read(folder: Path, **given: str) -> tuple[Service, Programs]:
-    programs = Programs()
-    return read_service(str(folder), programs, dict(given)), programs
 
 
 def report(folder: Path, kind: str) -> list[list[str]]:
@@ -52,7 +38,7 @@ def report(folder: Path, kind: str) -> list[list[str]]:
 def test_csv_and_json_have_the_sums_of_the_reports(hsp: Hsp, example: Example, name: str) -> None:
     folder = example(name)
     said = json.loads(hsp("plan", str(folder), "--json").stdout)
-    rows = list(csv.DictReader(io.StringIO(hsp("plan", str(folder), "--csv").stdout)))
+    rows = table_of(hsp("plan", str(folder), "--csv").stdout)
     *regions, total = report(folder, "region")
     for demand, cost, region in regions:
         own = [it for it in rows if it["region"] == region]
@@ -73,8 +59,7 @@ def with_capacities(service: Service, programs: Programs, changed: dict[tuple[st
     return programs.plan(service.inputs.but(capacity=capacity))[0]
 
 
-def test_the_least_purchase_suffices_and_one_less_does_not(example: Example) -> None:
-    folder = example("two-sites")
+def test_the_least_purchase_suffices_and_one_less_does_not(folder: Path) -> None:
     service, programs = read(folder, demand=str(folder / "premiere.csv"))
     bought = least_purchase(service, programs)
     assert bought and shortage(service, programs).lack == sum(bought.values()) == 270
@@ -86,9 +71,8 @@ def test_the_least_purchase_suffices_and_one_less_does_not(example: Example) -> 
     assert after and after.certificate.cost == with_capacities(service, programs, room).cost
 
 
-def test_costs_above_50000_have_no_least_purchase(example: Example) -> None:
+def test_costs_above_50000_have_no_least_purchase(folder: Path) -> None:
     """A twin of the dearest way has to cost more than all others, and a cost is at most 1,000,000."""
-    folder = example("two-sites")
     service, programs = read(folder, demand=str(folder / "premiere.csv"))
     for dearest, is_planned in ((50_000, True), (50_001, False)):
         dear = replace(service, costs={**service.costs, ("asia", "paris"): dearest})
@@ -134,7 +118,7 @@ def test_cheapest_sites_are_the_sum_of_the_cheapest_costs(twelve: Path) -> None:
     assert reference and reference.cost == sum(row.count * least[row.region] for row in service.rows)
 
 
-def test_the_programs_beside_hsp_are_found(tmp_path: Path, example: Callable[[str], Path]) -> None:
+def test_the_programs_beside_hsp_are_found(tmp_path: Path, example: Example) -> None:
     """Called by its path, also by a link to it, hsp needs no PATH. HSPLAN and PATH come first."""
     folder, beside, other = example("two-sites"), tmp_path / "beside", tmp_path / "other"
     beside.mkdir()
@@ -165,18 +149,15 @@ def test_an_older_python_is_named(tmp_path: Path) -> None:
     assert (done.returncode, done.stderr) == (1, "hsp: this is Python 3.10, and hsp needs 3.11 or later\n")
 
 
-def test_what_hsplan_refuses_later_is_a_line_and_its_status(
-    example: Example, monkeypatch: pytest.MonkeyPatch
-) -> None:
+def test_what_hsplan_refuses_later_is_a_line_and_its_status(example: Example, monkeypatch: pytest.MonkeyPatch) -> None:
     """As where its memory is out at one of the plans that follow the first."""
 
     def refused(*_: object) -> None:
         raise Refused(4, "OutOfMemory")
 
     monkeypatch.setattr("hsp.commands.plan.cheapest", refused)
-    done = CliRunner(mix_stderr=False).invoke(main, ["plan", str(example("two-sites"))])
-    assert (done.exit_code, done.stdout) == (4, "")
-    assert done.stderr == "hsp: hsplan refuses these files: OutOfMemory\n"
+    done = invoke("plan", example("two-sites"), status=4)
+    assert not done.stdout and done.stderr == "hsp: hsplan refuses these files: OutOfMemory\n"
 
 
 @pytest.mark.parametrize(
@@ -231,9 +212,7 @@ def kept_in(folder: Path) -> set[str]:
 
 
 @pytest.fixture
-def limited(example: Example) -> Path:
-    """A service whose machines have limits."""
-    folder = example("two-sites")
+def limited(folder: Path) -> Path:
     (folder / "settings.toml").write_bytes((folder / "hosts.toml").read_bytes())
     return folder
 

@@ -1,18 +1,16 @@
 """What planted changes of the companion showed to be tried by no test: each case here refuses one of them."""
 
-from __future__ import annotations
-
 from collections.abc import Iterator
 from pathlib import Path
 
 import click
 import pytest
-from click.testing import CliRunner
 
 from hsp.base.groups import Group
 from hsp.cli import main
 from hsp.fleet import session
 
+from conftest import run_here
 from printed import assert_kept
 
 
@@ -28,9 +26,9 @@ def commands(group: click.Group, words: tuple[str, ...] = ()) -> Iterator[tuple[
 
 @pytest.mark.parametrize("words", list(commands(main)), ids=" ".join)
 def test_each_command_prints_its_help(words: tuple[str, ...]) -> None:
-    done = CliRunner().invoke(main, [*words, "--help"], prog_name="hsp", env={"COLUMNS": "100"})
+    done = run_here([*words, "--help"], COLUMNS="100")
     assert done.exit_code == 0
-    assert_kept("help", " ".join(["hsp", *words, "--help"]), done.output)
+    assert_kept("help", " ".join(["hsp", *words, "--help"]), done.stdout + done.stderr)
 
 
 @pytest.mark.parametrize("words", [words for words in commands(main) if words], ids=" ".join)
@@ -38,7 +36,7 @@ def test_each_command_says_what_it_lacks(
     words: tuple[str, ...], tmp_path: Path, monkeypatch: pytest.MonkeyPatch
 ) -> None:
     monkeypatch.chdir(tmp_path)
-    done = CliRunner(mix_stderr=False).invoke(main, [*words], prog_name="hsp", env={"COLUMNS": "100"})
+    done = run_here(words, COLUMNS="100")
     assert_kept("help", " ".join(["hsp", *words]), f"{done.exit_code}\n{done.stdout}{done.stderr}")
 
 

@@ -7,8 +7,6 @@ marks a line of standard error.
 for a folder. Behind what hsp doctor finds stands each finding's place with its end, and what hsplan says of it.
 """
 
-from __future__ import annotations
-
 import os
 import re
 import shlex
@@ -17,16 +15,14 @@ import sys
 from pathlib import Path
 
 import pytest
-from click.testing import CliRunner
 
 from lib import examples, transcripts
 from hsp import __version__
 from hsp.base.text import say, visible
-from hsp.cli import main
 from hsp.commands.doctor import shown_findings
 from hsp.doctor import Examined
 
-from conftest import TOP, variables
+from conftest import TOP, run_here, variables
 from printed import FOLDER, assert_kept, heads, kept
 from services import one_machine
 
@@ -51,9 +47,7 @@ FILES = "--settings settings.toml --demand demand.csv --costs costs.csv --capaci
 
 
 def ran(words: list[str]) -> str:
-    """What a command of hsp prints."""
-    done = CliRunner(mix_stderr=False).invoke(main, words, prog_name="hsp")
-    assert done.exception is None or isinstance(done.exception, SystemExit), repr(done.exception)
+    done = run_here(words)
     return streams(done.stdout, done.stderr, done.exit_code)
 
 
@@ -104,7 +98,6 @@ def printed(command: str) -> str:
 
 
 def transcript(text: str) -> str:
-    """The commands of a transcript with what they print now."""
     steps = transcripts.steps_of(text.splitlines())
     text = "".join("\n".join(step.lines) + "\n" + ended(printed(step.command())) for step in steps)
     return text.replace(os.getcwd(), "HERE")

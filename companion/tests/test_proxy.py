@@ -1,11 +1,7 @@
 """HAProxy answers by a plan as hsplan does: any handle, each hash option, no other host, and loads as planned."""
 
-from __future__ import annotations
-
 import contextlib
-import csv
 import http.server
-import io
 import ipaddress
 import itertools
 import math
@@ -15,7 +11,6 @@ import socket
 import ssl
 import subprocess
 import threading
-import time
 import tomllib
 from collections import Counter
 from collections.abc import Callable, Iterator
@@ -29,10 +24,11 @@ from hsp.intake.regions import networks_in
 from hsp.plans.service import Service, read_service
 from hsp.proxy.kinds import LOTS, drawn_from, key_of, shares_of
 
-from conftest import TOP, Hsp
+from conftest import TOP, Example, Hsp, rewrite, until
 from proxies import Front, answering, free_ports
+from services import rows as table_rows
+from services import read
 
-Example = Callable[[str], Path]
 TRUSTED = ("--trusted", "127.0.0.0/8")
 SIGNS = "abcXYZ019-._@%?#&=+ ,\"'\\/|:;éÉß漢😀\x01\x7f"
 NETWORKS = "network,region\n192.0.2.0/24,eu\n192.0.2.128/26,asia\n198.51.100.0/24,us\n2001:db8::/32,eu\n"
@@ -72,7 +68,6 @@ def names_of(service: Service) -> list[str]:
 
 
 def urls_in(folder: Path) -> dict[str, str]:
-    """The URLs of the servers of a folder, by their names."""
     urls: dict[str, str] = tomllib.loads((folder / "hsp.toml").read_text())["proxy"]["urls"]
     return urls
 
@@ -154,19 +149,8 @@ def test_letters_of_ascii_are_equal_and_no_others(hsp: Hsp, each: Path) -> None:
 def random_octets(number: int) -> list[bytes]:
     """What may be a handle, and often is none. None of it begins as what a proxy passes over."""
     lot = random.Random(11)
-    pieces = [
-        b"10",
-        b".",
-        b"/",
-        b"x",
-        b"\xff",
-        b"\xc3\xa9",
-        b"\xc3",
-        b"\xed\xa0\x80",
-        b"\xf4\x90\x80\x80",
-        b"\xc0\x80",
-    ]
-    pieces += [b" ", b"\xe0\x80\x80", b"\xf0\x9f\x98\x80", b"\xef\xbf\xbf", b"\x7f", b"%", b"A", b"10.1/"]
+    pieces = b"10|.|/|x|\xff|\xc3\xa9|\xc3|\xed\xa0\x80|\xf4\x90\x80\x80|\xc0\x80".split(b"|")
+    pieces += b" |\xe0\x80\x80|\xf0\x9f\x98\x80|\xef\xbf\xbf|\x7f|%|A|10.1/".split(b"|")
     begins = [b"", b"10.1/", b"\xc3\xa9.x/"]
     return [lot.choice(begins) + b"".join(lot.choices(pieces, k=lot.randrange(1, 6))) for _ in range(number)]
 
@@ -230,12 +214,8 @@ def test_the_whole_demand_of_two_sites_loads_servers_as_planned(hsp: Hsp, two: P
         log = front.logged(len(rows))
     put(two, demand="")
     hsp("demand", str(log), "--regions", str(two / "networks.csv"), "-o", str(two / "demand.csv"))
-    counted = {(region, handle): int(count) for region, handle, count in list(table(two / "demand.csv"))[1:]}
+    counted = {(region, handle): int(count) for region, handle, count in table_rows(two / "demand.csv")}
     assert counted == Counter(rows), "the log of the proxy isn't the demand that was asked"
-
-
-def table(path: Path) -> Iterator[list[str]]:
-    yield from csv.reader(io.StringIO(path.read_text(), newline=""))
 
 
 def test_a_part_of_the_demand_of_twelve_sites_goes_as_planned(
@@ -311,12 +291,8 @@ class Mirror(http.server.BaseHTTPRequestHandler):
     protocol_version = "HTTP/1.1"
 
     def do_GET(self) -> None:
-        words = [
-            self.server.server_name,
-            self.path,
-            *(f"{key.lower()}={value}" for key, value in self.headers.items()),
-        ]
-        text = "\n".join(map(str, words)).encode()
+        headers = (f"{key.lower()}={value}" for key, value in self.headers.items())
+        text = "\n".join(map(str, [self.server.server_name, self.path, *headers])).encode()
         self.send_response(200)
         self.send_header("Content-Length", str(len(text)))
         self.end_headers()
@@ -340,21 +316,12 @@ def served(names: list[str]) -> Iterator[dict[str, http.server.ThreadingHTTPServ
         yield found
 
 
-def until(is_so: Callable[[], bool], seconds: float = 60) -> None:
-    """Waits until something is so."""
-    end = time.monotonic() + seconds
-    while not is_so():
-        assert time.monotonic() < end
-        time.sleep(0.05)
-
-
 NAMES = ["paris:1", "paris:2", "reston:1", "reston:2", "reston:3"]
 
 
 def test_a_proxy_fetches_answers_and_goes_elsewhere_where_a_server_is_down(
-    hsp: Hsp, example: Example, tmp_path: Path
+    hsp: Hsp, folder: Path, tmp_path: Path
 ) -> None:
-    folder = example("two-sites")
     path = "/20.500.1234/film-5?type=URL&a=%20"
     with served(NAMES) as servers:
         urls = {name: f"http://127.0.0.1:{own.server_port}" for name, own in servers.items()}
@@ -364,7 +331,9 @@ def test_a_proxy_fetches_answers_and_goes_elsewhere_where_a_server_is_down(
             assert (name, asked) == ("paris:2", path)
             assert f"x-forwarded-for={CLIENTS['eu']}" in headers
             own = http.client.HTTPConnection("127.0.0.1", front.port)
-            own.request("GET", path, headers={"X-Forwarded-For": CLIENTS["eu"], "Upgrade": "h2c", "Connection": "Upgrade"})
+            own.request(
+                "GET", path, headers={"X-Forwarded-For": CLIENTS["eu"], "Upgrade": "h2c", "Connection": "Upgrade"}
+            )
             assert b"upgrade=" not in own.getresponse().read().lower()
             assert f"host={urls['paris:2'].removeprefix('http://')}" in headers
             servers["paris:2"].shutdown()
@@ -381,20 +350,16 @@ def test_a_query_that_a_server_does_not_take_counts_as_a_check(hsp: Hsp, example
     folder, path = example("two-sites"), "/20.500.1234/film-5"
     words = "observe layer4 error-limit 1 on-error sudden-death"
     with served(NAMES) as servers:
-        put(
-            folder,
-            networks=NETWORKS,
-            hsp=urls_text({n: f"http://127.0.0.1:{it.server_port}" for n, it in servers.items()}),
-        )
+        urls = {name: f"http://127.0.0.1:{own.server_port}" for name, own in servers.items()}
+        put(folder, networks=NETWORKS, hsp=urls_text(urls))
         with answering(hsp, folder, tmp_path / "plain", *TRUSTED) as front:
             assert words not in front.config.read_text()
         with answering(hsp, folder, tmp_path / "proxy", *TRUSTED, "--proxy") as front:
             text = front.config.read_text()
             assert text.count(words) == 5 and "inter 2s" in text
             front.kill()
-            front.config.write_text(
-                text.replace("inter 2s", "inter 60s").replace("timeout client", "retries 0\n  timeout client")
-            )
+            rewrite(front.config, "inter 2s", "inter 60s")
+            rewrite(front.config, "timeout client", "retries 0\n  timeout client")
             front.start()
             # Each server was found up by the checks at the start: the last of them passed, with full health.
             until(lambda: front.say("show servers state").count(" 6 3 3 6 ") == 5)
@@ -409,9 +374,8 @@ def test_where_no_server_is_up_the_plan_holds(hsp: Hsp, two: Path, tmp_path: Pat
     with answering(hsp, two, tmp_path / "proxy", *TRUSTED) as front:
         until(lambda: front.say("show servers state").count("127.0.0.1 0 ") == 5)
         assert front.ask("/20.500.1234/film-5", CLIENTS["eu"]).host == f"http://127.0.0.1:{ports[1]}"
-        assert front.ask("/20.500.1234/never-asked", CLIENTS["us"]).host in [
-            f"http://127.0.0.1:{port}" for port in ports[2:]
-        ]
+        host = front.ask("/20.500.1234/never-asked", CLIENTS["us"]).host
+        assert host in [f"http://127.0.0.1:{port}" for port in ports[2:]]
 
 
 def test_only_a_trusted_proxy_names_its_client(hsp: Hsp, two: Path, tmp_path: Path) -> None:
@@ -469,11 +433,10 @@ def test_a_client_has_the_region_that_hsp_demand_finds(hsp: Hsp, each: Path, els
 
 def test_a_region_goes_only_to_sites_where_it_has_a_cost(hsp: Hsp, two: Path, tmp_path: Path) -> None:
     """The kinds of eu have no place at reston, whatever a handle's server is there."""
-    rooms = [[site, own, 10 * int(room)] for site, own, room in list(table(two / "capacity.csv"))[1:]]
+    rooms = [[site, own, 10 * int(room)] for site, own, room in table_rows(two / "capacity.csv")]
     costs = (two / "costs.csv").read_text().replace("eu,reston,84\n", "").replace("eu,paris,12", "eu,paris,1000")
     put(two, capacity=table_text("site,server_id,capacity", rooms), costs=costs)
-    programs = Programs()
-    service = read_service(str(two), programs, {})
+    service, programs = read(two)
     handles = random_handles(100)
     places = programs.places(service.inputs, handles)
     with answering(hsp, two, tmp_path / "proxy", *TRUSTED) as front:
@@ -513,7 +476,6 @@ def test_a_kind_of_three_servers_is_drawn_by_lot(hsp: Hsp, each: Path) -> None:
 
 
 def exported(hsp: Hsp, folder: Path, into: Path, *words: str, status: int = 0) -> str:
-    """Writes the files of a proxy, and returns what is warned of."""
     socket_of = ("--socket", "/run/hsp.sock")
     return hsp("export", "haproxy", str(folder), "--into", str(into), *socket_of, *words, status=status).stderr
 
@@ -529,9 +491,7 @@ def test_a_value_list_has_the_same_urls(hsp: Hsp, two: Path, tmp_path: Path) -> 
 
 
 @pytest.mark.parametrize("settings", ["settings.toml", "hosts.toml"])
-def test_an_export_less_a_reserve_is_that_of_less_capacity(
-    hsp: Hsp, two: Path, tmp_path: Path, settings: str
-) -> None:
+def test_an_export_less_a_reserve_is_that_of_less_capacity(hsp: Hsp, two: Path, tmp_path: Path, settings: str) -> None:
     """The map is that of the capacities that hsp plan --reserve keeps. Where a reserve is forgotten, a line says so."""
     (two / "settings.toml").write_bytes((two / settings).read_bytes())
     words = ["--regions", str(two / "networks.csv")]
@@ -552,16 +512,12 @@ def test_an_export_less_a_reserve_is_that_of_less_capacity(
 
 
 def haproxy_takes(folder: Path) -> None:
-    done = subprocess.run(
-        ["haproxy", "-c", "-f", str(folder / "haproxy.cfg")], capture_output=True, text=True, cwd="/"
-    )
+    done = subprocess.run(["haproxy", "-c", "-f", str(folder / "haproxy.cfg")], capture_output=True, text=True, cwd="/")
     said = [line for line in done.stderr.splitlines() if "[NOTICE]" not in line and "could not resolve" not in line]
     assert done.returncode == 0 and not said, done.stderr
 
 
-@pytest.mark.parametrize(
-    "more", [[], ["--proxy"], ["--elsewhere", "eu", "--listen", "[::1]:8080", "--listen", "*:81"]]
-)
+@pytest.mark.parametrize("more", [[], ["--proxy"], ["--elsewhere", "eu", "--listen", "[::1]:8080", "--listen", "*:81"]])
 def test_files_without_a_warning(hsp: Hsp, two: Path, tmp_path: Path, more: list[str]) -> None:
     odd = 'it\'s $HOME "x" \\ #1'
     more = [*more, "--socket", f"/tmp/{odd}"]
@@ -590,9 +546,7 @@ def test_a_long_path_of_a_socket_is_refused(hsp: Hsp, two: Path, tmp_path: Path)
         (["--listen", "192.0.2.9:8001", "--listen", "[::1]:8405"], ""),
     ],
 )
-def test_nothing_stands_where_haproxy_listens(
-    hsp: Hsp, two: Path, tmp_path: Path, words: list[str], said: str
-) -> None:
+def test_nothing_stands_where_haproxy_listens(hsp: Hsp, two: Path, tmp_path: Path, words: list[str], said: str) -> None:
     urls = {name: f"http://127.0.0.1:{7999 + at}" for at, name in enumerate(NAMES, 1)}
     put(two, hsp=urls_text(urls))
     assert said in exported(hsp, two, tmp_path / "proxy", *words, status=1 if said else 0)

@@ -1,8 +1,6 @@
 """HAProxy answers by prices where no table holds the demand: each handle goes where it pays least, and the rest of a
 period is planned so too."""
 
-from __future__ import annotations
-
 import json
 import random
 import socket
@@ -22,14 +20,14 @@ from hsp.proxy.kinds import kinds_of
 from hsp.proxy.rest import Rest, priced_rest, rest_of, room_of
 from hsp.proxy.steering import Steering
 
-from conftest import Hsp
+from conftest import Hsp, until
 from proxies import Front, answering
+from services import read
 from test_logs import many
-from test_proxy import CLIENTS, NETWORKS, TRUSTED, drifted, put, until, urls_in, urls_text
+from test_proxy import CLIENTS, NETWORKS, TRUSTED, drifted, put, urls_in, urls_text
 from test_steer import Mirrors, lines_in, mirrors, period_of, two
 
 __all__ = ["mirrors", "two"]
-
 
 
 @pytest.fixture
@@ -93,8 +91,7 @@ def asked(front: Front, folder: Path, rows: list[tuple[str, str]], clients: dict
 
 def test_the_whole_demand_loads_servers_as_planned(small: None, two: Path, front: Front) -> None:
     """That of two-sites as a log: the loads are those of hsplan-stream's report, but for lots."""
-    programs = Programs()
-    service = read_service(str(two), programs, {})
+    service, programs = read(two)
     lines = [line.split(",") for line in (two / "demand.csv").read_text().splitlines()[1:]]
     rows = [(region, handle) for region, handle, count in lines for _ in range(int(count))]
     random.Random(3).shuffle(rows)

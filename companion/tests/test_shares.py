@@ -1,32 +1,23 @@
 """What shares of regions do by themselves, against sums over `hsplan locate` that are made here."""
 
-from __future__ import annotations
-
-import csv
 import functools
-import itertools
 import json
 import os
 import subprocess
 from collections import defaultdict
-from collections.abc import Callable, Iterable
 from fractions import Fraction
 from pathlib import Path
 
-from hsp.base.programs import Programs
+from scipy import optimize
+
 from hsp.plans.plans import by_shares, planned
-from hsp.plans.service import read_service
 
-from conftest import Hsp
+from conftest import Example, Hsp
+from services import read, rows, table_of
 
-Example = Callable[[str], Path]
 Server = tuple[str, int]
 # How many queries of each region a server is responsible for, by region and site.
 Counts = dict[tuple[str, str], dict[Server, int]]
-
-
-def rows(path: Path) -> list[list[str]]:
-    return list(csv.reader(path.read_text().splitlines()))[1:]
 
 
 @functools.cache
@@ -57,7 +48,7 @@ def loads_by(shares: dict[tuple[str, str], Fraction], counts: Counts) -> dict[Se
 
 def shares_of(folder: Path, hsp: Hsp, *words: str) -> dict[tuple[str, str], Fraction]:
     """The shares of the plan, from the table that `hsp plan` prints."""
-    printed = list(csv.DictReader(hsp("plan", str(folder), *words, "--csv", "--no-save").stdout.splitlines()))
+    printed = table_of(hsp("plan", str(folder), *words, "--csv", "--no-save").stdout)
     asked: dict[str, int] = defaultdict(int)
     for it in printed:
         asked[it["region"]] += int(it["queries"])
@@ -68,8 +59,7 @@ def capacities(folder: Path) -> dict[Server, int]:
     return {(site, int(number)): int(room) for site, number, room in rows(folder / "capacity.csv")}
 
 
-def test_the_line_has_the_sums_over_locate(hsp: Hsp, example: Example) -> None:
-    folder = example("two-sites")
+def test_the_line_has_the_sums_over_locate(hsp: Hsp, folder: Path) -> None:
     loads = loads_by(shares_of(folder, hsp), counts_of(folder))
     over = {it: loads[it] - room for it, room in capacities(folder).items() if loads[it] > room}
     assert set(over) == {("paris", 2), ("reston", 2)} and round(sum(over.values())) == 476
@@ -83,9 +73,8 @@ def test_shares_that_fit_are_said_to_fit(hsp: Hsp, example: Example) -> None:
     assert "by shares of regions only  no server too full" in hsp("plan", str(example("base")), "--no-save").stdout
 
 
-def test_a_machine_above_its_limit_is_counted(hsp: Hsp, example: Example) -> None:
+def test_a_machine_above_its_limit_is_counted(hsp: Hsp, folder: Path) -> None:
     """reston 2 and 3 share a machine with a limit of 2,000."""
-    folder = example("two-sites")
     loads = loads_by(shares_of(folder, hsp, "--settings", str(folder / "hosts.toml")), counts_of(folder))
     assert loads["reston", 2] + loads["reston", 3] > 2000
     line = hsp("plan", str(folder), "--settings", str(folder / "hosts.toml"), "--no-save").stdout.splitlines()[-2]
@@ -93,52 +82,22 @@ def test_a_machine_above_its_limit_is_counted(hsp: Hsp, example: Example) -> Non
 
 
 def test_twelve_of_the_servers_of_twelve_sites_are_too_full(twelve: Path) -> None:
-    programs = Programs()
-    service = read_service(str(twelve), programs, {})
+    service, programs = read(twelve)
     found = by_shares(planned(service, programs))
     assert (found.servers, found.all_servers) == (12, 66)
 
 
-def solved(matrix: list[list[Fraction]]) -> list[Fraction] | None:
-    """The solution of as many equations as unknowns, the right side last; None where there is no single one."""
-    size = len(matrix)
-    for at in range(size):
-        pivot = next((row for row in range(at, size) if matrix[row][at]), None)
-        if pivot is None:
-            return None
-        matrix[at], matrix[pivot] = matrix[pivot], matrix[at]
-        matrix[at] = [it / matrix[at][at] for it in matrix[at]]
-        for row in range(size):
-            if row != at:
-                factor = matrix[row][at]
-                matrix[row] = [it - factor * own for it, own in zip(matrix[row], matrix[at])]
-    return [row[-1] for row in matrix]
-
-
-def least_factor(bounds: Iterable[list[Fraction]]) -> Fraction:
-    """The least last unknown over all corners of `row . unknowns <= right side`."""
-    rows = list(bounds)
-    size = len(rows[0]) - 1
-    corners = (solved([list(it) for it in chosen]) for chosen in itertools.combinations(rows, size))
-    fitting = [it for it in corners if it and all(sum(a * b for a, b in zip(row, it)) <= row[-1] for row in rows)]
-    return min(it[-1] for it in fitting)
-
-
-def test_no_shares_of_regions_fit_two_sites(example: Example) -> None:
+def test_no_shares_of_regions_fit_two_sites(folder: Path) -> None:
     """Unknowns are the share of each region that asks paris, and a factor of all capacities. The least factor with
     which some shares fit is 1.087, so with the capacities as they are none fit."""
-    folder = example("two-sites")
     counts = counts_of(folder)
     regions = sorted({region for region, _ in counts})
-    bounds: list[list[Fraction]] = []
+    loads, most = [], []
     for server, room in capacities(folder).items():
-        own = [Fraction(counts[region, server[0]][server]) for region in regions]
-        if server[0] == "paris":
-            bounds.append([*own, Fraction(-room), Fraction(0)])
-        else:
-            bounds.append([*(-it for it in own), Fraction(-room), -sum(own, Fraction(0))])
-    for at in range(len(regions)):
-        unit = [Fraction(int(it == at)) for it in range(len(regions))]
-        bounds.append([*unit, Fraction(0), Fraction(1)])
-        bounds.append([*(-it for it in unit), Fraction(0), Fraction(0)])
-    assert round(float(least_factor(bounds)), 3) == 1.087
+        own = [counts[region, server[0]][server] for region in regions]
+        is_asked = server[0] == "paris"
+        loads.append([*(own if is_asked else [-it for it in own]), -room])
+        most.append(0 if is_asked else -sum(own))
+    shares = [(0, 1)] * len(regions)
+    least = optimize.linprog([0] * len(regions) + [1], loads, most, bounds=[*shares, (None, None)])
+    assert round(least.fun, 3) == 1.087

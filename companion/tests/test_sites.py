@@ -1,7 +1,5 @@
 """hsp new and hsp sites: files that are written, records of every form, and what is left out."""
 
-from __future__ import annotations
-
 import base64
 import hashlib
 import json
@@ -13,39 +11,24 @@ from pathlib import Path
 from typing import Any
 
 import pytest
-from click.testing import CliRunner, Result
+from click.testing import Result
 
 from lib import examples
 from hsp.base import files
 from hsp.base.programs import Programs
-from hsp.cli import main
 from hsp.plans.service import read_service
 
-from conftest import Hsp
+from conftest import Hsp, run_here
 
 ADDRESSES = examples.TWO_SITES
 PARIS = examples.site_octets("paris", 7, ADDRESSES["paris"])
 RESTON = examples.site_octets("reston", 8, ADDRESSES["reston"])
-PROTOCOLS = ("UDP", "TCP", "HTTP")
 
 
 def site_json(name: str, serial: int, **more: Any) -> dict[str, Any]:
     """The JSON of an example's site, as handle.net documents it."""
-    servers = [
-        {
-            "serverId": at + 1,
-            "address": address,
-            "publicKey": {"format": "base64", "value": base64.b64encode(examples.key_of(name, at + 1)).decode()},
-            "interfaces": [
-                {"query": True, "admin": True, "protocol": PROTOCOLS[protocol], "port": port}
-                for _, protocol, port in examples.interfaces_of(at, ADDRESSES[name])
-            ],
-        }
-        for at, address in enumerate(ADDRESSES[name])
-    ]
-    head = {"version": 1, "protocolVersion": "2.11", "serialNumber": serial, "primarySite": False}
     attributes = [{"name": "desc", "value": f"mirror {name}"}]
-    return {**head, "multiPrimary": False, "attributes": attributes, "servers": servers, **more}
+    return {**examples.site_json(name, serial, ADDRESSES[name]), "attributes": attributes, **more}
 
 
 def value_json(index: int, site: Any) -> dict[str, Any]:
@@ -62,9 +45,7 @@ def answer(*values: dict[str, Any]) -> bytes:
 
 
 def invoke(*words: str | Path, status: int = 0) -> Result:
-    """Runs a command in this process. A traceback would be an exception other than an exit."""
-    result = CliRunner(mix_stderr=False).invoke(main, list(map(str, words)))
-    assert result.exception is None or isinstance(result.exception, SystemExit), repr(result.exception)
+    result = run_here(words)
     assert result.exit_code == status, result.stdout + result.stderr
     return result
 
@@ -128,8 +109,7 @@ def test_broken_files_end_well(tmp_path: Path) -> None:
             )
         path = tmp_path / "broken"
         path.write_bytes(octets)
-        result = CliRunner(mix_stderr=False).invoke(main, ["sites", str(path)])
-        assert result.exception is None or isinstance(result.exception, SystemExit), (number, repr(result.exception))
+        result = run_here(["sites", path])
         assert result.exit_code in (0, 1), (number, result.stderr)
         assert result.exit_code == 0 or result.stderr.count("\n") == 1
         found.add(result.exit_code)
@@ -143,7 +123,6 @@ def place(handle: str, servers: int) -> int:
 
 
 def located_by(settings: Path, handle: str) -> str:
-    """What `hsplan locate` prints for a handle."""
     words = [os.environ["HSPLAN"], "locate", "--settings", str(settings), handle]
     return subprocess.run(words, capture_output=True, text=True, check=True).stdout
 

@@ -1,7 +1,5 @@
 """The recipe for Slurm in FLEET.md, on a Slurm of this machine's own, where its packages are installed."""
 
-from __future__ import annotations
-
 import hashlib
 import os
 import shutil

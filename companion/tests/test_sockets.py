@@ -1,7 +1,5 @@
 """hsp steer at a socket where something else than HAProxy answers, and beside files that aren't as hsp wrote them."""
 
-from __future__ import annotations
-
 import contextlib
 import os
 import socket
@@ -19,10 +17,9 @@ from hsp.proxy import runtime
 from hsp.proxy.runtime import Runtime
 from hsp.proxy.steer import read_anew
 
-from conftest import Hsp
+from conftest import Example, Hsp
 from test_proxy import NETWORKS
 
-Example = Callable[[str], Path]
 Answering = Callable[[socket.socket, bytes], None]
 INFO = b"Name: HAProxy\nPid: 7\nUptime_sec: %b\nStart_time_sec: 5\n"
 TABLE = b"# table: taken\n0x1: key=paris:1 use=0 http_req_cnt=%b http_req_rate(60000)=1\n"
@@ -101,7 +98,6 @@ def test_numbers_of_haproxy_are_read(answering: Callable[[Answering], str]) -> N
 
 @pytest.fixture
 def proxy(hsp: Hsp, example: Example, tmp_path: Path) -> Path:
-    """A folder that hsp wrote, beside that of its service."""
     (tmp_path / "networks.csv").write_text(NETWORKS)
     folder = example("two-sites")
     hsp("export", "haproxy", str(folder), "--into", f"{tmp_path}/proxy", "--regions", f"{tmp_path}/networks.csv")

@@ -1,7 +1,5 @@
 """hsp steer keeps a real HAProxy in step with what its servers were given, whatever ends in between."""
 
-from __future__ import annotations
-
 import contextlib
 import json
 import math
@@ -23,7 +21,10 @@ from typing import Any
 from urllib.parse import quote
 
 import click
+import numpy
 import pytest
+from scipy.sparse import csr_matrix
+from scipy.sparse.csgraph import maximum_flow
 
 from hsp.base.grammar import MOST_SITES
 from hsp.base.held import Watched
@@ -42,13 +43,11 @@ from hsp.proxy.standing import Standing, State, kept, kept_in
 from hsp.proxy.steer import Seconds, _alone, _Loop, _text, read_anew
 from hsp.proxy.steering import Steering, state_of
 
-from lib import examples
-
-from conftest import TOP, WITH_SIGNALS, Hsp, variables
+from conftest import TOP, WITH_SIGNALS, Example, Hsp, until, variables
 from proxies import Front, answering
-from test_proxy import CLIENTS, NAMES, NETWORKS, TRUSTED, expected, put, until, urls_in, urls_text
+from scenarios import service_in
+from test_proxy import CLIENTS, NAMES, NETWORKS, TRUSTED, expected, put, urls_in, urls_text
 
-Example = Callable[[str], Path]
 HANDLE = "20.500.1234/film-5"
 
 
@@ -98,13 +97,11 @@ def front(hsp: Hsp, two: Path, into: Path) -> Iterator[Front]:
 
 
 def beside(into: Path) -> Path:
-    """The folder of another proxy."""
     return into.parent / "other"
 
 
 @pytest.fixture
 def other(hsp: Hsp, two: Path, into: Path) -> Iterator[Front]:
-    """Another proxy of the same service."""
     with answering(hsp, two, beside(into), *TRUSTED) as own:
         yield own
 
@@ -117,8 +114,6 @@ def period_of(seconds: float, passed: float) -> str:
 
 @dataclass
 class Steer:
-    """hsp steer as a process, with what it has printed."""
-
     process: "subprocess.Popen[bytes]"
     out: Path
     err: Path
@@ -215,58 +210,29 @@ def test_a_shortage_leaves_out_as_few_as_hsplan_says(hsp: Hsp, two: Path) -> Non
 
 def many_sites(folder: Path, lot: random.Random, number: int = 32) -> Path:
     """A service of so many sites with more queries than its servers take. Its machines have two servers each."""
-    folder.mkdir()
     names = [f"s{at}" for at in range(number)]
     addresses = {name: [f"10.{at}.0.1", f"10.{at // 2}.0.2"] for at, name in enumerate(names)}
-    records = [(name, examples.site_octets(name, 1, own)) for name, own in addresses.items()]
     hosts = [(f"10.{at}.0.2", lot.randrange(20, 100)) for at in range(number // 2)]
     costs = [(f"r{region}", lot.choice(names), 1 + lot.randrange(99)) for region in range(6) for _ in range(5)]
     rows = [(f"r{lot.randrange(6)}", f"10.1/{at}", round(20 * lot.paretovariate(1.2))) for at in range(60)]
     rooms = [(name, own, lot.randrange(80)) for name in names for own in (1, 2)]
-    (folder / "settings.toml").write_bytes(examples.settings_text(records) + examples.hosts_text(hosts))
     once = {own[:2]: own for own in costs}
-    (folder / "costs.csv").write_bytes(examples.table("region,site,cost", list(once.values())))
-    (folder / "demand.csv").write_bytes(examples.table("region,handle,count", rows))
-    (folder / "capacity.csv").write_bytes(examples.table("site,server_id,capacity", rooms))
-    return folder
+    return service_in(folder, addresses, rows, list(once.values()), rooms, hosts)
 
 
 def most_served(service: Service) -> int:
-    """The most that servers and hosts can take of the demand: a greatest flow, by augmenting paths."""
+    """The most that servers and hosts can take of the demand: a greatest flow."""
     hosts = {host["address"]: host["limit"] for host in service.settings["host"]}
-    server_of = {(own.site, own.id): own for own in service.servers}
-    room: Counter[tuple[Any, Any]] = Counter()
+    room: dict[tuple[Any, Any], int] = {(host, "to"): limit for host, limit in hosts.items()}
     for at, row in enumerate(service.rows):
         room["from", at] = row.count
         room.update({(at, own): row.count for own in service.kind(row)})
-    for own, server in server_of.items():
-        host = server.address if server.address in hosts else "to"
-        room[own, host] = service.capacities[own]
-        if host in hosts:
-            room[host, "to"] = hosts[host]
-    beside: dict[Any, set[Any]] = {}
-    for one, two in list(room):
-        beside.setdefault(one, set()).add(two)
-        beside.setdefault(two, set()).add(one)
-    served = 0
-    while True:
-        came: dict[Any, Any] = {"from": None}
-        waiting = ["from"]
-        for node in waiting:
-            fresh = [own for own in beside[node] if room[node, own] > 0 and own not in came]
-            came.update(dict.fromkeys(fresh, node))
-            waiting += fresh
-        if "to" not in came:
-            return served
-        path = ["to"]
-        while came[path[-1]] is not None:
-            path.append(came[path[-1]])
-        arcs = list(zip(path[1:], path))
-        amount = min(room[arc] for arc in arcs)
-        for one, two in arcs:
-            room[one, two] -= amount
-            room[two, one] += amount
-        served += amount
+    for server in service.servers:
+        room[(server.site, server.id), server.address if server.address in hosts else "to"] = service.capacity(server)
+    nodes = {node: at for at, node in enumerate(dict.fromkeys(node for arc in room for node in arc))}
+    arcs = [[nodes[node] for node in ends] for ends in zip(*room)]
+    graph = csr_matrix((numpy.array([*room.values()], numpy.int32), arcs), (len(nodes), len(nodes)))
+    return int(maximum_flow(graph, nodes["from"], nodes["to"]).flow_value)
 
 
 @pytest.mark.parametrize("seed", range(12))

@@ -1,10 +1,6 @@
 """hsp survive: each fallback against the planner, and purchases by hand and against an integer programme."""
 
-from __future__ import annotations
-
-import csv
 import fcntl
-import io
 import json
 import os
 import random
@@ -30,14 +26,10 @@ from hsp.scenarios.losses import HOST, SERVER, SITE, Loss, losses_of, survived, 
 from hsp.scenarios.nearest import Portions, homes_of
 from hsp.scenarios.purchase import Purchases
 from hsp.scenarios.reserve import reserved
-from lib import examples
 
-from conftest import Hsp
-from scenarios import Example, Flows, demand_of, drawn_service, put
-
-
-def table_of(text: str) -> list[dict[str, str]]:
-    return list(csv.DictReader(io.StringIO(text)))
+from conftest import Example, Hsp
+from scenarios import Flows, demand_of, drawn_service, put, service_in
+from services import read, table_of
 
 
 def own_without(service: Service, programs: Programs, kind: str, what: str) -> tuple[str, str]:
@@ -51,8 +43,7 @@ def own_without(service: Service, programs: Programs, kind: str, what: str) -> t
     return programs.put_table(HEADERS["costs"], costs), capacity_file(programs, rooms)
 
 
-def test_two_sites_lose_all(hsp: Hsp, example: Example) -> None:
-    folder = example("two-sites")
+def test_two_sites_lose_all(hsp: Hsp, folder: Path) -> None:
     printed = hsp("survive", str(folder), "--buy", status=3).stdout
     assert "buy   room for 5,174 queries more" in printed
     assert "no purchase below 5,174 does, by 2 short sets of weight 1" in printed
@@ -62,8 +53,7 @@ def test_two_sites_lose_all(hsp: Hsp, example: Example) -> None:
 def test_each_loss_is_planned_and_judged(hsp: Hsp, tmp_path: Path, seed: int) -> None:
     """Costs and lacks are the planner's over tables that are made here, and each fallback has a yes by these."""
     folder = drawn_service(random.Random(seed), tmp_path / "it", hosts=bool(seed % 2))
-    programs = Programs()
-    service = read_service(str(folder), programs, {})
+    service, programs = read(folder)
     if not service.certificate.is_plan:
         assert "with nothing lost" in hsp("survive", str(folder), status=3).stdout
         return
@@ -208,17 +198,9 @@ def test_a_link_that_is_planted_after_the_check_is_not_followed(
 
 
 def three_sites(folder: Path, room: int) -> Path:
-    """Three sites of one server each, and 300 queries."""
-    sites = [(name, examples.site_octets(name, 1, [f"192.0.2.{at}"])) for at, name in enumerate("abc")]
-    return put(
-        folder,
-        {
-            "settings.toml": examples.settings_text(sites),
-            "demand.csv": demand_of([("x", "20.1/0", 300)]),
-            "costs.csv": examples.table("region,site,cost", [("x", name, 1 + at) for at, name in enumerate("abc")]),
-            "capacity.csv": examples.table("site,server_id,capacity", [(name, 1, room) for name in "abc"]),
-        },
-    )
+    sites = {name: [f"192.0.2.{at}"] for at, name in enumerate("abc")}
+    costs = [("x", name, 1 + at) for at, name in enumerate("abc")]
+    return service_in(folder, sites, [("x", "20.1/0", 300)], costs, [(name, 1, room) for name in "abc"])
 
 
 def test_three_sites_want_half_weights(hsp: Hsp, tmp_path: Path) -> None:
@@ -243,25 +225,13 @@ def least_by_programme(service: Service, losses: list[Loss], programs: Judged) -
     rows, low, high = [], [], []
     begin = len(servers)
     for loss, part in zip(losses, parts):
-        left = part.service
-        for own, row in enumerate(left.rows):
+        for at, (own, least, most) in enumerate(part.bounds(), -len(part.service.rows)):
             weights = numpy.zeros(width)
-            weights[begin : begin + part.number] = [float(at == own) for at, _ in part.arcs]
-            rows.append(weights), low.append(row.count), high.append(row.count)
-        for server in servers:
-            weights = numpy.zeros(width)
-            weights[begin : begin + part.number] = [
-                float(left.server(at, left.rows[row].handle) == server) for row, at in part.arcs
-            ]
-            if server not in loss.servers:
-                weights[server.number] = -1
-            rows.append(weights), low.append(-numpy.inf), high.append(left.capacity(server))
-        for host in service.settings.get("host", []):
-            weights = numpy.zeros(width)
-            weights[begin : begin + part.number] = [
-                float(left.server(at, left.rows[row].handle).address == host["address"]) for row, at in part.arcs
-            ]
-            rows.append(weights), low.append(0), high.append(host["limit"])
+            weights[begin : begin + part.number] = own
+            is_server = 0 <= at < len(servers)
+            if is_server and servers[at] not in loss.servers:
+                weights[at] = -1
+            rows.append(weights), low.append(-numpy.inf if is_server else least), high.append(most)
         begin += part.number
     found = optimize.milp(
         numpy.r_[numpy.ones(len(servers)), numpy.zeros(width - len(servers))],
@@ -306,8 +276,7 @@ def test_the_rounds_run_out(tmp_path: Path, monkeypatch: pytest.MonkeyPatch, hsp
     assert "less than 0 can't do, by 0 short sets; between the two it's open" in printed
 
 
-def test_the_page_shows_losses_and_growth(hsp: Hsp, example: Example) -> None:
-    folder = example("two-sites")
+def test_the_page_shows_losses_and_growth(hsp: Hsp, folder: Path) -> None:
     hsp("view", str(folder), "--more")
     page = (folder / "plan.html").read_text()
     for words in (
@@ -324,8 +293,7 @@ def test_the_page_shows_losses_and_growth(hsp: Hsp, example: Example) -> None:
     assert lines[-2].startswith("loss  without site reston short by 3,272 queries; 0 of 8 losses leave a plan")
 
 
-def test_the_plan_before_is_known_where_it_is_kept(hsp: Hsp, example: Example, tmp_path: Path) -> None:
-    folder = example("two-sites")
+def test_the_plan_before_is_known_where_it_is_kept(hsp: Hsp, folder: Path, tmp_path: Path) -> None:
     hsp("plan", str(folder))
     capacity = folder / "capacity.csv"
     capacity.write_text(capacity.read_text().replace("paris,2,1510", "paris,2,1723"))
@@ -333,9 +301,7 @@ def test_the_plan_before_is_known_where_it_is_kept(hsp: Hsp, example: Example, t
     lines = hsp("plan", str(folder), "--more").stdout
     assert "moves 3.4% of the queries since the plan before" in lines
     hsp("view", str(folder), "--before", str(old))
-    assert (
-        "<dt>Moves</dt><dd><b>3.4%</b><small>213 queries since the plan before" in (folder / "plan.html").read_text()
-    )
+    assert "<dt>Moves</dt><dd><b>3.4%</b><small>213 queries since the plan before" in (folder / "plan.html").read_text()
 
 
 def test_a_plan_less_a_reserve_is_answered_by_many(hsp: Hsp, example: Example) -> None:
@@ -352,9 +318,8 @@ def test_a_plan_less_a_reserve_is_answered_by_many(hsp: Hsp, example: Example) -
         of_these_files(str(folder), programs, inputs, str(plan))
 
 
-def test_a_plan_less_a_reserve_is_no_old_plan(hsp: Hsp, example: Example) -> None:
+def test_a_plan_less_a_reserve_is_no_old_plan(hsp: Hsp, folder: Path) -> None:
     """The doctor judges it by the capacities that are kept beside it, until the folder's own are newer."""
-    folder = example("two-sites")
     hsp("plan", str(folder), "--reserve", "5", "--settings", str(folder / "settings.toml"))
     assert "the plan isn't" not in hsp("doctor", str(folder)).stdout
     kept = folder / "capacity-less-reserve.csv"
@@ -365,9 +330,8 @@ def test_a_plan_less_a_reserve_is_no_old_plan(hsp: Hsp, example: Example) -> Non
     assert "the plan isn't one of these files" in hsp("doctor", str(folder)).stdout
 
 
-def test_what_is_kept_back_is_said_exactly(hsp: Hsp, example: Example) -> None:
+def test_what_is_kept_back_is_said_exactly(hsp: Hsp, folder: Path) -> None:
     """Not as 100% or 12.3457%."""
-    folder = example("two-sites")
     for part in ("99.9999999", "12.3456789", "0.000000001", "2.5", "10"):
         words = ("plan", str(folder), "--reserve", part, "--no-save")
         assert f", {part}% of each capacity kept back" in hsp(*words, status=3 if float(part) > 50 else 0).stdout
@@ -389,9 +353,8 @@ def bought_by(text: str, folder: Path) -> None:
 
 
 @pytest.mark.parametrize("part", ["20", "33.3", "7"])
-def test_a_purchase_serves_where_a_part_of_it_is_kept_back(hsp: Hsp, example: Example, part: str) -> None:
+def test_a_purchase_serves_where_a_part_of_it_is_kept_back(hsp: Hsp, folder: Path, part: str) -> None:
     """What is bought is more than what has to remain of it."""
-    folder = example("two-sites")
     if part != "7":
         bought_by(hsp("plan", str(folder), "--reserve", part, "--no-save", status=3).stdout, folder)
     hsp("plan", str(folder), "--reserve", part, "--no-save")
@@ -416,9 +379,8 @@ def test_no_less_is_bought_so_that_as_much_remains(example: Example, part: Fract
 
 
 @pytest.mark.parametrize("part", ["20", "33.3"])
-def test_other_programs_and_the_page_have_what_to_buy(hsp: Hsp, example: Example, part: str) -> None:
+def test_other_programs_and_the_page_have_what_to_buy(hsp: Hsp, folder: Path, part: str) -> None:
     """What has to remain of it stands beside it."""
-    folder = example("two-sites")
     words = ("plan", str(folder), "--no-save", "--reserve", part)
     purchase = json.loads(hsp(*words, "--json", status=3).stdout)["least_purchase"]
     assert purchase and all(it["more"] > it["remains"] > 0 for it in purchase)
@@ -438,16 +400,9 @@ def test_other_programs_and_the_page_have_what_to_buy(hsp: Hsp, example: Example
 def test_all_servers_of_a_purchase_are_shown(hsp: Hsp, tmp_path: Path) -> None:
     """Each loss of one of eight sites of 100 lacks 50 of 750, so the least purchase is spread over all of them."""
     folder, names = tmp_path / "eight", "abcdefgh"
-    sites = [(name, examples.site_octets(name, 1, [f"192.0.2.{at}"])) for at, name in enumerate(names)]
-    put(
-        folder,
-        {
-            "settings.toml": examples.settings_text(sites),
-            "demand.csv": demand_of([("x", "20.1/0", 750)]),
-            "costs.csv": examples.table("region,site,cost", [("x", name, 1) for name in names]),
-            "capacity.csv": examples.table("site,server_id,capacity", [(name, 1, 100) for name in names]),
-        },
-    )
+    sites = {name: [f"192.0.2.{at}"] for at, name in enumerate(names)}
+    costs, rooms = [("x", name, 1) for name in names], [(name, 1, 100) for name in names]
+    service_in(folder, sites, [("x", "20.1/0", 750)], costs, rooms)
     words = ("survive", str(folder), "--buy", "--no-save")
     line = next(it for it in hsp(*words, status=3).stdout.splitlines() if it.startswith("buy"))
     number = re.match(r"buy   room for (\d+) queries more at (\d) servers serves every loss: ", line)

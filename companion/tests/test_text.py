@@ -1,7 +1,5 @@
 """What reaches a terminal or a page: no field of a file steers it, forges a line, or turns its direction."""
 
-from __future__ import annotations
-
 import json
 import os
 import pty
@@ -9,7 +7,6 @@ import re
 import subprocess
 import sys
 import unicodedata
-from collections.abc import Callable
 from pathlib import Path
 from xml.etree import ElementTree
 
@@ -17,10 +14,9 @@ import pytest
 
 from hsp.base.text import UNSEEN, escaped
 
-from conftest import TOP, variables
+from conftest import TOP, Example, variables
 from test_sites import ADMIN, invoke, site_json, value_json
 
-Example = Callable[[str], Path]
 # An escape sequence, its ends, a line of our own, another line end, and marks of direction.
 HOSTILE = "\x1b]0;pwned\x07\x1b[2J\x9b2J\nhsp: all is well\r\u2028\u202edlrow\u2066"
 SHOWN = r"\x1b]0;pwned\x07\x1b[2J\x9b2J\nhsp: all is well\r\u2028\u202edlrow\u2066"
@@ -151,8 +147,7 @@ def missing(folder: Path) -> Path:
     return other
 
 
-def test_a_file_that_is_absent_forges_no_line(example: Example) -> None:
-    folder = example("two-sites")
+def test_a_file_that_is_absent_forges_no_line(folder: Path) -> None:
     given = ["--demand", f"{folder}/none{HOSTILE}", "--costs", f"{folder}/other{HOSTILE}"]
     text = lines_of("plan", folder, *given, status=5)
     assert "/none" in text and "/other" in text
@@ -160,7 +155,6 @@ def test_a_file_that_is_absent_forges_no_line(example: Example) -> None:
 
 
 def at_terminal(*words: object) -> str:
-    """What a command prints at a terminal."""
     leader, follower = pty.openpty()
     environment = variables(TERM="xterm")
     command = [sys.executable, "-m", "hsp", *map(str, words)]
@@ -190,9 +184,8 @@ def test_a_terminal_gets_only_colours(hostile: Path, tmp_path: Path) -> None:
     assert COLOUR.search(plan)
 
 
-def test_no_colour_of_a_file_reaches_a_terminal(example: Example) -> None:
+def test_no_colour_of_a_file_reaches_a_terminal(folder: Path) -> None:
     """One could hide what follows, or show a fault in green. Those of hsp's own stay."""
-    folder = example("two-sites")
     (folder / "hsp.toml").write_text('title = "a\\u001b[8mb\\u001b[32m"\n')
     plan = at_terminal("plan", folder)
     assert plan.startswith("\x1b[1ma\\x1b[8mb\\x1b[32m\x1b[0m")

@@ -1,7 +1,5 @@
 """A demand that an older hsp joined by kinds or counted in units: each command refuses it until it's counted again."""
 
-from __future__ import annotations
-
 import re
 import shutil
 import tomllib
@@ -14,8 +12,7 @@ from hsp.base.unfit import Unfit
 from hsp.plans.titles import REMEDY, uncounted
 from hsp.proxy.steer import read_anew
 
-from conftest import TOP, Hsp
-from scenarios import Example
+from conftest import TOP, Example, Hsp
 from services import random_service
 from test_sites import invoke
 
@@ -77,8 +74,7 @@ def test_each_command_says_what_to_do(hsp: Hsp, example: Example, tmp_path: Path
     hsp("plan", str(old), "--demand", str(new / "demand.csv"), "--no-save")
 
 
-def test_a_day_names_the_hour(hsp: Hsp, example: Example) -> None:
-    folder = example("two-sites")
+def test_a_day_names_the_hour(hsp: Hsp, folder: Path) -> None:
     for hour in ("h00", "h01"):
         (folder / hour).mkdir()
         shutil.copy(folder / "demand.csv", folder / hour)

@@ -1,7 +1,5 @@
 """From what an operator has to a checked plan: a proxy's JSON of nine sites, a log with times, and a table of pings."""
 
-from __future__ import annotations
-
 import json
 import random
 import time
@@ -54,9 +52,7 @@ def access_log(draw: random.Random) -> str:
         timers = f"0/0/1/{spent}/{spent + 1} 302 99 - - ---- 9/9/0/0/0 0/0"
         handle = f"20.500.1/item-{min(HANDLES - 1, int(draw.paretovariate(0.7)))}"
         server = f"b/{site}-{1 + number % servers_of(site)}"
-        lines.append(
-            f'10.{region}.0.{1 + number % 99}:40000 [{clock}] f {server} {timers} "GET /{handle} HTTP/1.1"\n'
-        )
+        lines.append(f'10.{region}.0.{1 + number % 99}:40000 [{clock}] f {server} {timers} "GET /{handle} HTTP/1.1"\n')
     return "".join(lines)
 
 
@@ -65,9 +61,7 @@ def test_from_json_log_and_pings_to_a_checked_plan(tmp_path: Path, hsp_apart: Hs
     (tmp_path / "access.log").write_text(access_log(random.Random(9)))
     networks = "".join(f"10.{at}.0.0/16,{region}\n" for at, region in enumerate(REGIONS))
     (tmp_path / "networks.csv").write_text(f"network,region\n{networks}")
-    pings = "".join(
-        f"{region},{','.join(str(way(region, site) + 1.5) for site in SITES)}\n" for region in REGIONS[:3]
-    )
+    pings = "".join(f"{region},{','.join(str(way(region, site) + 1.5) for site in SITES)}\n" for region in REGIONS[:3])
     (tmp_path / "pings.csv").write_text(f"region,{','.join(SITES)}\n{pings}")
     answer, log, nets, table, mine = (
         str(tmp_path / name) for name in ("answer.json", "access.log", "networks.csv", "pings.csv", "mine")

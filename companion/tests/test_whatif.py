@@ -1,12 +1,7 @@
 """hsp whatif, against plans of changed inputs."""
 
-from __future__ import annotations
-
-import csv
-import io
 import re
 import shutil
-from collections.abc import Callable
 from pathlib import Path
 from xml.etree import ElementTree
 
@@ -16,18 +11,17 @@ from hsp.base.programs import Programs
 from hsp.plans.plans import capacity_file
 from hsp.plans.service import read_service
 
-from conftest import Hsp
-
-Example = Callable[[str], Path]
+from conftest import Example, Hsp, rewrite
+from services import read, rows, table_of
 
 
 def cases(hsp: Hsp, *words: str) -> list[dict[str, str]]:
-    return list(csv.DictReader(io.StringIO(hsp("whatif", *words, "--csv").stdout)))
+    return table_of(hsp("whatif", *words, "--csv").stdout)
 
 
 def test_each_case_is_a_plan_of_hsplan(hsp: Hsp, example: Example) -> None:
-    folder, programs = example("two-sites"), Programs()
-    service = read_service(str(folder), programs, {})
+    folder = example("two-sites")
+    service, programs = read(folder)
     found = cases(hsp, str(folder))
     assert [it["case"] for it in found] == ["more", "more", "lost", "lost", "demand"]
     for it in found[:2]:
@@ -46,17 +40,11 @@ def changes_of(hsp: Hsp, folder: Path) -> dict[str, int]:
     return {it["what"]: abs(int(it["change"])) for it in cases(hsp, str(folder)) if it["change"]}
 
 
-def test_a_demand_may_grow_beyond_a_table(hsp: Hsp, example: Example) -> None:
+def test_a_demand_may_grow_beyond_a_table(hsp: Hsp, folder: Path) -> None:
     """A table has counts up to 1,000,000. What is more is planned as a log is, and costs a tenth more where all ask
     their cheapest site."""
-    folder = example("two-sites")
     (folder / "demand.csv").write_text("region,handle,count\neu,20.500.1234/film-5,1000000\nus,20.500.1234/a,20\n")
-    rows = [
-        f"{site},{server},9000000"
-        for site, servers in (("paris", 2), ("reston", 3))
-        for server in range(1, servers + 1)
-    ]
-    (folder / "capacity.csv").write_text("\n".join(["site,server_id,capacity", *rows, ""]))
+    rewrite(folder / "capacity.csv", r"\d+$", "9000000")
     now = 12 * 1_000_000 + 17 * 20
     last = cases(hsp, str(folder))[-1]
     assert (last["case"], int(last["cost"]), int(last["change"])) == ("demand", now * 11 // 10, now // 10)
@@ -93,35 +81,24 @@ def test_all_bars_of_a_terminal_have_one_scale(hsp: Hsp, example: Example) -> No
             assert drawn == wanted, line
 
 
-def test_charts_are_svg(hsp: Hsp, example: Example) -> None:
-    folder = example("two-sites")
+def test_charts_are_svg(hsp: Hsp, folder: Path) -> None:
     for words in ([], ["--server", "paris:2"]):
         chart = folder / "chart.svg"
         hsp("whatif", str(folder), *words, "--chart", str(chart))
         assert ElementTree.parse(chart).getroot().tag.endswith("svg")
 
 
-def test_more_room_is_more_by_the_step(hsp: Hsp, example: Example) -> None:
+def test_more_room_is_more_by_the_step(hsp: Hsp, folder: Path) -> None:
     """10% of 1,500, 25% of 1,510 rounded, and one where the step is less than a query."""
-    folder = example("two-sites")
-    room = {it.label: service_room(folder, it.label) for it in read_service(str(folder), Programs(), {}).servers}
+    room = {f"{site} {own}": int(room) for site, own, room in rows(folder / "capacity.csv")}
     for step, wanted in (("10", lambda it: it + round(it / 10)), ("25", lambda it: it + round(it / 4))):
-        found = {
-            it["what"]: int(it["room"]) for it in cases(hsp, str(folder), "--step", step) if it["case"] == "more"
-        }
+        found = {it["what"]: int(it["room"]) for it in cases(hsp, str(folder), "--step", step) if it["case"] == "more"}
         assert found == {what: wanted(room[what]) for what in found} and len(found) == 2
     found = {it["what"]: int(it["room"]) for it in cases(hsp, str(folder), "--step", "0.1") if it["case"] == "more"}
     assert found == {what: room[what] + round(room[what] / 1000) for what in found}
     (folder / "capacity.csv").write_text((folder / "capacity.csv").read_text().replace("paris,2,1510", "paris,2,9"))
     for it in cases(hsp, str(folder), "--step", "0.1"):
         assert it["what"] != "paris 2" or it["case"] != "more" or int(it["room"]) == 10
-
-
-def service_room(folder: Path, label: str) -> int:
-    """The capacity of a server, by the file."""
-    site, _, number = label.partition(" ")
-    rows = csv.DictReader((folder / "capacity.csv").open())
-    return next(int(it["capacity"]) for it in rows if (it["site"], it["server_id"]) == (site, number))
 
 
 def number_in(text: str | None) -> int | None:
@@ -160,9 +137,8 @@ def test_a_curve_has_its_numbers_where_they_belong(hsp: Hsp, example: Example) -
         assert y + 4 == pytest.approx(up[0][0] + each * (costs[room] - up[0][1]), abs=0.3)
 
 
-def test_changes_are_one_plan_together(hsp: Hsp, example: Example) -> None:
+def test_changes_are_one_plan_together(hsp: Hsp, folder: Path) -> None:
     """Two servers, a cost, a region and a handle by a factor: the plan of the changed files."""
-    folder = example("two-sites")
     changed = folder.parent / "changed"
     words = ["--server", "paris:1=1700", "--server", "reston:3=1200", "--cost", "us:paris=60"]
     words += ["--times", "eu=0.5", "--times", "20.500.1234/film-5=1.5"]

@@ -1,20 +1,15 @@
 """hsp plan --within and hsp within: a bound of what a query may cost, with a certificate for each side of it."""
 
-from __future__ import annotations
-
 import re
 import shutil
-from collections.abc import Callable
 from pathlib import Path
 
 import pytest
 
 from hsp.base.programs import Inputs, Programs
 
-from conftest import Hsp
+from conftest import Example, Hsp
 from services import rows
-
-Example = Callable[[str], Path]
 
 
 def verdict(folder: Path, costs: Path, certificate: Path) -> tuple[str, bool]:
@@ -47,8 +42,7 @@ def test_the_least_bound_has_a_plan_and_the_one_below_has_none(
     assert verdict(folder, folder / "costs-within.csv", folder / "plan.txt") == ("yes", True)
 
 
-def test_a_plan_within_a_bound_is_kept_with_its_costs_until_the_next_one(example: Example, hsp: Hsp) -> None:
-    folder = example("two-sites")
+def test_a_plan_within_a_bound_is_kept_with_its_costs_until_the_next_one(folder: Path, hsp: Hsp) -> None:
     said = hsp("plan", str(folder), "--within", "150", "--reserve", "2").stdout
     assert ", 2% of each capacity kept back, no query costs more than 150\n" in said.replace(" ms", "")
     costs, room = folder / "costs-within.csv", folder / "capacity-less-reserve.csv"
@@ -64,8 +58,7 @@ def test_a_plan_within_a_bound_is_kept_with_its_costs_until_the_next_one(example
     hsp("plan", str(folder), "--within", "-1", status=2)
 
 
-def test_who_is_short_is_named(example: Example, hsp: Hsp) -> None:
-    folder = example("two-sites")
+def test_who_is_short_is_named(folder: Path, hsp: Hsp) -> None:
     said = hsp("plan", str(folder), "--within", "142", "--no-save", status=3).stdout
     assert "why   asia has no site within 142" in said and "from  asia (1,455)\n" in said
     assert "give costs" not in said
@@ -73,8 +66,7 @@ def test_who_is_short_is_named(example: Example, hsp: Hsp) -> None:
     assert "short " in said and "give costs" not in said
 
 
-def test_a_bound_of_a_log_is_found_by_prices(example: Example, hsp: Hsp) -> None:
-    folder = example("two-sites")
+def test_a_bound_of_a_log_is_found_by_prices(folder: Path, hsp: Hsp) -> None:
     rows_ = "".join(f"eu,20.500.1234/item-{number},1\n" for number in range(8200)) + "asia,20.500.1234/a,1\n"
     (folder / "demand.csv").write_text(f"region,handle,count\n{rows_}")
     (folder / "capacity.csv").write_text(
@@ -90,8 +82,7 @@ def test_a_bound_of_a_log_is_found_by_prices(example: Example, hsp: Hsp) -> None
     assert (folder / "within" / "short.txt").read_text().startswith("HSPLAN PRICES 1\nSHORT\n")
 
 
-def test_bounds_that_cannot_be_found_are_refused(example: Example, hsp: Hsp) -> None:
-    folder = example("two-sites")
+def test_bounds_that_cannot_be_found_are_refused(folder: Path, hsp: Hsp) -> None:
     for costs in ("eu,paris,0\nus,paris,0\nasia,paris,0\n", "eu,paris,5\nus,paris,5\nasia,paris,5\n"):
         (folder / "costs.csv").write_text(f"region,site,cost\n{costs}")
         (folder / "capacity.csv").write_text(

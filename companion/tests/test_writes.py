@@ -1,7 +1,5 @@
 """What hsp writes: nothing is lost or mixed between runs, and nothing is left where a run is stopped."""
 
-from __future__ import annotations
-
 import contextlib
 import csv
 import fcntl
@@ -11,7 +9,6 @@ import signal
 import subprocess
 import sys
 import time
-from collections.abc import Callable
 from pathlib import Path
 
 import pytest
@@ -20,11 +17,9 @@ from hsp.base import files, signals
 from hsp.base.programs import Missing, Programs
 from hsp.base.unfit import Unfit
 
-from conftest import WITH_SIGNALS, children, named, variables
+from conftest import WITH_SIGNALS, Example, children, named, until, variables
 from lib.companion import archive
 from test_sites import PARIS, RESTON
-
-Example = Callable[[str], Path]
 
 
 def started(*words: object, **more: str) -> "subprocess.Popen[str]":
@@ -35,7 +30,6 @@ def started(*words: object, **more: str) -> "subprocess.Popen[str]":
 
 
 def log_of(path: Path, word: str, lines: int) -> Path:
-    """A log whose handles all have a word."""
     rows = [f"192.0.2.1,20.500.1234/{word}-{number}\n" for number in range(lines)]
     path.write_text("client,handle\n" + "".join(rows))
     return path
@@ -188,11 +182,10 @@ def test_a_stopped_command_leaves_nothing(
     before = sorted(os.listdir(folder))
     slow = str(slow_program(tmp_path, "slow"))
     run = started(*own.get(command, [command, folder]), TMPDIR=str(room), HSPLAN=slow)
-    until = time.monotonic() + 20
-    while time.monotonic() < until:
-        if list(room.glob("hsp-*")) if command == "demand" else any(named(it, "sleep") for it in children(run.pid)):
-            break
-        time.sleep(0.02)
+    if command == "demand":
+        until(lambda: list(room.glob("hsp-*")), 20)
+    else:
+        until(lambda: any(named(it, "sleep") for it in children(run.pid)), 20)
     time.sleep(0.3 if command == "demand" else 0)  # it waits for the other end of the pipe
     assert run.poll() is None and list(room.glob("hsp-*/*" if command == "sites" else "hsp-*"))
     run.send_signal(number)
@@ -208,9 +201,7 @@ def test_an_interrupt_while_modules_are_read_shows_no_traceback(tmp_path: Path, 
     words = ["-m", "hsp"] if way == "package" else [str(tmp_path / "hsp")]
     own = variables()
     own["PYTHONPATH"] = os.pathsep.join([str(tmp_path), own["PYTHONPATH"]])
-    run = subprocess.run(
-        [*WITH_SIGNALS, sys.executable, *words, "--version"], env=own, capture_output=True, text=True
-    )
+    run = subprocess.run([*WITH_SIGNALS, sys.executable, *words, "--version"], env=own, capture_output=True, text=True)
     assert (run.returncode, run.stdout, run.stderr) == (-signal.SIGINT, "", "")
 
 

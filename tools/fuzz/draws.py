@@ -1,6 +1,5 @@
 """What inputs are drawn: texts that are changed at random, services with their logs, and records, lists and bodies
 (RFC 3651, section 3; RFC 3652, section 3), each written as a list of its fields."""
-from __future__ import annotations
 
 import re
 from collections.abc import Callable, Iterable, Mapping, Sequence
@@ -34,7 +33,6 @@ OTHER = st.one_of(st.integers(0, 2000), pick([10**6, 10**12, 10**16]))
 
 
 def at_random(draw: Draw, most: int) -> int:
-    """A number from 0 to the greatest."""
     return int(draw(PART) * (most + 1) >> 16)
 
 
@@ -101,7 +99,6 @@ class Where(NamedTuple):
         return text + self.more + self.cut(text)
 
     def ordered(self, parts: Sequence[Any]) -> list[Any]:
-        """The parts in another order."""
         places = sorted(range(len(parts)), key=lambda at: hash((self.order, at)))
         return [parts[at] for at in places]
 
@@ -124,7 +121,6 @@ def run(octets: bytes) -> list[bytes]:
 
 
 def several(parts: Sequence[Iterable[bytes]]) -> list[bytes]:
-    """A count, and the fields of so many parts."""
     return [number(len(parts)), *chain(*parts)]
 
 
@@ -167,7 +163,6 @@ def _listed(first: int, sought: int, values: list[tuple[Written, bytes, list[byt
 
 
 def body_of(handle: bytes, indices: Sequence[int] = (), kinds: Sequence[bytes] = ()) -> bytes:
-    """A request body of a handle."""
     return b"".join([*run(handle), *several([[number(it)] for it in indices]), *several(list(map(run, kinds)))])
 
 
@@ -243,12 +238,7 @@ class Log(NamedTuple):
 
 
 # Rows that are refused, of handles and of bodies, by the words of their faults.
-BAD = {
-    "NoSlash": b"eu,10",
-    "EmptySegment": b"eu,/x",
-    "NotUtf8": b"eu,10/\xff",
-    "TooLong": b"eu,10/" + b"x" * 4094,
-}
+BAD = {"NoSlash": b"eu,10", "EmptySegment": b"eu,/x", "NotUtf8": b"eu,10/\xff", "TooLong": b"eu,10/" + b"x" * 4094}
 REFUSED_HANDLES = [(row, f"BadHandle {word}") for word, row in BAD.items()]
 REFUSED_BODIES = [(b"eu,zz", "BadBody"), (b"eu,", "BadBody"), (b"eu,000000023130" + b"00" * 8, "BadHandle NoSlash")]
 REFUSED = {

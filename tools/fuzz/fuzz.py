@@ -15,7 +15,6 @@ it, where the answers to written logs are those of tools/lib/oracle.py, in price
 certificates by prices are those of tools/lib/price_verdicts.py, and in price_answer_judges.py, where the answers by
 them are those of tools/lib/price_answers.py. The gate doesn't run this script.
 """
-from __future__ import annotations
 
 import argparse
 import concurrent.futures

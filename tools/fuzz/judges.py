@@ -1,5 +1,4 @@
 """Judges the answers of `hsplan`, without a second implementation."""
-from __future__ import annotations
 
 import re
 from functools import partial

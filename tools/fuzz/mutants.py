@@ -4,10 +4,7 @@ refuses it.
 
     tools/fuzz/mutants.py [--jobs N] [--seconds N] [CRATE | CRATE/NAME]..
 
-The prover lets most of these bodies pass: a contract allows out of memory at any time, and is silent on speed,
-streams and the texts of faults. So a test has to find them. The others turn a public call that an edit of the gate
-turns already, in another way, or a definition so that a law no longer holds: the prover has to refuse them. An edit
-mutants/CRATE/NAME.edit has lines like those of a must-fail edit, and one that names what has to refuse it:
+An edit mutants/CRATE/NAME.edit has lines like those of a must-fail edit, and one that names what has to refuse it:
 
   file: src/FILE.rt     the file of crates/CRATE that is changed
   test: CRATE NAME      a test, by its own name, of this crate or of one above it
@@ -19,13 +16,10 @@ mutants/CRATE/NAME.edit has lines like those of a must-fail edit, and one that n
   old: TEXT             a text that stands in the file once
   new: TEXT             what stands in its place
 
-For tests and cases nothing is proved: `rt try` runs the tests and the programs with checks. First each test and each
-case that an edit
-names has to pass on the sources as they stand. An edit is refused where its test fails, or where a case that it names
-has another output or another end. Sources that do not compile, and a run without an end, refuse nothing. If crates or
-edits are named, only these are tried. `rt must-fail` tries those of the prover, over proofs of the crates.
+For tests and cases nothing is proved: `rt try` runs them with checks. First each has to pass on the sources as they
+stand. Sources that do not compile, and a run without an end, refuse nothing. If crates or edits are named, only these
+are tried. `rt must-fail` tries those of the prover, over proofs of the crates.
 """
-from __future__ import annotations
 
 import argparse
 import concurrent.futures
@@ -93,9 +87,7 @@ def read_mutant(path: str) -> Mutant:
         raise ValueError(f"{path}: a line is missing, or there is one too many")
     if kinds == ["test"] and len(found["test"].split()) != 2 or "refused" in found and kinds != ["test"]:
         raise ValueError(f"{path}: a test has a crate and a name, and only a test can have an allocation refused")
-    return Mutant(
-        crate, name, found["file"], list(zip(old, new)), kinds[0], found[kinds[0]], found.get("refused", "")
-    )
+    return Mutant(crate, name, found["file"], list(zip(old, new)), kinds[0], found[kinds[0]], found.get("refused", ""))
 
 
 def read_mutants(wanted: list[str]) -> list[Mutant]:
@@ -104,7 +96,6 @@ def read_mutants(wanted: list[str]) -> list[Mutant]:
 
 
 def changed(mutant: Mutant) -> str:
-    """The text of the file with the wrong body in it."""
     text = programs.text_of("crates", mutant.crate, mutant.file)
     for old, new in mutant.pairs:
         if text.count(old) != 1:
@@ -215,7 +206,6 @@ class Room:
             self.free.put(folder)
 
     def with_text(self, text: str) -> list[Case]:
-        """The cases of hsplan-stream with this text."""
         shown = [(case, b" ".join((case.words or b"", case.given, case.reported))) for case in self.streams]
         return [case for case, octets in shown if text.encode() in octets]
 
@@ -240,9 +230,7 @@ class Room:
         return [mutant.by.split()[-1] if mutant.kind == "test" else mutant.by]
 
     def worst(self, mutant: Mutant, found: dict[str, str]) -> str:
-        return min(
-            (found.get(name, "not run") for name in self.wanted(mutant)), key=OUTCOMES.index, default="not run"
-        )
+        return min((found.get(name, "not run") for name in self.wanted(mutant)), key=OUTCOMES.index, default="not run")
 
     def use(self, work: Callable[[str], tuple[bool, str]]) -> tuple[bool, str]:
         folder = self.free.get()
@@ -315,7 +303,9 @@ def refused_by_prover(top: str, mutants: list[Mutant]) -> bool:
     if not mutants:
         return True
     copy = os.path.join(top, "proved")
-    shutil.copytree(programs.TOP, copy, ignore=shutil.ignore_patterns("out", "must-fail", ".git", "release", "examples"))
+    shutil.copytree(
+        programs.TOP, copy, ignore=shutil.ignore_patterns("out", "must-fail", ".git", "release", "examples")
+    )
     for mutant in mutants:
         folder = Path(copy, "crates", mutant.crate, "must-fail")
         folder.mkdir(exist_ok=True)

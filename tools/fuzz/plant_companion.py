@@ -1,19 +1,18 @@
 #!/usr/bin/env python3
 """Plants wrong expressions in copies of the companion, one in each, and names those that its tests let pass.
 
-    tools/fuzz/plant_companion.py [--reached FILE] [--number N] [--seed S] [--jobs J] [--only MODULE] [--list]
+    tools/fuzz/plant_companion.py --reached FILE [--number N] [--seed S] [--jobs J] [--only MODULE]
+    tools/fuzz/plant_companion.py --list [--number N] [--seed S] [--only MODULE]    prints the changes, and runs nothing
 
 A change is drawn by the seed: a comparison turned, an operator or a constant exchanged, a condition negated, arguments
 swapped, a statement left out. The arguments of `max` and `min` and `frozen` of dataclasses stay: nobody sees a change.
-Tests are run until one fails. `FILE` is what `tools/measure/cover_companion.py --data FILE` keeps: with it these are
-the tests that reach the changed line, those of its module first and dear ones last, as long as they take a minute and
-a half together. Of a value that a module names, these reach a line that uses the name; of a default, a line of the
-function. Without `FILE` the tests are those that `TESTS` names for the module.
+Tests are run until one fails: those that reach the changed line by `FILE`, which `tools/measure/cover_companion.py
+--data FILE` keeps, cheap ones first, as long as they take a minute and a half together. Of a value that a module names,
+these reach a line that uses the name; of a default, a line of the function.
 
 Printed are the changes that no test refused, and how many there were. Some of these change nothing that anybody sees:
-a person judges that. `--list` prints the changes and runs nothing. The gate doesn't run this script.
+a person judges that. The gate doesn't run this script.
 """
-from __future__ import annotations
 
 import argparse
 import ast
@@ -41,28 +40,9 @@ from lib import programs
 
 
 PYTHON = "/usr/bin/python3"
-# Seconds that a test takes at most, and those that are added where it is known how long it takes.
-SECONDS, MORE = 900, 100
-# Tests of a line are run as long as these measured seconds together, and one that takes more is run late.
-MOST, DEAR = 90.0, 4.0
+# Seconds that a run gets beside four times what its tests took, and the measured seconds of all tests of a line.
+MORE, MOST = 100, 90.0
 COMPANION = os.path.join(programs.TOP, "companion")
-# The tests of a module, by the beginning of its path; the first that fits counts. The transcripts try each.
-TESTS = {
-    "fleet/": "test_fleet test_bounds",
-    "doctor/guard": "test_bounds",
-    "doctor/": "test_doctor_rows test_doctor_parts test_doctor_cut_short test_doctor_random",
-    "plans/page": "test_page test_text",
-    "plans/charts": "test_exact test_whatif test_text",
-    "plans/answering": "test_survive test_day test_plan",
-    "plans/titles": "test_titles test_bounds",
-    "plans/": "test_exact test_plan test_whatif test_shares test_text",
-    "base/bounds": "test_bounds",
-    "base/": "test_exact test_text test_writes test_sites test_plan",
-    "intake/site": "test_sites test_bounds test_text",
-    "intake/bring": "test_demand test_sites test_writes test_demand_time",
-    "intake/": "test_exact test_demand test_demand_time test_bounds test_sites test_writes",
-    "": "test_plan test_sites test_whatif",
-}
 SWAPPED: dict[type, type] = {
     ast.Eq: ast.NotEq, ast.NotEq: ast.Eq, ast.Lt: ast.LtE, ast.LtE: ast.Lt, ast.Gt: ast.GtE, ast.GtE: ast.Gt,
     ast.In: ast.NotIn, ast.NotIn: ast.In, ast.Is: ast.IsNot, ast.IsNot: ast.Is, ast.Add: ast.Sub, ast.Sub: ast.Add,
@@ -71,8 +51,6 @@ SWAPPED: dict[type, type] = {
 
 
 class Spot(NamedTuple):
-    """Lines of a module."""
-
     path: str
     first: int
     last: int
@@ -122,8 +100,6 @@ def _is_of_any_order(node: ast.Call) -> bool:
 
 
 class _Put(ast.NodeTransformer):
-    """Puts a node in the place of another one."""
-
     def __init__(self, old: ast.AST, new: ast.AST) -> None:
         self.old, self.new = old, new
 
@@ -190,9 +166,9 @@ def spots_of(path: str, tree: ast.Module, at: int) -> list[Spot]:
     if inner:
         return [_spot(path, node)]
     names = set().union(*(_names_set(it) for it in holders))
-    return [
-        _spot(other, use) for other in modules("") for use in ast.walk(_parsed(other)) if _is_use(use, names)
-    ] or [_spot(path, node)]
+    return [_spot(other, use) for other in modules("") for use in ast.walk(_parsed(other)) if _is_use(use, names)] or [
+        _spot(path, node)
+    ]
 
 
 def modules(only: str) -> list[str]:
@@ -213,13 +189,11 @@ def drawn(number: int, seed: int, only: str) -> list[Change]:
 
 
 class Reached:
-    """Which tests reach a line, and how many seconds each takes. Nothing is known of it without a file."""
+    """Which tests reach a line, and how many seconds each takes."""
 
-    def __init__(self, path: str | None) -> None:
-        self._data = sqlite3.connect(path or ":memory:", check_same_thread=False)
-        self.is_known = bool(path)
-        rows = self._data.execute("select test, seconds from seconds").fetchall() if path else []
-        self.seconds: dict[str, float] = dict(rows)
+    def __init__(self, path: str) -> None:
+        self._data = sqlite3.connect(path, check_same_thread=False)
+        self.seconds: dict[str, float] = dict(self._data.execute("select test, seconds from seconds").fetchall())
 
     def keep(self, room: str) -> None:
         """Forgets the tests that a copy no longer has."""
@@ -229,29 +203,20 @@ class Reached:
         self.seconds = {test: it for test, it in self.seconds.items() if test in there}
 
     def _names(self, path: str, first: int, last: int) -> set[str]:
-        """The tests that reach lines of a module."""
         query = """select distinct context from arc join context on context.id = context_id
             join file on file.id = file_id where file.path like ? and abs(tono) between ? and ?"""
         rows = self._data.execute(query, (f"%/hsp/{path}", first, last)).fetchall()
         return {re.sub(r" \((call|setup|teardown)\)$", "", name) for (name,) in rows}
 
     def tests(self, change: Change) -> list[str]:
-        """The tests that reach a change: those of its module, then others, the cheap ones first, and dear ones last."""
-        if not self.is_known:
-            return tests_of(change.path)
+        """The tests that reach a change, the cheap ones first."""
         found = set().union(*(self._names(*it) for it in change.spots))
         if not found - {""}:  # a line that is run only where the module is loaded
             found = self._names(change.path, 1, 1 << 20)
-        of, own = self.seconds, tests_of(change.path)
-        names = found & set(of)
-        ordered = sorted(names, key=lambda it: (of[it] > DEAR, it.partition("::")[0] not in own, of[it]))
+        of = self.seconds
+        ordered = sorted(found & set(of), key=lambda it: of[it])
         whole = itertools.accumulate(of[it] for it in ordered)
         return [it for it, seconds in zip(ordered, whole) if seconds <= MOST]
-
-
-def tests_of(path: str) -> list[str]:
-    names = next(tests for begin, tests in TESTS.items() if path.startswith(begin))
-    return [os.path.join("tests", f"{it}.py") for it in [*names.split(), "test_printed"]]
 
 
 def are_passed(room: str, words: list[str], seconds: float) -> bool:
@@ -282,7 +247,7 @@ def is_refused(change: Change, room: str, reached: Reached) -> bool:
     tests = reached.tests(change)
     if not tests:  # nothing reaches it, so nothing refuses it
         return False
-    seconds = MORE + 4 * sum(reached.seconds[it] for it in tests) if reached.is_known else SECONDS
+    seconds = MORE + 4 * sum(reached.seconds[it] for it in tests)
     with open(path, encoding="utf-8") as file:
         before = file.read()
     with open(path, "w", encoding="utf-8") as file:
@@ -295,7 +260,6 @@ def is_refused(change: Change, room: str, reached: Reached) -> bool:
 
 
 def copied(room: str) -> str:
-    """A copy of what the tests need."""
     for it in ("companion", "examples", "tools", "docs", "completions"):
         shutil.copytree(os.path.join(programs.TOP, it), os.path.join(room, it))
     for it in ("VERSION", "README.md", "CHANGELOG.md", "crates.txt"):
@@ -304,7 +268,6 @@ def copied(room: str) -> str:
 
 
 def planted(changes: list[Change], jobs: int, reached: Reached) -> list[Change]:
-    """The changes that no test refuses."""
     rooms: queue.Queue[str] = queue.Queue()
     done: list[bool] = []
     with tempfile.TemporaryDirectory() as top, concurrent.futures.ThreadPoolExecutor(jobs) as pool:
@@ -342,6 +305,8 @@ def main() -> int:
         for it in changes:
             print(f"hsp/{it.path}:{it.line}: {it.what}")
         return 0
+    if not chosen.reached:
+        arguments.error("give --reached FILE, which tools/measure/cover_companion.py --data FILE keeps")
     passed = planted(changes, chosen.jobs, Reached(chosen.reached))
     print(f"planted: {len(changes)} changes of seed {chosen.seed}, {len(passed)} not refused")
     return 0

@@ -4,7 +4,6 @@ tools/lib/price_answers.py.
 Prices and classes are drawn for a few queries, and the log asks for more: for the same pairs again and again, and for
 others. So amounts are used up, queries are diverted, and servers are full. A log of what was planned has every query
 assigned. No server and no host gets too much, by a few fronts together either."""
-from __future__ import annotations
 
 from collections import Counter
 from collections.abc import Iterable, Mapping
@@ -51,7 +50,6 @@ class Asked(NamedTuple):
 
 
 def wanted_of(asked: Asked) -> cases.Ended:
-    """What has to be printed of a log."""
     service, bounds = asked.case.service, asked.case.bounds
     claim = price_verdicts.read(asked.text)
     if isinstance(claim, str):
@@ -61,9 +59,7 @@ def wanted_of(asked: Asked) -> cases.Ended:
     if unfit := price_answers.unfit(service, bounds, claim):
         return b"", UNFIT.format(unfit).encode(), 3
     front = price_answers.Front(price_answers.Plan(service, bounds, claim), asked.fronts or 1, asked.front)
-    lines = [
-        f"refused {it.refusal}" if it.refused else front.answer(it.region, it.handle) for it in asked.log.entries
-    ]
+    lines = [f"refused {it.refusal}" if it.refused else front.answer(it.region, it.handle) for it in asked.log.entries]
     return "".join(f"{line}\n" for line in lines).encode(), price_answers.sums_of(lines).encode(), 0
 
 
@@ -125,7 +121,6 @@ def judge_asked(program: Runner, drawn: tuple[Asked, st.DataObject], where: Wher
 
 
 def halved(case: Case) -> Case:
-    """The case with half of each bound."""
     return case._replace(bounds=Bounds(*([bound // 2 for bound in own] for own in case.bounds)))
 
 

@@ -4,32 +4,12 @@ certificate, and each report that of tools/lib/price_reports.py.
 
 A certificate is of what `hsplan plan` prints of a table, or of prices or servers that are drawn. Then it is judged
 again with something changed: its text, the rows, a bound or the service."""
-from __future__ import annotations
 
 from collections.abc import Mapping, Sequence
 from typing import Any, NamedTuple
 
-from draws import (
-    ANY_HANDLE,
-    BLANK,
-    BOOLEAN,
-    END,
-    FEW,
-    MARK,
-    OFTEN,
-    PART,
-    REGION,
-    REGIONS,
-    TEN,
-    Draw,
-    Entry,
-    Log,
-    Where,
-    at_random,
-    changed,
-    pick,
-    services,
-)
+from draws import ANY_HANDLE, BLANK, BOOLEAN, END, FEW, MARK, OFTEN, REGION, REGIONS, TEN
+from draws import Draw, Entry, Log, Where, at_random, changed, pick, services
 from hypothesis import strategies as st
 from runner import Answer, Kind, Runner, answered, same
 
@@ -47,7 +27,20 @@ PAIRS = st.lists(st.tuples(REGION, ANY_HANDLE), min_size=1, max_size=40, unique=
 MOST, PRICE, SLACK = pick([1, 3, 20, 1000]), pick([0, 0, 1, 2, 5]), pick([0, 0, 0, 1, 5, 100])
 MORE = pick([1, 1, 1, 2, 30])
 # Spellings at the ends of the ranges, and ones that spell no number.
-EDGES = [1023, 1024, 10**12, 10**12 + 1, 10**16, 10**16 + 1, 2**32, 2**64, 2**64 + 1, 10**19, 10**20, 10**30]
+EDGES = [
+    1023,
+    1024,
+    10**12,
+    10**12 + 1,
+    10**16,
+    10**16 + 1,
+    2**32,
+    2**64,
+    2**64 + 1,
+    10**19,
+    10**20,
+    10**30,
+]
 EDGE = pick([*(b"%d" % it for it in EDGES), b"", b"00", b"07", b"+1", b"-1", b"0x1"])
 FORM = st.builds(Log, st.just([]), st.just(True), st.just(True), st.just(False), END, MARK, BLANK, OFTEN)
 
@@ -77,7 +70,6 @@ class Case(NamedTuple):
 
 
 def wanted_of(case: Case, text: bytes) -> cases.Ended:
-    """What has to be printed of a certificate."""
     claim = price_verdicts.read(text)
     if isinstance(claim, str):
         return b"", f"{NAME}: certificate: {claim}\n".encode(), 1

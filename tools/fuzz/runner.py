@@ -1,5 +1,4 @@
 """A program that is run again and again in one process, on words and files in memory; what holds of its answers."""
-from __future__ import annotations
 
 import os
 import re
@@ -11,7 +10,7 @@ from typing import Any, NamedTuple
 from draws import Where
 from hypothesis import strategies as st
 
-from lib import programs
+from lib import preload
 
 BOTH = """
 2 Usage
@@ -75,10 +74,7 @@ class Answer(NamedTuple):
 
 def built(folder: str) -> str:
     """The library that is preloaded before a program, compiled into a folder."""
-    made, source = os.path.join(folder, "runner.so"), os.path.join(programs.TOP, "tools", "fuzz", "runner.c")
-    words = "cc -O2 -Wall -Wextra -Wno-unused-parameter -shared -fPIC -ldl -o".split()
-    subprocess.run([*words, made, source], check=True)
-    return made
+    return preload.compiled("fuzz/runner.c", folder, "cc -O2 -Wall -Wextra -Wno-unused-parameter -shared -fPIC", "-ldl")
 
 
 class Runner:

@@ -1,6 +1,5 @@
 """Judges the places that `hsplan-stream` states of logs. Those of logs that are written row by row are compared with the
 oracle's."""
-from __future__ import annotations
 
 import csv
 import io
@@ -34,7 +33,6 @@ class Case(NamedTuple):
         return words.encode()
 
     def files(self) -> dict[str, bytes]:
-        """The files as they are written."""
         return {**self.service.files(), "log.csv": self.log.text}
 
     def answer(self, program: Runner, files: Mapping[str, bytes] = {}, piece: int = ALL, at: int = ALL) -> Answer:

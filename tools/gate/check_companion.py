@@ -3,10 +3,7 @@
 Chromium, and the pages that lie in examples. The tests run side by side, one for each processor.
 
     tools/gate/check_companion.py [PYTEST ARGUMENTS]..
-
-The packages of Debian that this takes are installed by tools/lib/packages.py.
 """
-from __future__ import annotations
 
 import os
 import subprocess
@@ -29,18 +26,7 @@ def main() -> int:
         # Each start of hsp takes what is compiled here, as long as its sources have the same octets.
         [PYTHON, "-m", "compileall", "-q", "--invalidation-mode", "checked-hash", "hsp"],
         [PYTHON, "-m", "mypy", "--strict", "--no-incremental", "hsp"],
-        [
-            PYTHON,
-            "-m",
-            "pytest",
-            "-q",
-            "-p",
-            "no:cacheprovider",
-            "-n",
-            str(lanes.processors()),
-            "tests",
-            *sys.argv[1:],
-        ],
+        [PYTHON, "-m", "pytest", "-q", "-p", "no:cacheprovider", "-n", str(lanes.processors()), "tests", *sys.argv[1:]],
         [PYTHON, os.path.join(programs.TOP, "tools", "pictures", "shoot.py"), "--check"],
     ]
     environment = {**os.environ, "PYTHONDONTWRITEBYTECODE": "1", "MYPY_CACHE_DIR": os.devnull}

@@ -7,7 +7,6 @@ Tab. So zsh gets only the lines with at most one completion.
 
 A shell that is not installed is named as not tried. With --all that is a fault.
 """
-from __future__ import annotations
 
 import argparse
 import os
@@ -27,109 +26,53 @@ sys.path.insert(0, str(Path(__file__).resolve().parents[1]))
 from lib import programs
 
 FILES = os.path.join(programs.TOP, "completions")
-COMMANDS = ["check", "dispatch", "locate", "plan", "report", "site"]
-CASES: list[tuple[str, list[str]]] = [
-    ("hsplan ", COMMANDS),
-    ("hsplan re", ["report"]),
-    ("hsplan locate --op", ["--option"]),
-    ("hsplan locate --option l", ["local"]),
-    ("hsplan site --in", ["--index"]),
-    ("hsplan plan --ca", ["--capacity"]),
-    ("hsplan plan --fr", []),
-    ("hsplan check --demand dem", ["demand.csv"]),
-    ("hsplan dispatch --settings settings.toml --fr", ["--fronts"]),
-    ("hsplan report --settings settings.toml --kind s", ["shortage"]),
-    ("hsplan-stream ", "--help --version answer check faults interfaces places plan report".split()),
-    ("hsplan-stream interfaces --va", ["--values"]),
-    ("hsplan-stream interfaces --lo", []),
-    ("hsplan-stream pl", ["places", "plan"]),
-    ("hsplan-stream faults --dem", ["--demand"]),
-    ("hsplan-stream faults --log dem", ["demand.csv"]),
-    ("hsplan-stream faults --pl", []),
-    ("hsplan-stream places --cap", []),
-    ("hsplan-stream check --pr", ["--prices"]),
-    ("hsplan-stream answer --pr", ["--prices"]),
-    ("hsplan-stream plan --cap", ["--capacity"]),
-    ("hsplan-stream plan --pr", []),
-    ("hsplan-stream check --pl", []),
-    ("hsplan-stream report --ki", ["--kind"]),
-    ("hsplan-stream report --kind ", ["load", "region"]),
-    ("hsplan-stream report --pl", []),
-    ("hsplan-stream places --settings set", ["settings.toml"]),
-    ("hsplan-stream answer --fr", ["--front", "--fronts"]),
-    ("hsplan-stream answer --costs dem", ["demand.csv"]),
-    ("hsplan-stream answer --pl", []),
-    ("hsplan-stream answer --un", []),
-    (
-        "hsp ",
-        "--help --version capacity costs day demand doctor export fleet forecast grow new plan sites steer survive view whatif "
-        "where within".split(),
-    ),
-    ("hsp gr", ["grow"]),
-    ("hsp survive --bu", ["--buy"]),
-    ("hsp survive --near serv", ["service/"]),
-    ("hsp day --we", ["--week"]),
-    ("hsp plan --nea", ["--near"]),
-    ("hsp grow --per", ["--percent"]),
-    ("hsp demand --jo", ["--jobs"]),
-    ("hsp do", ["doctor"]),
-    ("hsp doctor --st", ["--strict"]),
-    ("hsp doctor --un", []),
-    ("hsp wh", ["whatif", "where"]),
-    ("hsp costs --perc", ["--percentile"]),
-    ("hsp costs --by-distance dem", ["demand.csv"]),
-    ("hsp costs sett", ["settings.toml"]),
-    ("hsp capacity --per ", ["day", "hour", "minute", "second"]),
-    ("hsp capacity --dur", ["--duration"]),
-    ("hsp plan --wi", ["--within"]),
-    ("hsp within --no", ["--no-save"]),
-    ("hsp forecast --reg", ["--regex", "--regions"]),
-    ("hsp demand --me", ["--mean"]),
-    ("hsp sites --upd", ["--update"]),
-    ("hsp where --js", ["--json"]),
-    ("hsp fleet demand --cos", []),
-    ("hsp ex", ["export"]),
-    ("hsp export ", ["--help", "haproxy"]),
-    ("hsp export haproxy --int", ["--into"]),
-    ("hsp export haproxy --into s", ["service/"]),
-    ("hsp export haproxy --regions dem", ["demand.csv"]),
-    ("hsp export haproxy --no", []),
-    ("hsp steer --sta", ["--status"]),
-    ("hsp steer --into s", ["service/"]),
-    ("hsp plan --no", ["--no-save"]),
-    ("hsp plan --bef", []),
-    ("hsp view --bef", ["--before"]),
-    ("hsp whatif --settings set", ["settings.toml"]),
-    ("hsp ne", ["new"]),
-    ("hsp new --ex", ["--example"]),
-    ("hsp new --cap", []),
-    ("hsp sites --cap", ["--capacity"]),
-    ("hsp sites sett", ["settings.toml"]),
-    ("hsp demand --reg", ["--regex", "--regions"]),
-    ("hsp demand --format ser", ["server"]),
-    ("hsp demand --regions dem", ["demand.csv"]),
-    ("hsp demand --bu", ["--busiest-hour"]),
-    ("hsp demand --fr", ["--from"]),
-    ("hsp fleet demand --ti", ["--time"]),
-    ("hsp demand --capa", []),
-    ("hsp fleet di", ["dispatch"]),
-    ("hsp fleet dispatch --fr", ["--fronts"]),
-    ("hsp fleet dispatch --reg", []),
-    ("hsp fleet demand --ke", ["--keep"]),
-    ("hsp fleet demand --regions dem", ["demand.csv"]),
-    ("hsp plan s", ["service/"]),
-    ("hsp plan --settings s", ["service/", "settings.toml"]),
-    ("hsp view --before s", ["service/"]),
-    ("hsp sites --into s", ["service/"]),
-    ("hsp doctor -- loc", ["locate"]),
-    ("hsp doctor -- plan --settings set", ["settings.toml"]),
-    ("hsp fleet demand --sche", ["--scheduler"]),
-    ("hsp whatif --cs", ["--csv"]),
-    ("hsplan check --demand=dem", ["demand.csv"]),
-    ("hsplan locate --option=l", ["local"]),
-    ("hsplan-stream places --settings=set", ["settings.toml"]),
-    ("hsp whatif --settings=set", ["settings.toml"]),
-    ("hsp sites --into=ser", ["service/"]),
+# What is typed behind a command and what it is completed to, of each command in a line.
+COMPLETED = """
+hsplan: |check dispatch locate plan report site; re|report
+hsplan locate: --op|--option; --option l|local; --option=l|local
+hsplan site: --in|--index
+hsplan plan: --ca|--capacity; --fr|
+hsplan check: --demand dem|demand.csv; --demand=dem|demand.csv
+hsplan dispatch: --settings settings.toml --fr|--fronts
+hsplan report: --settings settings.toml --kind s|shortage
+hsplan-stream: |--help --version answer check faults interfaces places plan report; pl|places plan
+hsplan-stream interfaces: --va|--values; --lo|
+hsplan-stream faults: --dem|--demand; --log dem|demand.csv; --pl|
+hsplan-stream places: --cap|; --settings set|settings.toml; --settings=set|settings.toml
+hsplan-stream check: --pr|--prices; --pl|
+hsplan-stream answer: --pr|--prices; --fr|--front --fronts; --costs dem|demand.csv; --pl|; --un|
+hsplan-stream plan: --cap|--capacity; --pr|
+hsplan-stream report: --ki|--kind; --kind |load region; --pl|
+hsp: |--help --version capacity costs day demand doctor export fleet forecast grow new plan sites steer survive view whatif \
+where within
+hsp: gr|grow; do|doctor; wh|whatif where; ex|export; ne|new
+hsp survive: --bu|--buy; --near serv|service/
+hsp day: --we|--week
+hsp plan: --nea|--near; --wi|--within; --no|--no-save; --bef|; s|service/; --settings s|service/ settings.toml
+hsp grow: --per|--percent
+hsp demand: --jo|--jobs; --me|--mean; --reg|--regex --regions; --format ser|server; --regions dem|demand.csv
+hsp demand: --bu|--busiest-hour; --fr|--from; --capa|
+hsp doctor: --st|--strict; --un|; -- loc|locate; -- plan --settings set|settings.toml
+hsp costs: --perc|--percentile; --by-distance dem|demand.csv; sett|settings.toml
+hsp capacity: --per |day hour minute second; --dur|--duration
+hsp within: --no|--no-save
+hsp forecast: --reg|--regex --regions
+hsp sites: --upd|--update; --cap|--capacity; sett|settings.toml; --into s|service/; --into=ser|service/
+hsp where: --js|--json
+hsp fleet demand: --cos|; --ti|--time; --ke|--keep; --regions dem|demand.csv; --sche|--scheduler
+hsp export: |--help haproxy
+hsp export haproxy: --int|--into; --into s|service/; --regions dem|demand.csv; --no|
+hsp steer: --sta|--status; --into s|service/
+hsp view: --bef|--before; --before s|service/
+hsp whatif: --settings set|settings.toml; --cs|--csv; --settings=set|settings.toml
+hsp new: --ex|--example; --cap|
+hsp fleet: di|dispatch
+hsp fleet dispatch: --fr|--fronts; --reg|
+"""
+CASES = [
+    (f"{command} {typed}", wanted.split())
+    for command, _, own in (line.partition(": ") for line in COMPLETED.strip().split("\n"))
+    for typed, _, wanted in (case.partition("|") for case in own.split("; "))
 ]
 
 
@@ -213,9 +156,9 @@ def tried(shell: str, ask: Callable[[str, str], list[str]]) -> tuple[list[str], 
             open(os.path.join(folder, name), "w").close()
         os.mkdir(os.path.join(folder, "service"))
         got = [(line, shown(shell, line, wanted), ask(line, folder)) for line, wanted in cases]
-    return [
-        f"{shell}: {line!r}: wanted {wanted}, got {found}" for line, wanted, found in got if wanted != found
-    ], len(cases)
+    return [f"{shell}: {line!r}: wanted {wanted}, got {found}" for line, wanted, found in got if wanted != found], len(
+        cases
+    )
 
 
 def main() -> int:
@@ -227,14 +170,9 @@ def main() -> int:
     found = {name: tried(name, ask) for name, ask in shells.items() if name not in absent}
     faults = [fault for it, _ in found.values() for fault in it]
     asked = ", ".join(f"{name} {count}" for name, (_, count) in found.items())
-    print(
-        "\n".join(
-            faults
-            + [f"{it} IS NOT INSTALLED HERE: its completions were not tried" for it in absent]
-            + [f"completions: lines tried in {asked or 'no shell'}, {len(faults)} faults"]
-        )
-    )
-    return 1 if faults or not found or (wants_all and absent) else 0
+    print("".join(f"{it} IS NOT INSTALLED HERE: its completions were not tried\n" for it in absent), end="")
+    is_fine = bool(found) and not (wants_all and absent)
+    return programs.concluded(faults, f"completions: lines tried in {asked or 'no shell'},", is_fine)
 
 
 if __name__ == "__main__":

@@ -1,19 +1,9 @@
 #!/usr/bin/env python3
-"""Makes the package of Debian twice, has lintian judge it, and installs it in a fresh Debian.
-
-It fails where
-
-- the two differ in an octet; the second is made a second later, by another umask and in another zone of time;
-- lintian finds an error;
-- a page in it has a link that leads to nothing;
-- the package doesn't go in beside a minimal Debian and what it depends on, or a file of it has another sum there;
-- a plan of examples/two-sites, made there by an ordinary user, hasn't the least cost, by hsplan or by hsp;
-- after the package is removed, or purged, a file is there that wasn't there before, or one is gone.
+"""Makes the package of Debian twice, has lintian judge it, and installs, uses, removes and purges it in a fresh Debian.
 
 The fresh Debian is made by debootstrap in a temporary folder. That takes root, the network and a minute. What can't be
 tried here is named in capitals. The programs have to be built already, by `rt ci` or `make prove`.
 """
-from __future__ import annotations
 
 import filecmp
 import os
@@ -66,7 +56,6 @@ class Fresh:
         return done.stdout, done.returncode
 
     def run(self, line: str, user: str = "root") -> tuple[str, int]:
-        """What a line of the shell prints there, and its status."""
         return self.ran(["chroot", f"--userspec={user}:{user}", self.root, "sh", "-c", line])
 
     def make(self, depends: str) -> list[str]:
@@ -89,7 +78,6 @@ class Fresh:
         return [f"apt-get found not all of {depends}:\n{said}"] if status else []
 
     def files(self) -> set[str]:
-        """The paths of all files and folders."""
         return {
             os.path.relpath(os.path.join(at, it), self.root)
             for at, folders, names in os.walk(self.root)
@@ -98,7 +86,6 @@ class Fresh:
 
 
 def last_of(text: str) -> str:
-    """The last line of a text that isn't empty."""
     return ([it.strip() for it in text.splitlines() if it.strip()] or ["it printed nothing"])[-1]
 
 
@@ -116,7 +103,6 @@ def made_twice(room: str) -> tuple[str, list[str]]:
 
 
 def judged(path: str) -> list[str]:
-    """The errors that lintian finds."""
     if not shutil.which("lintian"):
         print("NOT TRIED: lintian is not installed here")
         return []
@@ -127,7 +113,6 @@ def judged(path: str) -> list[str]:
 
 
 def dead_links(path: str, room: str) -> list[str]:
-    """The links to nothing in the pages that the package holds."""
     subprocess.run(["dpkg-deb", "--extract", path, room], check=True)
     return pages.dead_links(room, pages.below(room))[0]
 
@@ -199,8 +184,7 @@ def main() -> int:
             faults, done = tried(room, begun)
         except programs.Missing as missing:
             faults, done = [str(missing)], "not made"
-    print("\n".join([*faults, f"package: {done}, {len(faults)} faults"]))
-    return 1 if faults else 0
+    return programs.concluded(faults, f"package: {done},")
 
 
 if __name__ == "__main__":

@@ -1,6 +1,6 @@
 #!/usr/bin/env python3
 """Checks the names in the documents, runs each command of the documents with the built program, and
-compares what the commands print with what the documents show.
+compares what the commands print with what the documents show. What is checked say the functions of KINDS.
 
 The commands are those of the blocks marked `console`. The lines of such a block are a transcript, as
 tools/lib/transcripts.py describes it. The commands of one document run in turn in one shell. In a manual page the
@@ -8,22 +8,9 @@ commands are the examples between `.EX` and `.EE`. They run in bash; those of th
 and zsh as well, where these are installed. A block marked `console` with a word behind it, as `console haproxy`, runs
 where a program of that name and curl are installed.
 
-It fails where
-
-- the README or docs/understand/ARCHITECTURE.md does not name a crate of crates.txt;
-- a crate stands on one of a storey above its own, or the two have it in different storeys;
-- a table of modules of docs/understand/ARCHITECTURE.md names one that is not there, or lacks one, of a crate or of
-  the companion;
-- a document names a link, a `make` target or a script that is not there;
-- a word of a fault has no row in docs/use/FAULTS.md or no paragraph in a manual page;
-- the README states another logic of the kit than this machine's kit has;
-- a command stands in a block that is not marked, or prints something else;
-- a file still has the marks of a merge.
-
     tools/gate/check_docs.py --names                        checks the names only, without the program
     tools/gate/check_docs.py [--program FILE] [--bash]      does all; with --bash in bash and no other shell
 """
-from __future__ import annotations
 
 import argparse
 import glob
@@ -49,7 +36,6 @@ PAGES = ("docs/use/hsplan.1", "docs/use/hsplan-stream.1", "docs/use/hsp.1")
 
 
 def is_console(mark: str | None) -> bool:
-    """Whether a block has commands."""
     return (mark or "").split()[:1] == ["console"]
 
 
@@ -101,7 +87,9 @@ def wrong_storeys() -> Found:
         for it in below
         if height[it] > height[crate]
     ]
-    table = programs.text_of("docs/understand/ARCHITECTURE.md").split("## The crates of the programs")[1].split("\n## ")[0]
+    table = (
+        programs.text_of("docs/understand/ARCHITECTURE.md").split("## The crates of the programs")[1].split("\n## ")[0]
+    )
     storey, stated = "", dict[str, str]()
     for row in rows(table):
         storey = row[0] or storey
@@ -157,7 +145,6 @@ def wrong_packages() -> Found:
 
 
 def documents() -> list[str]:
-    """The paths of the documents in Markdown."""
     paths = (
         glob.glob(f"{programs.TOP}/*.md")
         + glob.glob(f"{programs.TOP}/docs/**/*.md", recursive=True)
@@ -187,9 +174,7 @@ def missing_targets() -> Found:
         makes = re.findall(r"(?:`|^    )make ([a-z]+)", programs.text_of(path), re.M)
         scripts = re.findall(r"\btools/[a-z_/]+\.(?:py|c|cpp)\b", programs.text_of(path))
         count += len(makes) + len(scripts)
-        faults += [
-            f"{path} names a target that the Makefile does not have: {it}" for it in makes if it not in targets
-        ]
+        faults += [f"{path} names a target that the Makefile does not have: {it}" for it in makes if it not in targets]
         faults += [
             f"{path} names a file that is not there: {it}"
             for it in scripts
@@ -241,7 +226,6 @@ def missing_words() -> Found:
 
 
 def manual_steps(page: str) -> list[transcripts.Step]:
-    """The commands of a manual page."""
     examples = re.findall(r"^\.EX\n(.*?)^\.EE$", programs.text_of(page), re.M | re.S)
     lines = [line.replace("\\-", "-").replace("\\e", "\\") for it in examples for line in it.splitlines()]
     return transcripts.steps_of(lines)
@@ -300,15 +284,9 @@ def wrong_commands(program: str, shells: tuple[str, ...]) -> Found:
     shells, and how many there are."""
     found = {path: steps_in(path) for path in documents()}
     found.update({page: manual_steps(page) for page in PAGES})
-    faults = [
-        fault for path, steps in found.items() if steps for fault in transcripts.faults_of(path, steps, program)
-    ]
-    for shell in shells:
-        faults += wrong_in(
-            shell,
-            {path: steps for path, steps in found.items() if path == "README.md" or path.startswith("docs/use/")},
-            program,
-        )
+    faults = [fault for path, steps in found.items() if steps for fault in transcripts.faults_of(path, steps, program)]
+    own = {path: steps for path, steps in found.items() if path == "README.md" or path.startswith("docs/use/")}
+    faults += [fault for shell in shells for fault in wrong_in(shell, own, program)]
     return faults, sum(len(it) for it in found.values())
 
 
@@ -354,8 +332,7 @@ def main() -> int:
         found["commands run"] = wrong_commands(chosen.program, () if chosen.bash else SHELLS)
     faults = [fault for it, _ in found.values() for fault in it]
     counts = ", ".join(f"{count} {kind}" for kind, (_, count) in found.items())
-    print("\n".join(faults + [f"documents: {counts}; {len(faults)} faults"]))
-    return 1 if faults or not all(count for _, count in found.values()) else 0
+    return programs.concluded(faults, f"documents: {counts};", all(count for _, count in found.values()))
 
 
 if __name__ == "__main__":

@@ -5,7 +5,6 @@
     tools/gate/check_examples.py --record [NAME..]            writes what the commands print into the transcripts;
                                                          read it before you keep it
 """
-from __future__ import annotations
 
 import argparse
 import glob
@@ -36,7 +35,6 @@ def paths_of(names: list[str]) -> list[str]:
 
 
 def record(path: str, steps: list[transcripts.Step], program: str) -> None:
-    """Writes what the commands of a transcript print into it."""
     for step, got in zip(steps, transcripts.printed_by(steps, program, prepare)):
         step.wanted = ["not run"] if got is None else got
     with open(path, "w", encoding="utf-8") as file:
@@ -63,8 +61,7 @@ def main() -> int:
         for fault in transcripts.faults_of(os.path.relpath(path, programs.TOP), steps, chosen.program, prepare)
     ]
     count = sum(len(steps) for _, steps in found)
-    print("\n".join(faults + [f"examples: {len(found)} transcripts, {count} commands, {len(faults)} faults"]))
-    return 1 if faults or not count else 0
+    return programs.concluded(faults, f"examples: {len(found)} transcripts, {count} commands,", bool(count))
 
 
 if __name__ == "__main__":

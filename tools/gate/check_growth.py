@@ -4,23 +4,10 @@ answer.
 
     tools/gate/check_growth.py [--jobs N] [--most N | --all | --count] [CRATE]..
 
-It runs the test programs that `rt ci` leaves in crates/NAME/out/NAME_tests, side by side on the processors. How many
-allocations of a test are refused:
-
-  all              where the test has at most MOST
-  MOST             where it has more: the first half of MOST, and as many spread evenly over the others
-  a fifth of MOST  where it has more than MANY, chosen in the same way
-
-  --most N         N allocations of each test that has more
-  --all            each allocation of all tests
-  --count          none: prints how many allocations there are, and how long it would take to refuse each of them
-
-If some allocations of a test are left out, the test is named with both numbers.
-
-It fails where a test program is missing, where a test has no count, where a test fails, and where no test of a
-program took memory.
+It runs the test programs that `rt ci` leaves in crates/NAME/out/NAME_tests, side by side on the processors. Of how many
+allocations are refused says tools/lib/growth.py; with --most N, N of each test that has more, with --all each, and with
+--count none: then it prints how many there are. A test of which some are left out is named with both numbers.
 """
-from __future__ import annotations
 
 import argparse
 import concurrent.futures
@@ -58,7 +45,6 @@ def tests_of(program: str) -> list[str]:
 
 
 def counted(program: str, test: str, preloaded: str) -> Counted:
-    """What a test does without a refusal."""
     with tempfile.TemporaryDirectory() as room:
         path = os.path.join(room, "count")
         before = memory.spent_below()
@@ -88,7 +74,6 @@ def refused(program: str, test: str, preloaded: str, numbers: Sequence[int]) -> 
 
 
 def check(pool: concurrent.futures.Executor, crate: str, preloaded: str, most: int | None) -> list[str]:
-    """The faults of a crate's tests."""
     if not has_tests(crate):
         return []
     program = os.path.join(programs.TOP, "crates", crate, "out", crate + "_tests")
@@ -129,10 +114,7 @@ def main() -> int:
         preloaded = preload.built("refuse_growth", folder)
         crates = given.names or list(programs.dependencies())
         faults = [fault for crate in crates for fault in check(pool, crate, preloaded, given.most)]
-    for fault in faults:
-        print(fault)
-    print(f"refused growth: {len(faults)} faults")
-    return 1 if faults else 0
+    return programs.concluded(faults, "refused growth:")
 
 
 if __name__ == "__main__":

@@ -3,14 +3,11 @@
 
     tools/gate/check_hostile.py [--program FILE] [--stream FILE]
 
-The cases stand in checks/hostile, but for those of texts that are cut at each octet, of logs of ten million rows, and of
-the largest files. After them, the five records and lists with forged counts are measured: on each the program may use at
-most 1 MB more memory than on a record of 48 octets.
-
-Last, handles are made whose hashes are the same. A pass over a log of them may take at most three times as long as over
-a log of handles that are drawn, of the same lengths: the best of three passes each.
+The cases stand in checks/hostile, and in GROUPS those of texts that are cut at each octet and of the longest files and
+logs. Then records and lists with forged counts are measured: on each the program may use at most 1 MB more memory than
+on a record of 48 octets. Last, a pass over a log of handles of one hash may take at most three times as long as over
+handles that are drawn, of the same lengths.
 """
-from __future__ import annotations
 
 import argparse
 import os
@@ -25,12 +22,12 @@ from typing import NamedTuple
 
 sys.path.insert(0, str(Path(__file__).resolve().parents[1]))
 
-from lib import cases, collisions, memory, preload, programs
+from lib import cases, collisions, memory, oracle, preload, programs
 
 
 MEGABYTE = 1024
 
-INPUTS = b"--settings settings.toml --demand demand.csv --costs costs.csv --capacity capacity.csv"
+INPUTS = oracle.INPUTS.encode()
 PLAN = b"plan " + INPUTS
 CHECK = b"check " + INPUTS + b" --plan plan.txt"
 DISPATCH = b"dispatch " + INPUTS + b" --plan plan.txt --log log.csv"
@@ -71,15 +68,8 @@ def cut_sites() -> list[Case]:
     """The first n octets of a record of two servers. The fault names the last field that begins at n or before."""
     fields = [0, 2, 4, 6, 7, 8, 12, 16, 20, 24, 40, 44, 48, 52, 68, 72]
     whole = example("two_servers.site")
-    return [
-        refused(
-            f"site of {n} octets",
-            {"site": whole[:n]},
-            SITE,
-            f"site: Truncated at {max(at for at in fields if at <= n)}",
-        )
-        for n in range(76)
-    ]
+    ends = {n: f"site: Truncated at {max(at for at in fields if at <= n)}" for n in range(76)}
+    return [refused(f"site of {n} octets", {"site": whole[:n]}, SITE, line) for n, line in ends.items()]
 
 
 FORGED_SITES = [
@@ -98,18 +88,10 @@ def cut_plans() -> list[Case]:
 def long_logs() -> list[Case]:
     """A log of as many rows as a log may have, and a log of one row more."""
     most = 10_000_000
-    header, row = b"region,handle\n", b"a,b/\n"
-    reported = b"assigned 0 spent 0 unknown 10000000\n"
+    ends = {most: (b"assigned 0 spent 0 unknown 10000000\n", 0), most + 1: (b"hsplan: log: LogTooLong\n", 1)}
     return [
-        Case("log of 10,000,000 rows", {"log.csv": header + row * most}, DISPATCH, b"unknown\n" * most, reported, 0),
-        Case(
-            "log of 10,000,001 rows",
-            {"log.csv": header + row * (most + 1)},
-            DISPATCH,
-            b"unknown\n" * most,
-            b"hsplan: log: LogTooLong\n",
-            1,
-        ),
+        Case(f"log of {n:,} rows", {"log.csv": b"region,handle\n" + b"a,b/\n" * n}, DISPATCH, b"unknown\n" * most, *end)
+        for n, end in ends.items()
     ]
 
 
@@ -117,15 +99,8 @@ def large_files() -> list[Case]:
     """A file of the greatest size is read. A file of one octet more is not."""
     limit = 67_108_864
     failed = (b"", b"hsplan: read failed\n", 5)
-    names = [
-        ("site", SITE),
-        ("values", VALUE),
-        ("settings.toml", PLAN),
-        ("demand.csv", PLAN),
-        ("costs.csv", PLAN),
-        ("capacity.csv", PLAN),
-        ("plan.txt", CHECK),
-    ]
+    tables = [(name, PLAN) for name in ("settings.toml", "demand.csv", "costs.csv", "capacity.csv")]
+    names = [("site", SITE), ("values", VALUE), *tables, ("plan.txt", CHECK)]
     at_limit = [
         ("site", SITE, "site: Trailing at 20"),
         ("values", VALUE, "values: Trailing at 4"),
@@ -148,13 +123,7 @@ def first_lines() -> list[Case]:
     ]
 
 
-GROUPS = [
-    cut_sites,
-    cut_plans,
-    long_logs,
-    large_files,
-    first_lines,
-]
+GROUPS = [cut_sites, cut_plans, long_logs, large_files, first_lines]
 
 
 def write(folder: str, name: str, text: bytes | int) -> None:
@@ -180,17 +149,10 @@ def shown(octets: bytes) -> bytes:
 
 
 def fault_of(program: str, room: str, case: Case) -> list[str]:
-    """The fault of a case, if it has one."""
     got = cases.run(program, [], case.words, folder_with(room, case.files))
     wanted = (case.printed, case.reported, case.status)
-    return (
-        []
-        if got == wanted
-        else [
-            f"{case.name}: wanted {tuple(map(shown, wanted[:2]))} {case.status}, "
-            f"got {tuple(map(shown, got[:2]))} {got[2]}"
-        ]
-    )
+    texts = [f"{tuple(map(shown, it[:2]))} {it[2]}" for it in (wanted, got)]
+    return [] if got == wanted else [f"{case.name}: wanted {texts[0]}, got {texts[1]}"]
 
 
 def memory_on(program: str, room: str, preloaded: str, words: bytes, files: Files) -> int:
@@ -299,10 +261,7 @@ def main() -> int:
         faults = cases.all_faults(program, room, "hostile") + check_memory(program, room)
         faults += [fault for case in drawn for fault in fault_of(program, room, case)]
         faults += check_collisions(program, stream, room)
-    for fault in faults:
-        print(fault)
-    print(f"cut and forged: {len(written) + len(drawn)} cases, {len(faults)} faults")
-    return 1 if faults else 0
+    return programs.concluded(faults, f"cut and forged: {len(written) + len(drawn)} cases,")
 
 
 if __name__ == "__main__":

@@ -1,12 +1,9 @@
 #!/usr/bin/env python3
-"""Installs the program built here into an empty folder, by `make install` with DESTDIR and PREFIX.
-
-The installed program has to be the one built here, and to run from another folder. The manual page, the completions
-and the guide have to be there, and no page may have a link that leads to nothing. `make uninstall` has to leave no file, and no folder but those that were there before.
+"""Installs the program built here into an empty folder, by `make install` with DESTDIR and PREFIX, and runs it there.
+`make uninstall` has to leave no file, and no folder but those that were there before.
 
 The program has to be built already, by `rt ci` or `make prove`, and no source may be newer.
 """
-from __future__ import annotations
 
 import os
 import subprocess
@@ -55,7 +52,6 @@ def wrong_answer(program: str, room: str) -> list[str]:
 
 
 def wanted_files() -> dict[str, bytes]:
-    """What is installed, by its path below the prefix."""
     built = {f"bin/{it}": programs.octets_of(programs.built_path(it)) for it in programs.PROGRAMS}
     files = {target: pages.installed(it, programs.FILES) for it, target in programs.FILES.items()}
     return {**built, "bin/hsp": companion.archive(), **files}
@@ -89,8 +85,7 @@ def main() -> int:
         with tempfile.TemporaryDirectory() as room:
             faults = faults_in(room)
     tried = "not tried" if absent else f"{len(wanted_files())} files installed and removed"
-    print("\n".join(faults + [f"install: {tried}, {len(faults)} faults"]))
-    return 1 if faults else 0
+    return programs.concluded(faults, f"install: {tried},")
 
 
 if __name__ == "__main__":

@@ -5,32 +5,12 @@ checks/hsplan.
     tools/gate/check_io.py [--jobs N] [--each N] [CASE]..    one in N of the failing calls
 
 Each case is run as tools/gate/check_program.py runs it, with its words as arguments and on standard input. A first run
-records its calls. Then each call is made to fail in a run of its own, in each of the ways below. The table states
-what the program has to print, and its status:
+records its calls. Then each call fails in a run of its own, in each of the ways of ERRORS: by an error, with no octet,
+or with one octet, after which the answer is the ordinary one. What has to be printed say `wanted` and what it calls. A
+call that a signal interrupts (EINTR) has failed, as by any other error, but for those that are made again.
 
-  open     an error         nothing; `hsplan: read failed`; status 5
-  read     an error         of a file: the same
-                            of a log: the answers to the lines that were read whole; `hsplan: log: ReadFailed`;
-                            status 5
-                            of standard input: `hsplan: Usage`; status 2
-           0 octets         the answer to a file, a log or words that end there
-           1 octet          the ordinary answer
-  write    an error, or     on standard output: what was written before, and no more; `hsplan: write failed`, for a
-           0 octets         log `hsplan: log: WriteFailed`; status 5
-                            on standard error: nothing more; status 5
-           an error of this the same, and nothing on standard error
-           and later writes
-           1 octet          the ordinary answer
-  close    an error         the ordinary answer
-
-A call that a signal interrupts (EINTR) has failed, as by any other error. There are two exceptions: an interrupted
-`open` is made again, and so is an interrupted write of less than 65,536 octets on standard output.
-
-Then the program runs on streams and files that are not in a case: a closed descriptor, a full disk, a limit on a
-file, a pipe that nobody reads, inputs that come through pipes a few octets at a time, and files that shrink while
-they are read.
+Then the program runs on the streams of STREAMS, and over files that shrink while they are read.
 """
-from __future__ import annotations
 
 import argparse
 import concurrent.futures
@@ -48,7 +28,7 @@ from typing import Any, NamedTuple
 
 sys.path.insert(0, str(Path(__file__).resolve().parents[1]))
 
-from lib import cases, children, failing, growth, preload, programs
+from lib import cases, children, failing, growth, oracle, preload, programs
 from lib.failing import Call
 
 Pool = concurrent.futures.Executor
@@ -69,8 +49,6 @@ ERRORS: dict[str, list[Kind]] = {
 
 
 class Run(NamedTuple):
-    """A case, run one way in a folder."""
-
     case: cases.Case
     words: list[bytes]
     given: bytes
@@ -96,7 +74,6 @@ def is_of_log(run: Run) -> bool:
 
 
 def log_of(run: Run) -> str:
-    """The log that a run names."""
     return run.order[run.order.index(b"--log") + 1].decode()
 
 
@@ -201,11 +178,8 @@ def fault_of(tools: Tools, run: Run, failure: Failure, ordinary: cases.Ended, go
     call, kind = failure
     hoped = wanted(tools, run, call, kind, ordinary)
     way = "as arguments" if run.words else "on standard input"
-    return (
-        []
-        if got == hoped
-        else [f"{run.case.name} {way}: {call.name} {call.number} of {call.path}: {kind}: wanted {hoped}, got {got}"]
-    )
+    what = f"{run.case.name} {way}: {call.name} {call.number} of {call.path}: {kind}"
+    return [] if got == hoped else [f"{what}: wanted {hoped}, got {got}"]
 
 
 def has_stand_in(call: Call, kind: Kind, calls: list[Call]) -> bool:
@@ -245,7 +219,7 @@ def check_cases(pool: Pool, tools: Tools, names: list[str], room: str) -> tuple[
     return faults, count
 
 
-INPUTS = b"--settings settings.toml --demand demand.csv --costs costs.csv --capacity capacity.csv".split()
+INPUTS = oracle.INPUTS.encode().split()
 PLACE = b"locate --option local --servers 2 10/3".split()
 PLAN = [b"plan"] + INPUTS
 ENTRIES = [b"dispatch"] + INPUTS + b"--plan plan.txt --log log.csv".split()
@@ -405,13 +379,9 @@ def main() -> int:
         folder = os.path.join(room, "data")
         found += [] if given.names else [check_streams(tools, folder), check_shrinking(tools, folder, room)]
     faults = [fault for it in found for fault in it[0]]
-    for fault in faults:
-        print(fault)
-    print(
-        f"files and streams: {found[0][1]} calls made to fail, "
-        f"{sum(it[1] for it in found[1:])} runs on other streams and files, {len(faults)} faults"
-    )
-    return 1 if faults or not found[0][1] else 0
+    failed, others = found[0][1], sum(it[1] for it in found[1:])
+    line = f"files and streams: {failed} calls made to fail, {others} runs on other streams and files,"
+    return programs.concluded(faults, line, bool(failed))
 
 
 if __name__ == "__main__":

@@ -1,25 +1,16 @@
 #!/usr/bin/env python3
-"""Runs the built program where everything stands at its limit at once.
+"""Runs the built programs where everything stands at its limit at once: regions, sites, servers, hosts, rows, counts,
+handles, names, identifiers and costs, logs, fronts and classes.
 
     tools/gate/check_limits.py [--program FILE] [--stream FILE] [--jobs N]
 
-One service has 64 regions, 32 sites, 1,024 servers, 1,024 hosts and 8,192 rows of 1,000,000 queries, nearly all of
-them with handles of 4,096 octets; names, identifiers and costs are the longest and greatest. Every command runs over
-it, with a plan that sends each row to all sites, and with a shortage of all rows. Logs have 1,000,000 answers of each
-kind, by a dispatcher and by 64 fronts, and end with a bad row of seven digits. hsplan-stream
-checks the same plan and shortage by prices, and reports the plan. It checks a certificate of 1,048,576 classes, and
-refuses one of a class more.
-
-Then files of each length from 0 to 8,193, and of 65,535 to 65,537 octets, are read whole.
-
-What the program has to print follows from how the service is made. The responsible server of a handle (RFC 3652,
-section 3.1.3) is computed here by Python's own MD5.
+Every command runs over the service, with a plan that sends each row to all sites, and with a shortage of all rows. Then
+files of each length from 0 to 8,193, and of 65,535 to 65,537 octets, are read whole. What the programs have to print
+follows from how the service is made, and from the responsible servers by tools/lib/oracle.py.
 """
-from __future__ import annotations
 
 import argparse
 import concurrent.futures
-import hashlib
 import itertools
 import os
 import subprocess
@@ -31,7 +22,7 @@ from pathlib import Path
 
 sys.path.insert(0, str(Path(__file__).resolve().parents[1]))
 
-from lib import programs
+from lib import oracle, programs
 
 
 SITES, SERVERS, REGIONS, ROWS = 32, 32, 64, 8_192
@@ -42,16 +33,7 @@ CLASSES, PRICE, SUM = 1_048_576, 10**12, 10**16
 # The servers of a short service can take 1,024 queries less than all rows ask for.
 LITTLE = ROWS * COUNT // (SITES * SERVERS) - 1
 
-INPUTS = [
-    "--settings",
-    "settings.toml",
-    "--demand",
-    "demand.csv",
-    "--costs",
-    "costs.csv",
-    "--capacity",
-    "capacity.csv",
-]
+INPUTS = oracle.INPUTS.split()
 PLAN = INPUTS + ["--plan", "plan.txt"]
 SHORT = INPUTS[:-1] + ["little.csv"]
 LOG = ["dispatch"] + PLAN + ["--log"]
@@ -72,11 +54,8 @@ def handle_of(row: int) -> str:
 
 
 def place_of(option: int, handle: str) -> int:
-    """The place of the responsible server among those of a site, by the hash option (RFC 3652, section 3.1.3)."""
-    authority, local = handle.split("/", 1)
-    octets = (authority, local, handle)[option].encode()
-    upper = bytes(it - 32 if 97 <= it <= 122 else it for it in octets)
-    return abs(int.from_bytes(hashlib.md5(upper).digest()[12:], "big", signed=True)) % SERVERS
+    """The place of the responsible server among those of a site, by the hash option."""
+    return oracle.hash_of(option, handle) % SERVERS
 
 
 def record_of(site: int) -> str:
@@ -145,7 +124,6 @@ def short_prices() -> bytes:
 
 
 def files() -> dict[str, bytes]:
-    """The files of the service, by their names."""
     sites = [f'[[site]]\nname = "{name_of("s", at)}"\nrecord = "{record_of(at)}"' for at in range(SITES)]
     hosts = [f'[[host]]\naddress = "{at:032x}"\nlimit = {LIMIT}' for at in range(SITES * SERVERS)]
     demand = (f"{name_of('r', row % REGIONS)},{handle_of(row)},{COUNT}" for row in range(ROWS))
@@ -169,7 +147,6 @@ def files() -> dict[str, bytes]:
 
 
 def loads() -> bytes:
-    """The load report of that plan."""
     load = {server: 0 for server in each_server()}
     for row in range(ROWS):
         handle = handle_of(row)
@@ -211,8 +188,6 @@ def assigned(row: int, fronts: int = 1, front: int = 0) -> Iterator[str]:
 
 @dataclass
 class Log:
-    """A log without its header, and its answers."""
-
     rows: list[str]
     answers: list[str]
 
@@ -313,9 +288,7 @@ def shown(octets: bytes) -> bytes:
 def fault_of(program: str, folder: str, case: Case) -> list[str]:
     """The fault of a case, if it has one. What `plan` printed is checked too."""
     printed, reported, status = run(program, case.words, folder)
-    is_right = (
-        printed.startswith(case.printed) and printed.endswith(case.end) if case.end else printed == case.printed
-    )
+    is_right = printed.startswith(case.printed) and printed.endswith(case.end) if case.end else printed == case.printed
     name = " ".join(it if len(it) < 100 else it[:20] + ".." for it in case.words)
     if not is_right or (reported, status) != (case.reported, case.status):
         wanted = (shown(case.printed), case.reported, case.status)
@@ -349,9 +322,7 @@ def length_fault(program: str, folder: str, length: int) -> list[str]:
 
 
 def main() -> int:
-    words = argparse.ArgumentParser(
-        description="Runs the built program where everything stands at its limit at once."
-    )
+    words = argparse.ArgumentParser(description="Runs the built program where everything stands at its limit at once.")
     words.add_argument("--program", default=programs.tested("hsplan"))
     words.add_argument("--stream", default=programs.tested("hsplan-stream"), metavar="FILE")
     words.add_argument("--jobs", type=int, default=len(os.sched_getaffinity(0)))
@@ -368,10 +339,7 @@ def main() -> int:
         found += [fault_of(stream, folder, case) for case in stream_cases(folder)]
         found_in_lengths = list(pool.map(lambda it: length_fault(program, folder, it), lengths))
     faults = [fault for it in found + found_in_lengths for fault in it]
-    for fault in faults:
-        print(fault)
-    print(f"limits: {len(found)} runs at the limits, {len(lengths)} lengths of files, {len(faults)} faults")
-    return 1 if faults else 0
+    return programs.concluded(faults, f"limits: {len(found)} runs at the limits, {len(lengths)} lengths of files,")
 
 
 if __name__ == "__main__":

@@ -4,7 +4,6 @@
 The version of each page has to be that of VERSION. A tool that is not installed is named as not tried. If no tool is
 installed, that is a fault.
 """
-from __future__ import annotations
 
 import os
 import re
@@ -26,7 +25,6 @@ TOOLS = {
 
 
 def warnings(tool: str, page: str) -> list[str]:
-    """The warnings that a tool prints about a page."""
     ended = subprocess.run(TOOLS[tool] + [page], stdout=subprocess.PIPE, stderr=subprocess.PIPE, text=True)
     said = ended.stderr + (ended.stdout if tool == "mandoc" else "")
     left = [] if ended.returncode == 0 or said.strip() else [f"{tool}: ended with status {ended.returncode}"]
@@ -34,15 +32,9 @@ def warnings(tool: str, page: str) -> list[str]:
 
 
 def wrong_version(page: str) -> list[str]:
-    with open(page, encoding="utf-8") as file:
-        stated = re.search(r'^\.TH .* "hsplan ([^"]*)"', file.read(), re.M)
-    with open(os.path.join(programs.TOP, "VERSION"), encoding="utf-8") as file:
-        version = file.read().strip()
-    return (
-        []
-        if stated and stated.group(1) == version
-        else [f"{os.path.relpath(page, programs.TOP)} is not of version {version}"]
-    )
+    stated = re.search(r'^\.TH .* "hsplan ([^"]*)"', programs.text_of(page), re.M)
+    is_right = stated and stated[1] == programs.version()
+    return [] if is_right else [f"{os.path.relpath(page, programs.TOP)} is not of version {programs.version()}"]
 
 
 def main() -> int:
@@ -50,15 +42,9 @@ def main() -> int:
     absent = [it for it in TOOLS if it not in there]
     faults = [fault for page in PAGES for fault in wrong_version(page)]
     faults += [fault for page in PAGES for it in there for fault in warnings(it, page)]
-    notes = [f"{it} IS NOT INSTALLED HERE: the manual pages were not tried with it" for it in absent]
-    print(
-        "\n".join(
-            faults
-            + notes
-            + [f"manual pages: {len(PAGES)} formatted by {', '.join(there) or 'no tool'}, {len(faults)} faults"]
-        )
-    )
-    return 1 if faults or not there else 0
+    print("".join(f"{it} IS NOT INSTALLED HERE: the manual pages were not tried with it\n" for it in absent), end="")
+    line = f"manual pages: {len(PAGES)} formatted by {', '.join(there) or 'no tool'},"
+    return programs.concluded(faults, line, bool(there))
 
 
 if __name__ == "__main__":

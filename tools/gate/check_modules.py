@@ -7,7 +7,6 @@ The rules: the modules of a crate do not import one another in a circle. No line
 columns, but for an attribute, which rt fmt writes in one line, and no line of a contract's clause has over 100, but in
 crates of tests. In a file of lemmas each lemma has a line above it that says in words what it shows.
 """
-from __future__ import annotations
 
 import re
 import sys
@@ -15,7 +14,11 @@ from collections.abc import Iterator
 from graphlib import CycleError, TopologicalSorter
 from pathlib import Path
 
-CRATES = Path(__file__).resolve().parents[2] / "crates"
+sys.path.insert(0, str(Path(__file__).resolve().parents[1]))
+
+from lib import programs
+
+CRATES = Path(programs.TOP, "crates")
 
 COLUMNS = 120
 CLAUSE_COLUMNS = 100
@@ -47,7 +50,6 @@ def open_behind(line: str, depth: int) -> int:
 
 
 def clauses_in(lines: list[str]) -> Iterator[int]:
-    """The lines of contracts' clauses, by their numbers."""
     depth = 0
     for number, line in enumerate(lines):
         if depth or CLAUSE.match(line):
@@ -77,7 +79,6 @@ def indent_of(line: str) -> int:
 
 
 def end_of(lines: list[str], start: int, ending: str) -> int:
-    """The first line from `start` on that ends so."""
     return next(number for number in range(start, len(lines)) if lines[number].endswith(ending))
 
 
@@ -122,10 +123,7 @@ def main() -> int:
     circles = {crate.name: circle_in(imports_of(crate)) for crate in crates}
     faults = [f"{name}: {' -> '.join(circle)}" for name, circle in circles.items() if circle]
     faults += [fault for crate in crates for fault in form_faults(crate)]
-    for fault in faults:
-        print(fault)
-    print(f"modules: {len(crates)} crates, {len(faults)} faults")
-    return 1 if faults else 0
+    return programs.concluded(faults, f"modules: {len(crates)} crates,")
 
 
 if __name__ == "__main__":

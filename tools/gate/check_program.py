@@ -1,15 +1,12 @@
 #!/usr/bin/env python3
 """Runs the built programs over the cases in checks/hsplan and checks/hsplan-stream, whose form tools/lib/cases.py says.
 
-A program runs in a folder with the files that all cases share, and the case's own: of hsplan those of examples/base,
-of hsplan-stream a service of three sites (tools/lib/stream_service.py) and its plan. Each case with words is run
-twice: with the words as arguments, and with the words on standard input. Then every allocation of each case is refused
-in turn. The program has to report that, or to end as without a refusal. The commands that print as they read may have
-printed their first lines by then.
-
     tools/gate/check_program.py [--jobs N] [--most N]    refuses N allocations of a case that has more
+
+Each case with words is run twice: with the words as arguments, and with the words on standard input. Then every
+allocation of each case is refused in turn. The program has to report that, or to end as without a refusal. The commands
+that print as they read may have printed their first lines by then.
 """
-from __future__ import annotations
 
 import argparse
 import concurrent.futures
@@ -92,7 +89,6 @@ def refused(room: Room, run: Run, numbers: Sequence[int]) -> list[str]:
 
 
 def check(pool: concurrent.futures.Executor, name: str, folder: str, most: int | None) -> list[str]:
-    """The faults of the cases of a program."""
     data = cases.base(name, folder, programs.tested("hsplan"))
     room = Room(name, programs.tested(name), data, preload.built("refuse_growth", folder))
     every = cases.cases_in(name)

@@ -1,24 +1,13 @@
 #!/usr/bin/env python3
 """Compares the folder `release` with this tree and with what the gate proved and built, and tries it without the kit.
 
-A release is written once for each version. Where VERSION is ahead of it, it is NOT COMPARED with this tree. Otherwise it
-fails where
-
-- the sources or a sum differ from what release/MADE and release/SHA256SUMS state;
-- a program in it is not octet for octet the one in crates/NAME/out.
-
-With another kit than that of MADE, two builds may differ. Then the programs are reported as NOT COMPARED, with the
-lines of both kits, and the cases of checks/hsplan are run with the released program.
-
-Then a copy of the tree in an empty folder, without anything built, is tried with a PATH that has no `rt`, and as a
-user other than root. Tried are `make demo`, `make try`, `make install` and the installed program, the archive and the
-package that `make archive` and `make deb` make, and what is printed on another machine, without a release, and with a
-forged one.
-
     tools/gate/check_release.py              does all
     tools/gate/check_release.py --unbuilt    compares no program with one that is built here, and needs no kit
+
+A release is written once for each version. Where VERSION is ahead of it, it is NOT COMPARED with this tree. With
+another kit than that of release/MADE, two builds may differ. Then the programs are NOT COMPARED, and the cases of
+checks/hsplan are run with the released program. At last somebody without `rt` tries a copy of the tree.
 """
-from __future__ import annotations
 
 import argparse
 import os
@@ -107,9 +96,7 @@ class Visitor:
 def expected(visitor: Visitor, words: str, status: int, parts: list[str], **how: str) -> list[str]:
     """The fault of a command that has another status, lacks a wanted text, or prints a traceback."""
     printed, got = visitor.run(words, **how)
-    fine = (
-        got == status and all(it in printed for it in parts) and "Traceback" not in printed and "***" not in printed
-    )
+    fine = got == status and all(it in printed for it in parts) and "Traceback" not in printed and "***" not in printed
     return [] if fine else [f"{words}: wanted status {status} and {parts}, got {got}:\n{printed}"]
 
 
@@ -121,13 +108,8 @@ def visit(visitor: Visitor) -> list[str]:
     begun = time.monotonic()
     faults = expected(visitor, "make demo", 0, [released, "\nyes\n", "bound 523976 - 216760 = 307216"])
     faults += expected(visitor, "make install PREFIX=$HOME/.local", 0, [released])
-    faults += expected(
-        visitor,
-        f"{installed} {PLAN.format(visitor.top + '/' + example, 'demand.csv')}",
-        0,
-        ["cost 307216"],
-        within=".local",
-    )
+    plan = f"{installed} {PLAN.format(visitor.top + '/' + example, 'demand.csv')}"
+    faults += expected(visitor, plan, 0, ["cost 307216"], within=".local")
     gone = time.monotonic() - begun
     faults += [f"demo, installation and a plan took {gone:.1f} seconds"] if gone > LIMIT else []
     faults += expected(visitor, f"make try ARGS='{short}'", 0, ["SHORTAGE", "\nstatus 3\n"])
@@ -228,9 +210,8 @@ def main() -> int:
         faults.append(f"{PATH} has an rt: the release was not tried without the kit")
     elif not faults:
         faults += tried(visit) + tried(strangers)
-    line = f"release: version {programs.released()}, {len(programs.PROGRAMS)} programs, {len(faults)} faults"
-    print("\n".join([*faults, line]))
-    return 1 if faults else 0
+    line = f"release: version {programs.released()}, {len(programs.PROGRAMS)} programs,"
+    return programs.concluded(faults, line)
 
 
 if __name__ == "__main__":

@@ -4,27 +4,8 @@
     tools/gate/check_stream.py [--program FILE] [--hsplan FILE] [--million N]
 
 What has to be printed is computed by tools/lib/oracle.py. The worked cases stand in checks/hsplan-stream, and
-tools/gate/check_program.py runs them. Here are tried:
-
-- the options that the help names;
-- places of the handles of random logs;
-- answers to random logs by certificates by prices, by each front, also to logs that ask for more than there is room;
-- certificates by prices of random logs, made of plans and shortages of their kinds, and with a number changed; their
-  reports, which are those of `hsplan report` of the table of the kinds; and those that `plan` prints, at the cost of
-  the plan of the kinds;
-- plans of logs of 12,000 rows, of random services with hosts and few costs: the same cost as that of the plan of their
-  kinds, or a shortage where these have one;
-- plans of logs whose handles are the whole table of kinds of a service that has 100,000 of them, and of rows that all
-  tie, in a certificate and in one whose text would be too large;
-- the line that shows how far a plan is, which only a terminal gets;
-- examples/twelve-sites, planned as a table and by prices, at the same cost;
-- a co-process over pipes: each row is answered within a second, before the next one is written;
-- a log of a million handles: its plan, `check` and `report` of that, and `answer` over the same log, by which each row
-  is assigned; none of its runs takes more than 64 MB;
-- a plan of 100,000 rows with 3,200,000 arcs within 64 MB, since hardly any of the arcs is kept;
-- each open, read and write of some runs failing in turn.
+tools/gate/check_program.py runs them. Each `check_` function says what is tried here.
 """
-from __future__ import annotations
 
 import argparse
 import csv
@@ -36,14 +17,11 @@ import re
 import subprocess
 import sys
 import tempfile
-import threading
-import time
-from typing import Iterable
 from pathlib import Path
 
 sys.path.insert(0, str(Path(__file__).resolve().parents[1]))
 
-from lib import examples, failing, preload, programs
+from lib import cases, examples, failing, preload, programs, talks
 from lib import oracle, price_answers, price_cases, price_verdicts, prices
 from lib.price_verdicts import Bounds
 
@@ -65,34 +43,27 @@ Ended = tuple[bytes, bytes, int]
 
 
 class Programs:
-    """The two programs, and the folder in which they run."""
-
     def __init__(self, stream: str, hsplan: str, folder: str) -> None:
         self.stream, self.hsplan, self.folder = stream, hsplan, folder
 
     def run(self, words: str, given: bytes = b"", **more: str) -> Ended:
         """Runs hsplan-stream with words and standard input. Returns what it printed, and its status."""
-        ended = subprocess.run(
-            [self.stream, *words.split()],
-            input=given,
-            cwd=self.folder,
-            stdout=subprocess.PIPE,
-            stderr=subprocess.PIPE,
-            env=dict(os.environ, **more),
-        )
-        return ended.stdout, ended.stderr, ended.returncode
+        return cases.run(self.stream, words.encode().split(), given, self.folder, **more)
+
+    def by_hsplan(self, words: str) -> bytes:
+        """What hsplan prints of the table of demand."""
+        command, *more = words.encode().split()
+        return cases.run(self.hsplan, [command, *INPUTS.encode().split(), *more], b"", self.folder)[0]
 
     def plan(self) -> bytes:
         """The text of a plan by hsplan, also kept as plan.txt."""
-        words = ["plan", *INPUTS.split()]
-        text = subprocess.run([self.hsplan, *words], cwd=self.folder, stdout=subprocess.PIPE).stdout
+        text = self.by_hsplan("plan")
         self.put("plan.txt", text)
         return text
 
     def report(self, kind: str) -> bytes:
         """What hsplan reports by plan.txt."""
-        words = ["report", *INPUTS.split(), "--plan", "plan.txt", "--kind", kind]
-        return subprocess.run([self.hsplan, *words], cwd=self.folder, stdout=subprocess.PIPE).stdout
+        return self.by_hsplan(f"report --plan plan.txt --kind {kind}")
 
     def plan_by_prices(self, table: bytes) -> None:
         """Keeps a plan of the table of demand as plan.txt, and its certificate by prices as plan.prices."""
@@ -101,12 +72,10 @@ class Programs:
         self.put("plan.prices", prices.of_plan(oracle.THREE, counted, self.plan()))
 
     def put(self, name: str, octets: bytes) -> None:
-        with open(os.path.join(self.folder, name), "wb") as file:
-            file.write(octets)
+        oracle.put_files(self.folder, {name: octets})
 
 
 def fault(what: str, got: object, wanted: object) -> list[str]:
-    """A fault where the two differ."""
     shown = (str(it)[:600] for it in (wanted, got))
     return [] if got == wanted else ["{}: wanted {}, got {}".format(what, *shown)]
 
@@ -150,18 +119,15 @@ def options_in_manual() -> dict[str, list[list[str]]]:
 # ---- random logs
 
 
-def log_of(header: str, rows: Iterable[Iterable[object]]) -> bytes:
-    return oracle.csv_of(header, rows)
-
-
 def check_places(it: Programs, draw: random.Random) -> list[str]:
+    """The places of the handles of a random log, with regions and without."""
     rows = [entry for entry in oracle.entries(draw, 500) if "\r" not in entry[1]]
-    wanted = log_of(
+    wanted = oracle.csv_of(
         "handle,site,place,server_id", (line for _, handle in rows for line in oracle.THREE.places(handle))
     )
-    found = fault("places", it.run(PLACES, log_of("region,handle", rows)), (wanted, b"", 0))
+    found = fault("places", it.run(PLACES, oracle.csv_of("region,handle", rows)), (wanted, b"", 0))
     return found + fault(
-        "places of handles", it.run(PLACES, log_of("handle", ([it] for _, it in rows))), (wanted, b"", 0)
+        "places of handles", it.run(PLACES, oracle.csv_of("handle", ([it] for _, it in rows))), (wanted, b"", 0)
     )
 
 
@@ -171,7 +137,7 @@ def check_prices(it: Programs, draw: random.Random) -> list[str]:
     found, seen = [], set()
     for capacity in (1_000, 120, 100, 90, 80, 40):
         rows = [(*entry, draw.choice((0, 3, 40))) for entry in oracle.entries(draw, 60, 12)]
-        table, log = oracle.THREE.table(rows), log_of("region,handle,count", rows)
+        table, log = oracle.THREE.table(rows), oracle.csv_of("region,handle,count", rows)
         oracle.put_files(it.folder, oracle.THREE.files(table, capacity))
         plan = it.plan()
         is_short = plan.splitlines()[1] == b"SHORTAGE"
@@ -208,9 +174,7 @@ def check_plan(it: Programs, log: bytes, plan: bytes, is_short: bool) -> list[st
 def drawn_service(draw: random.Random) -> oracle.Service:
     """A service of few kinds, in which a region has costs at some sites."""
     sizes = [draw.randint(1, 4) for _ in range(draw.randint(2, 5))]
-    sites = tuple(
-        oracle.Site(f"s{at}", draw.randrange(3), tuple(range(1, size + 1))) for at, size in enumerate(sizes)
-    )
+    sites = tuple(oracle.Site(f"s{at}", draw.randrange(3), tuple(range(1, size + 1))) for at, size in enumerate(sizes))
     costs = {(region, site.name): draw.randint(0, 20) for region in oracle.REGIONS for site in draw.sample(sites, 2)}
     more = {(region, site.name): 21 for region in oracle.REGIONS for site in sites if draw.random() < 0.3}
     return oracle.Service(sites, {**more, **costs}, hosts=draw.choice((0, 0, 2)))
@@ -219,19 +183,23 @@ def drawn_service(draw: random.Random) -> oracle.Service:
 def bounds_of(service: oracle.Service, rows: list[oracle.Row], draw: random.Random) -> tuple[list[int], list[int]]:
     """Capacities and limits that are near what servers and hosts get where each row goes to one of its sites."""
     firsts = [sum(len(own.servers) for own in service.sites[:at]) for at in range(len(service.sites))]
-    on, loads = prices.hosts_of(service), [0] * len(prices.hosts_of(service))
+    loads = [0] * len(prices.hosts_of(service))
     for region, handle, count in rows:
         site = draw.choice(service.sites_of(region))
         loads[firsts[site] + service.sites[site].place(handle)] += count
-    hosts = [sum(load for load, own in zip(loads, on) if own == host) for host in range(service.hosts)]
+    hosts = price_verdicts.on_hosts(service, loads)
     factor = draw.choice((1.3, 1.05, 1.01, 0.97))
     return [int(load * factor) + 1 for load in loads], [int(load * factor) + 1 for load in hosts]
 
 
 def put_service(it: Programs, service: oracle.Service, rows: list[oracle.Row], draw: random.Random) -> Bounds:
     """Writes the files of the service, with capacities and limits that are near what the rows ask for."""
-    bounds = Bounds(*bounds_of(service, rows, draw))
     oracle.put_files(it.folder, service.files())
+    return put_bounds(it, service, Bounds(*bounds_of(service, rows, draw)))
+
+
+def put_bounds(it: Programs, service: oracle.Service, bounds: Bounds) -> Bounds:
+    """Writes the settings and the capacities of a service with these bounds."""
     it.put("settings.toml", service.settings(bounds.limits))
     servers = ((site.name, own) for site in service.sites for own in site.servers)
     capacities = ((*server, capacity) for server, capacity in zip(servers, bounds.capacities))
@@ -251,7 +219,7 @@ def check_many_rows(it: Programs, draw: random.Random, services: int = 8) -> lis
         it.put("demand.csv", oracle.csv_of("region,handle,count", service.table(rows)))
         plan = it.plan()
         is_short = plan.splitlines()[1] == b"SHORTAGE"
-        found += check_plan(it, log_of("region,handle,count", rows), plan, is_short)
+        found += check_plan(it, oracle.csv_of("region,handle,count", rows), plan, is_short)
         seen.add(is_short)
     return found + fault("plans and shortages of many rows", len(seen), 2)
 
@@ -267,7 +235,7 @@ def check_whole_table(it: Programs, draw: random.Random) -> list[str]:
         handles.setdefault(tuple(site.place(handle) for site in sites), handle)
     rows = [(region, handle, draw.randint(1, 9)) for region in regions for handle in handles.values()]
     draw.shuffle(rows)
-    bounds, log = put_service(it, service, rows, draw), log_of("region,handle,count", rows)
+    bounds, log = put_service(it, service, rows, draw), oracle.csv_of("region,handle,count", rows)
     text, line, status = it.run(PLAN, log)
     it.put("plan.prices", text)
     found = fault("plan of a whole table", (line, status in (0, 3)), (b"", True))
@@ -283,7 +251,7 @@ def check_ties(it: Programs) -> list[str]:
     oracle.put_files(it.folder, oracle.Service(sites, {("eu", site.name): 5 for site in sites}).files())
     found = []
     for many, wanted in ((20_000, (b"", 0)), (450_000, (b"hsplan-stream: plan: TooLarge\n", 1))):
-        log = log_of("region,handle,count", (("eu", f"10.{at}/{at}", 1) for at in range(many)))
+        log = oracle.csv_of("region,handle,count", (("eu", f"10.{at}/{at}", 1) for at in range(many)))
         text, *said = it.run(PLAN, log)
         found += fault(f"plan of {many} ties", tuple(said), wanted)
         it.put("plan.prices", text)
@@ -320,14 +288,11 @@ def check_price_answers(it: Programs, draw: random.Random) -> list[str]:
         service = oracle.THREE._replace(hosts=len(limits))
         capacities = [draw.randrange(40, 80) for _ in range(9)]
         table = service.table((*entry, draw.choice((0, 3, 8))) for entry in oracle.entries(draw, 60, 12))
-        servers = ((site.name, own) for site in service.sites for own in site.servers)
         oracle.put_files(it.folder, service.files(table))
-        it.put("settings.toml", service.settings(limits))
-        rows = ((*server, capacity) for server, capacity in zip(servers, capacities))
-        it.put("capacity.csv", oracle.csv_of("site,server_id,capacity", rows))
+        bounds = put_bounds(it, service, Bounds(capacities, list(limits)))
         text = prices.of_plan(service, table, it.plan())
         it.put("plan.prices", text)
-        plan = price_answers.read_plan(service, Bounds(capacities, list(limits)), text)
+        plan = price_answers.read_plan(service, bounds, text)
         asked = [row[:2] for row in table for _ in range(3 * row[2])] + [("mars", "10/1"), ("eu", "10.3/new")]
         draw.shuffle(asked)
         given: list[str] = []
@@ -338,21 +303,20 @@ def check_price_answers(it: Programs, draw: random.Random) -> list[str]:
             wanted = [own.answer(*row) for row in log]
             printed = "".join(f"{line}\n" for line in wanted).encode()
             ended = (printed, price_answers.sums_of(wanted).encode(), 0)
-            found += fault(words, it.run(words, log_of("region,handle", log)), ended)
-            given += it.run(words, log_of("region,handle", log))[0].decode().splitlines()
-        found += above(service, capacities, limits, given)
+            found += fault(words, it.run(words, oracle.csv_of("region,handle", log)), ended)
+            given += it.run(words, oracle.csv_of("region,handle", log))[0].decode().splitlines()
+        found += above(service, bounds, given)
     return found
 
 
-def above(service: oracle.Service, capacities: list[int], limits: Iterable[int], answers: list[str]) -> list[str]:
+def above(service: oracle.Service, bounds: Bounds, answers: list[str]) -> list[str]:
     """The servers and hosts to which answers send more than they take."""
     sent = [answer.split()[1:3] for answer in answers if answer.startswith(("assigned ", "diverted "))]
     servers = [[site.name, str(place)] for site in service.sites for place in range(len(site.servers))]
     loads = [sent.count(server) for server in servers]
-    on = prices.hosts_of(service)
-    hosts = [sum(load for load, own in zip(loads, on) if own == host) for host in range(service.hosts)]
-    found = [f"{at} takes {load}" for at, load in enumerate(loads) if load > capacities[at]]
-    found += [f"host {at} takes {load}" for at, (load, most) in enumerate(zip(hosts, limits)) if load > most]
+    hosts = price_verdicts.on_hosts(service, loads)
+    found = [f"{at} takes {load}" for at, (load, most) in enumerate(zip(loads, bounds.capacities)) if load > most]
+    found += [f"host {at} takes {load}" for at, (load, most) in enumerate(zip(hosts, bounds.limits)) if load > most]
     return found + fault("some rows were sent", bool(sent), True)
 
 
@@ -386,37 +350,15 @@ def check_twelve(it: Programs) -> list[str]:
 
 def check_talk(it: Programs, rows: int = 2_000) -> list[str]:
     """Each row of a co-process is answered within a second, before the next one is written."""
-    running = subprocess.Popen(
-        [it.stream, *ANSWER.split()],
-        cwd=it.folder,
-        stdin=subprocess.PIPE,
-        stdout=subprocess.PIPE,
-        stderr=subprocess.PIPE,
-    )
-    assert running.stdin and running.stdout and running.stderr
-    watch = threading.Timer(60, running.kill)
-    watch.start()
-    running.stdin.write(b"region,handle\n")
-    running.stdin.flush()
-    slowest, begun = 0.0, time.monotonic()
-    for number in range(rows):
-        asked = time.monotonic()
-        running.stdin.write(b"eu,10.1/h%d\n" % (number % 50) if number % 5 else b"eu\n")
-        running.stdin.flush()
-        line = running.stdout.readline()
-        slowest = max(slowest, time.monotonic() - asked)
-        if not line.endswith(b"\n"):
-            running.kill()
-            return [f"the co-process ended at row {number}: {line!r}"]
-    each = (time.monotonic() - begun) / rows
-    running.stdin.close()
-    rest, reported, status = running.stdout.read(), running.stderr.read(), running.wait()
-    watch.cancel()
-    print(f"co-process: {rows} rows, each after the answer before, {each * 1e6:.0f} microseconds a row")
+    asked = (b"eu,10.1/h%d" % (number % 50) if number % 5 else b"eu" for number in range(rows))
+    try:
+        talk = talks.talk([it.stream, *ANSWER.split()], it.folder, asked)
+    except SystemExit as stopped:
+        return [str(stopped)]
+    print(talk.line())
+    slowest, (rest, reported, status) = max(talk.seconds), talk.ended
     found = [] if slowest < 1 else [f"a row of the co-process took {slowest:.1f} seconds"]
-    return found + fault(
-        "the end of the co-process", (rest, reported.startswith(b"assigned "), status), (b"", True, 0)
-    )
+    return found + fault("the end of the co-process", (rest, reported.startswith(b"assigned "), status), (b"", True, 0))
 
 
 # ---- a million handles
@@ -436,21 +378,25 @@ def table_in(log: str) -> bytes:
     with open(log, encoding="utf-8") as lines:
         next(lines)
         rows = (line.rstrip("\n").split(",") for line in lines)
-        return log_of("region,handle,count", oracle.THREE.table((region, handle, 1) for region, handle in rows))
+        return oracle.csv_of("region,handle,count", oracle.THREE.table((region, handle, 1) for region, handle in rows))
 
 
 def check_million(it: Programs, number: int) -> list[str]:
+    """A log of so many handles: its plan, check, answers and reports of that, each within 64 MB."""
+    found: list[str] = []
     with tempfile.TemporaryDirectory() as folder:
         log, answers, verdict = (os.path.join(folder, it) for it in ("log.csv", "answers", "verdict"))
         oracle.put_files(folder, oracle.THREE.files())
         with open(log, "wb") as file:
             file.writelines(oracle.many_rows(number))
-        planned = measured([it.stream, *PLAN.split()], folder, log, os.path.join(folder, "plan.prices"))
-        found = fault("plan of a million handles", (planned[0], planned[1] < LIMIT_KB), (0, True))
-        checked = measured([it.stream, *CHECK.split()], folder, log, verdict)
-        found += fault("check of a million handles", (checked[0], checked[1] < LIMIT_KB), (0, True))
-        reported = measured([it.stream, *ANSWER.split()], folder, log, answers)
-        found += fault("answers to a million handles", (reported[0], reported[1] < LIMIT_KB), (0, True))
+        runs = {}
+        for name, words, out in (
+            ("plan", PLAN, os.path.join(folder, "plan.prices")),
+            ("check", CHECK, verdict),
+            ("answer", ANSWER, answers),
+        ):
+            runs[name] = measured([it.stream, *words.split()], folder, log, out)
+            found += fault(f"{name} of a million handles", (runs[name][0], runs[name][1] < LIMIT_KB), (0, True))
         with open(answers, "rb") as lines:
             every = sum(line.startswith(b"assigned ") for line in lines)
         found += fault("every row is assigned", every, number)
@@ -465,11 +411,8 @@ def check_million(it: Programs, number: int) -> list[str]:
             found += fault(f"report of {kind} of a million handles", (ended[0], ended[1] < LIMIT_KB), (0, True))
             with open(f"{verdict}.{at}", "rb") as file:
                 found += fault(f"report of {kind} of a million handles", file.read(), here.report(kind))
-    speeds = ", ".join(
-        f"{name} {number / taken:,.0f}"
-        for name, taken in (("plan", planned[2]), ("check", checked[2]), ("answer", reported[2]))
-    )
-    most = max(planned[1], checked[1], reported[1])
+    speeds = ", ".join(f"{name} {number / taken:,.0f}" for name, (_, _, taken) in runs.items())
+    most = max(kilobytes for _, kilobytes, _ in runs.values())
     print(f"{number:,} handles: {speeds} rows a second of a processor, {most:,} kB at most")
     return found
 
@@ -537,9 +480,7 @@ def check_failing(it: Programs, room: str) -> tuple[list[str], int]:
                 tried += 1
             if call.name == "read":
                 got = it.run(words, given, LD_PRELOAD=preloaded, FAIL_IO=f"read {call.number} {errno.EINTR}")
-                found += (
-                    [] if is_cut(got, ordinary, "read") else [f"{words}: read {call.number} is interrupted: {got}"]
-                )
+                found += [] if is_cut(got, ordinary, "read") else [f"{words}: read {call.number} is interrupted: {got}"]
                 tried += 1
     return found, tried
 
@@ -573,8 +514,7 @@ def main() -> int:
         os.mkdir(folder)
         it = Programs(os.path.abspath(given.program), os.path.abspath(given.hsplan), folder)
         faults = check_all(it, given.million, room)
-    print("\n".join([*faults, f"stream: {len(faults)} faults"]))
-    return 1 if faults else 0
+    return programs.concluded(faults, "stream:")
 
 
 if __name__ == "__main__":

@@ -5,7 +5,6 @@ A command is a script that can be run. What several of them need stands in tools
 
     tools/gate/check_tools.py
 """
-from __future__ import annotations
 
 import ast
 import os
@@ -25,7 +24,6 @@ APART = "fuzz"
 
 
 def imported(path: Path) -> set[str]:
-    """The modules that a script names in its imports."""
     found = set()
     for node in ast.walk(ast.parse(path.read_text("utf-8"))):
         if isinstance(node, ast.Import):
@@ -74,8 +72,7 @@ def wrong_types() -> list[str]:
 
 def main() -> int:
     faults = wrong_imports() + wrong_types()
-    print("\n".join([*faults, f"tools: {len(list(TOOLS.rglob('*.py')))} scripts, {len(faults)} faults"]))
-    return 1 if faults else 0
+    return programs.concluded(faults, f"tools: {len(list(TOOLS.rglob('*.py')))} scripts,")
 
 
 if __name__ == "__main__":

@@ -1,6 +1,5 @@
 #!/usr/bin/env python3
 """Prints how many checks `rt ci` runs side by side in `make test`; `RT_JOBS=N make test` runs N of them."""
-from __future__ import annotations
 
 import sys
 from pathlib import Path

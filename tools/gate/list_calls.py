@@ -11,7 +11,6 @@ to it through private functions.
                                          docs/understand/PROOF.md names a call, a clause or a definition that is not
                                          there
 """
-from __future__ import annotations
 
 import argparse
 import os
@@ -40,7 +39,6 @@ class Call(NamedTuple):
 
 
 def turning(functions: list[Function], edits: list[str], faults: list[str]) -> dict[Function, list[str]]:
-    """The public calls that edits turn, each with their names."""
     by: defaultdict[Function, list[str]] = defaultdict(list)
     for edit in edits:
         name, turned = os.path.basename(edit)[: -len(".edit")], calls.turned(functions, edit)
@@ -101,9 +99,7 @@ def wrong_calls(prose: str) -> list[str]:
             faults.append(f"PROOF.md names a call that is not there: {call}")
             continue
         there = {it.label for it in known[call].clauses}
-        faults += [
-            f"PROOF.md: {it} is no clause of {call}" for it in re.findall(r"`(\w+)`", clause) if it not in there
-        ]
+        faults += [f"PROOF.md: {it} is no clause of {call}" for it in re.findall(r"`(\w+)`", clause) if it not in there]
     return faults
 
 
@@ -139,8 +135,7 @@ def main() -> int:
     every = [call for functions in found.values() for call in functions]
     gate, only_more = sum(bool(it.edits) for it in every), sum(bool(it.more and not it.edits) for it in every)
     turned = f"{gate} turned by edits of the gate, {only_more} only by others"
-    print("\n".join([*faults, f"calls: {len(every)}, {turned}, {len(faults)} faults"]))
-    return 1 if faults else 0
+    return programs.concluded(faults, f"calls: {len(every)}, {turned},")
 
 
 if __name__ == "__main__":

@@ -2,18 +2,13 @@
 """Lists what one reads to understand the proof of the headline: every definition, in an order in which nothing is used
 before it was read.
 
-The list begins at the clauses of the calls that plan, check and answer logs, and at the laws beside them. It goes
-down to all definitions that they mention, and to types and limits of the sources. Within a file the order is that of
-the lines, and among files that of what they mention. The script fails where there is no such order.
-
-Into docs/understand/READING.md go how long the page and the calls take to read, and the lines that answer an auditor's
-questions. The words counted are names and the words of comments, also of the comment above a definition. Signs and
-`use` lines are not counted.
-
-    tools/gate/list_reading.py            prints the list, and writes the two parts into the page
+    tools/gate/list_reading.py            prints the list, and writes the two parts into docs/understand/READING.md
     tools/gate/list_reading.py --check    prints and writes nothing, and compares the parts that are there
+
+The list begins at the clauses of the calls that plan, check and answer logs, and at the laws beside them. It goes
+down to all definitions that they mention, and to types and limits of the sources. The words counted are names and the
+words of comments, also of the comment above a definition. Signs and `use` lines are not counted.
 """
-from __future__ import annotations
 
 import argparse
 import os
@@ -73,10 +68,7 @@ PARTS = (
     (
         "What holds of all inputs and of all runs",
         (
-            *(
-                (PAGE_LAWS, it)
-                for it in ("GivesTheDefined", "AcceptsTheDefined", "GivesOneAnswer", "GivesNothingElse")
-            ),
+            *((PAGE_LAWS, it) for it in ("GivesTheDefined", "AcceptsTheDefined", "GivesOneAnswer", "GivesNothingElse")),
             *((LAWS, it) for it in ("DispatchedLogsShow", "FrontsLogsShow", "LogsGoByHash")),
         ),
     ),
@@ -116,7 +108,6 @@ QUESTIONS = (
 
 
 def head_of(file: str, call: str) -> str:
-    """The comment and the head of a call, up to its body."""
     with open(os.path.join(RUNS, "src", file), encoding="utf-8") as source:
         found = re.search(rf"((?:^///[^\n]*\n)*^pub fn {call}\b.*?)\n\{{\n", source.read(), re.S | re.M)
     if not found:
@@ -159,7 +150,6 @@ def paragraph(known: Known, found: list[One]) -> Iterator[str]:
 
 
 def listed() -> Iterator[str]:
-    """The whole list, by parts."""
     known, seen = modules(), set[One]()
     read: list[One] = []
     for title, starts in PARTS:
@@ -186,7 +176,6 @@ def promised(file: str, call: str, names: tuple[str, ...]) -> list[str]:
 
 
 def page_file(name: str) -> str:
-    """Where a file of the page stands."""
     crate = next(it for it, file, _ in FILES if file == name)
     return os.path.join(programs.TOP, "crates", crate, "specs", name)
 
@@ -238,9 +227,7 @@ def main() -> int:
         Path(PAGE).write_text(made, "utf-8")
         return 0
     is_right = made == page
-    print(
-        f"reading: {lines[-1]} READING.md is {'as' if is_right else 'not what'} tools/gate/list_reading.py writes it"
-    )
+    print(f"reading: {lines[-1]} READING.md is {'as' if is_right else 'not what'} tools/gate/list_reading.py writes it")
     return 0 if is_right else 1
 
 

@@ -8,7 +8,6 @@ is for. So each run writes the same octets.
     tools/gate/make_examples.py            writes all
     tools/gate/make_examples.py --check    writes nothing, and compares the kept ones with what it would write there
 """
-from __future__ import annotations
 
 import argparse
 import os
@@ -28,7 +27,6 @@ def octets_at(path: str) -> bytes | None:
 
 
 def differing(folder: str, files: examples.Files) -> list[str]:
-    """The files that are not there, or hold other octets."""
     return [
         f"{folder}/{name} is not what tools/gate/make_examples.py writes"
         for name, octets in files.items()
@@ -45,8 +43,7 @@ def main() -> int:
     if arguments.parse_args().check:
         faults = [fault for folder, files in kept.items() for fault in differing(folder, files)]
         compared = " and ".join(f"{len(files)} files of {os.path.basename(folder)}" for folder, files in kept.items())
-        print("\n".join(faults + [f"examples: {compared} compared, {len(faults)} faults"]))
-        return 1 if faults else 0
+        return programs.concluded(faults, f"examples: {compared} compared,")
     for folder, files in kept.items():
         examples.write(folder, files)
     examples.write("examples/twelve-sites/out", examples.twelve_sites())

@@ -4,7 +4,6 @@ absent.
 
     tools/gate/packages.py
 """
-from __future__ import annotations
 
 import sys
 from pathlib import Path

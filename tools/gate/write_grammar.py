@@ -9,8 +9,6 @@ of `hsp` come of its own tree of commands: asked at each Tab, click would take h
 Debian's click and Jinja2.
 """
 
-from __future__ import annotations
-
 import difflib
 import re
 import sys
@@ -111,7 +109,6 @@ def _written(value: Any) -> str:
 
 
 def _of_command(command: grammar.Command) -> str:
-    """A command, in one line where it fits."""
     last = [_written(command.last)] if command.last else []
     parts = [_written(command.program), _written(command.needed), _written(command.optional), *last]
     line = f"Command({', '.join(parts)})"
@@ -121,7 +118,6 @@ def _of_command(command: grammar.Command) -> str:
 
 
 def _of_programs() -> str:
-    """The commands of each program."""
     lines = []
     for program in FLAGS:
         lines.append(f'    "{program}": {{\n')
@@ -131,7 +127,6 @@ def _of_programs() -> str:
 
 
 def _of_values(values: dict[str, str]) -> str:
-    """A dictionary of texts in one line."""
     return "{" + ", ".join(f"{_written(name)}: {_written(value)}" for name, value in values.items()) + "}"
 
 
@@ -141,10 +136,11 @@ def _listed(name: str, pairs: dict[str, str], kind: str) -> str:
 
 
 def module() -> str:
-    """The companion's module."""
     options = grammar.options().values()
     others = {
-        program: {name: it.value for name, it in own.items()} for program, own in grammar.own_options().items() if program
+        program: {name: it.value for name, it in own.items()}
+        for program, own in grammar.own_options().items()
+        if program
     }
     tables = {kind: _written(",".join(header)) for kind, header in grammar.table_headers().items()}
     logs = {
@@ -206,9 +202,7 @@ def _of_click(path: str, command: click.Command) -> Command:
     options, words = [], []
     for it in command.params:
         if isinstance(it, click.Option):
-            short, long = (
-                [name for name in it.opts if name.startswith("--") == is_long] for is_long in (False, True)
-            )
+            short, long = ([name for name in it.opts if name.startswith("--") == is_long] for is_long in (False, True))
             value = "" if it.is_flag else _kind(it)
             options.append(Option(long[0][2:], value, it.help or "", "".join(short), it.multiple))
         else:
@@ -233,7 +227,6 @@ def _below(command: click.Command) -> dict[str, click.Command]:
 
 
 def companion(behind: list[Program]) -> Program:
-    """hsp with its commands."""
     from hsp.cli import main
 
     found = []

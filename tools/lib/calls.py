@@ -1,5 +1,4 @@
 """The calls of the crates: what they say of themselves, the clauses of their contracts, and the edits that turn them."""
-from __future__ import annotations
 
 import glob
 import os
@@ -88,7 +87,6 @@ def end_of(lines: list[str], at: int, indent: str) -> tuple[int, int]:
 
 
 def comment_above(lines: list[str], at: int) -> list[str]:
-    """The lines of the comment above a function."""
     above = at - 1
     while above >= 0 and lines[above].strip().startswith("#["):
         above -= 1
@@ -129,7 +127,6 @@ def brought_in(lines: list[str]) -> dict[str, str]:
 
 
 def functions_of(path: str, names: set[str], is_open: bool) -> Iterator[Function]:
-    """The functions and constants of a file."""
     lines, owner, is_trait, crate = read(path), "", False, path.split(os.sep)[-3]
     cited = brought_in(lines)
     at, file = 0, os.path.basename(path)
@@ -149,18 +146,11 @@ def functions_of(path: str, names: set[str], is_open: bool) -> Iterator[Function
                 or (crate == "hsplan" and head.group("name") == "main")
             )
             text = "\n".join(lines[at : stop + 1])
-            fails = bool(head.group("public")) and re.match(r"[^{]*?-> Result<", text) is not None
-            yield Function(
-                head.group("name"),
-                seen,
-                file,
-                (at, end),
-                public,
-                public and fails and "# Errors" not in comment_above(lines, at),
-                doc_above(lines, at),
-                tuple(clauses_in(text, cited)),
-                "\n".join(lines[stop : end + 1]),
-            )
+            fails = bool(head["public"]) and re.match(r"[^{]*?-> Result<", text) is not None
+            is_silent = public and fails and "# Errors" not in comment_above(lines, at)
+            clauses, body = tuple(clauses_in(text, cited)), "\n".join(lines[stop : end + 1])
+            own = (head["name"], seen, file, (at, end), public, is_silent)
+            yield Function(*own, doc_above(lines, at), clauses, body)
             at = end
         elif item:
             end = next(it for it in range(at, len(lines)) if lines[it].rstrip().endswith(";"))

@@ -18,7 +18,6 @@ A line of a transcript begins with a mark:
 In a line, \\ is a backslash, \xNN an octet, \<N TEXT> the text N times, and \version the version. A backslash at its
 end leaves out the line's end. Lines above the first case are a comment.
 """
-from __future__ import annotations
 
 import os
 import re
@@ -51,7 +50,6 @@ class Case:
     judged: bytes = b""
 
     def ways(self) -> list[Way]:
-        """The ways in which it is run."""
         if self.words is None:
             return [(self.arguments, self.given)]
         if self.given:
@@ -69,7 +67,6 @@ class Case:
 
 
 def _octets(text: str) -> bytes:
-    """The octets of a line, with its end."""
     text = text.replace(r"\version", programs.version())
     text = re.sub(r"\\<([0-9]+) (.*?)>", lambda it: it[2] * int(it[1]), text)
     ended = re.search(r"(?<!\\)(?:\\\\)*\\$", text)
@@ -120,7 +117,6 @@ def _take(case: Case, into: str, mark: str, text: str) -> str:
 
 
 def cases_of(path: str) -> Iterator[Case]:
-    """The cases of a transcript."""
     command = os.path.splitext(os.path.basename(path))[0]
     case, into = None, "|"
     with open(path, encoding="utf-8", newline="\n") as file:
@@ -137,7 +133,6 @@ def cases_of(path: str) -> Iterator[Case]:
 
 
 def cases_in(program: str) -> list[Case]:
-    """The cases of a program, sorted by their names."""
     folder = os.path.join(FOLDER, program)
     found = [case for name in sorted(os.listdir(folder)) for case in cases_of(os.path.join(folder, name))]
     names = [case.name for case in found]
@@ -148,7 +143,6 @@ def cases_in(program: str) -> list[Case]:
 
 
 def put_files(folder: str, files: dict[str, bytes]) -> None:
-    """Writes files into a folder."""
     for name, octets in files.items():
         path = os.fsencode(folder) + b"/" + _octets(name)[:-1]
         with open(path, "wb") as file:
@@ -181,14 +175,8 @@ def folder_of(case: Case, room: str, data: str) -> str:
 
 def run(program: str, words: list[bytes], given: bytes, folder: str, **means: str) -> Ended:
     """Runs a program. Returns what it printed on both streams, and its status."""
-    ended = subprocess.run(
-        [program.encode(), *words],
-        input=given,
-        cwd=folder,
-        stdout=subprocess.PIPE,
-        stderr=subprocess.PIPE,
-        env=dict(os.environ, **means),
-    )
+    whole, env = [program.encode(), *words], {**os.environ, **means}
+    ended = subprocess.run(whole, input=given, cwd=folder, capture_output=True, env=env)
     return ended.stdout, ended.stderr, ended.returncode
 
 
@@ -203,7 +191,6 @@ def misjudged(program: str, case: Case, words: list[bytes], folder: str, text: b
 
 
 def faults_of(program: str, case: Case, way: Way, folder: str) -> list[str]:
-    """The faults of a case that is run one way."""
     got = run(program, *way, folder)
     wanted = case.wanted(got[0])
     if got != wanted:

@@ -1,5 +1,4 @@
 """Runs a program that forks a child for each of many ways to go on, by a library that includes tools/lib/children.h."""
-from __future__ import annotations
 
 import os
 import subprocess

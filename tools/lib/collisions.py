@@ -5,15 +5,13 @@ The hash of `hsp_pair_map` adds a word of eight octets and multiplies, word afte
 undoes what the first changes. Of such pairs of words that come to the same, one follows another: sixteen of them, four
 times, are 65,536 handles.
 """
-from __future__ import annotations
 
 import itertools
-import os
 import random
 import subprocess
 from collections.abc import Iterator
 
-from lib import programs
+from lib import preload
 
 ALL = 2**64 - 1
 MULTIPLIER = 0x9E37_79B9_7F4A_7C15
@@ -81,7 +79,5 @@ def random_handles(count: int, drawn: random.Random) -> list[bytes]:
 
 def of_one_place(count: int, folder: str) -> list[bytes]:
     """As many handles of one place in a table, which tools/lib/place_collisions.c finds, compiled into a folder."""
-    made = os.path.join(folder, "place_collisions")
-    source = os.path.join(programs.TOP, "tools", "lib", "place_collisions.c")
-    subprocess.run(["cc", "-O2", "-o", made, source], check=True)
+    made = preload.compiled("lib/place_collisions.c", folder, "cc -O2")
     return subprocess.run([made, str(count)], stdout=subprocess.PIPE, check=True).stdout.split()

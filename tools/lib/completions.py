@@ -1,7 +1,5 @@
 """Completions of a program for bash, zsh and fish, written from its commands and their options."""
 
-from __future__ import annotations
-
 from collections.abc import Iterable
 from typing import NamedTuple
 
@@ -148,7 +146,6 @@ BASH = """    local current=${{COMP_WORDS[COMP_CWORD]}} before=${{COMP_WORDS[COM
 
 
 def bash(program: Program) -> str:
-    """The completions for bash."""
     own, name = _all_commands(program), program.function
     listed = [('""', [*program.names(), *names_of(program.flags)])]
     listed += [(group, [*program.names(f"{group} "), "--help"]) for group in program.groups()]
@@ -178,7 +175,6 @@ def _in_quotes(text: str) -> str:
 
 
 def _of_zsh(option: Option) -> str:
-    """An option as _arguments takes it."""
     meaning = option.meaning.replace("\\", "\\\\").replace("[", "\\[").replace("]", "\\]")
     actions = {FILE: "file:_files", FOLDER: "folder:_files -/", OTHER: "value: "}
     behind = actions.get(option.value) or f"{option.name}:({option.value.replace('|', ' ')})"
@@ -231,7 +227,6 @@ ZSH_GROUP = """    if [[ $words[2] == {group} ]]; then
 
 
 def zsh(program: Program) -> str:
-    """The completions for zsh."""
     lines = [f"#compdef {program.name}\n", HEAD.format(name=program.name, shell="zsh"), f"\n_{program.name}() {{\n"]
     lines.append(f"    local group=\n    if ((CURRENT == 2)); then\n        compadd -- {' '.join(program.names())}")
     lines.append("".join(f" {it}" for it in names_of(program.flags)) + "\n        return\n    fi\n")
@@ -297,7 +292,6 @@ def _in_fish(text: str) -> str:
 
 
 def fish(program: Program) -> str:
-    """The completions for fish."""
     names = " ".join(program.names())
     none = f"not __fish_seen_subcommand_from {names}"
     lines = [HEAD.format(name=program.name, shell="fish"), "\n", _fish_line(program.name, none, f' -f -a "{names}"')]

@@ -43,8 +43,6 @@ COLUMNS, DAY = 79, 86_400
 
 
 class File(NamedTuple):
-    """What a file of the package holds, and its mode."""
-
     octets: bytes
     mode: int = 0o644
 
@@ -80,7 +78,6 @@ def epoch() -> int:
 
 
 def field(name: str) -> str:
-    """A field of the package's control file."""
     lines = programs.octets_of(TEXTS, "control").decode().splitlines()
     return next(it.partition(": ")[2] for it in lines if it.startswith(f"{name}: "))
 

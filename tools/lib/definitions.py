@@ -1,5 +1,4 @@
 """Definitions of the crates' specs, and the types and limits of their sources: which names which."""
-from __future__ import annotations
 
 import glob
 import os
@@ -156,9 +155,7 @@ def mentioned(known: Known, one: One) -> Iterator[One]:
         crate = one[0].split(".")[1]
         for word in dict.fromkeys(re.findall(r"\w+", re.sub(r"//.*", "", text))):
             owners = [
-                it
-                for it in known
-                if it.startswith(f"Rattle.{crate}.specs.declared.") and word in known[it].definitions
+                it for it in known if it.startswith(f"Rattle.{crate}.specs.declared.") and word in known[it].definitions
             ]
             if owners and word != one[1]:
                 yield owners[0], word

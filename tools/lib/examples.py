@@ -3,7 +3,6 @@
 A number that is not written here is drawn from a digest of a word and of what the number is for. So each run writes
 the same octets.
 """
-from __future__ import annotations
 
 import base64
 import hashlib
@@ -41,7 +40,6 @@ def whole(number: int, octets: int) -> bytes:
 
 
 def counted(octets: bytes) -> bytes:
-    """The number of the octets, then the octets."""
     return whole(len(octets), 4) + octets
 
 
@@ -52,12 +50,8 @@ def address_of(text: str) -> bytes:
 
 def key_of(name: str, server_id: int) -> bytes:
     """A stand-in for a public key record: the planner carries it and never reads it."""
-    return (
-        counted(b"RSA_PUB_KEY")
-        + whole(0, 2)
-        + counted(whole(65537, 3))
-        + counted(hashlib.shake_128(f"{name}/{server_id}".encode()).digest(64))
-    )
+    modulus = hashlib.shake_128(f"{name}/{server_id}".encode()).digest(64)
+    return counted(b"RSA_PUB_KEY") + whole(0, 2) + counted(whole(65537, 3)) + counted(modulus)
 
 
 def interfaces_of(at: int, addresses: list[str]) -> list[tuple[int, int, int]]:
@@ -69,13 +63,8 @@ def interfaces_of(at: int, addresses: list[str]) -> list[tuple[int, int, int]]:
 def server_octets(name: str, at: int, addresses: list[str]) -> bytes:
     own = interfaces_of(at, addresses)
     interfaces = b"".join(whole(kind, 1) + whole(protocol, 1) + whole(port, 4) for kind, protocol, port in own)
-    return (
-        whole(at + 1, 4)
-        + address_of(addresses[at])
-        + counted(key_of(name, at + 1))
-        + whole(len(own), 4)
-        + interfaces
-    )
+    head = whole(at + 1, 4) + address_of(addresses[at]) + counted(key_of(name, at + 1))
+    return head + whole(len(own), 4) + interfaces
 
 
 def site_octets(name: str, serial: int, addresses: list[str]) -> bytes:
@@ -88,16 +77,8 @@ def site_octets(name: str, serial: int, addresses: list[str]) -> bytes:
 
 def value_octets(index: int, data: bytes) -> bytes:
     """A value of the type HS_SITE: permission 14, a relative lifetime of a day, and no references."""
-    return (
-        whole(index, 4)
-        + counted(b"HS_SITE")
-        + counted(data)
-        + bytes([14])
-        + bytes([0])
-        + whole(86400, 4)
-        + whole(1774000000, 8)
-        + whole(0, 4)
-    )
+    tail = bytes([14, 0]) + whole(86400, 4) + whole(1774000000, 8) + whole(0, 4)
+    return whole(index, 4) + counted(b"HS_SITE") + counted(data) + tail
 
 
 def values_octets(values: Sequence[tuple[int, bytes]]) -> bytes:
@@ -122,31 +103,13 @@ TWO_SITES = {"paris": ["192.0.2.11", "192.0.2.12"], "reston": ["198.51.100.21", 
 
 TWO_CAPACITY = {"paris": 1500, "reston": 1450}
 
-TWO_COSTS = [
-    ("eu", "paris", 12),
-    ("eu", "reston", 84),
-    ("us", "paris", 91),
-    ("us", "reston", 17),
-    ("asia", "paris", 168),
-    ("asia", "reston", 143),
-]
+TWO_COSTS = [("eu", "paris", 12), ("eu", "reston", 84), ("us", "paris", 91), ("us", "reston", 17)]
+TWO_COSTS += [("asia", "paris", 168), ("asia", "reston", 143)]
 
 TWO_WEIGHTS = {"eu": 300, "us": 260, "asia": 120}
 
-HANDLES = [
-    "report-2024",
-    "report-2025",
-    "dataset-7",
-    "dataset-19",
-    "dataset-23",
-    "thesis-0412",
-    "thesis-0977",
-    "map-12",
-    "map-31",
-    "film-5",
-    "audio-88",
-    "code-v3",
-]
+HANDLES = "report-2024 report-2025 dataset-7 dataset-19 dataset-23 thesis-0412 thesis-0977 map-12 map-31".split()
+HANDLES += "film-5 audio-88 code-v3".split()
 
 
 def two_handles() -> list[str]:
@@ -185,9 +148,7 @@ def two_pings() -> list[Row]:
     """Five measured times for each region and site. The middle one is the cost."""
     spread = [-3, -1, 0, 2, 40]
     return [
-        (region, site, f"{cost + it}.{drawn(5, region, site, it)}")
-        for region, site, cost in TWO_COSTS
-        for it in spread
+        (region, site, f"{cost + it}.{drawn(5, region, site, it)}") for region, site, cost in TWO_COSTS for it in spread
     ]
 
 
@@ -198,15 +159,11 @@ TWO_CLASSES = [("eu", {1: 315, 2: 213}), ("eu", {1: 335, 4: 0}), ("us", {0: 154,
 
 
 def two_certificate() -> bytes:
-    """The certificate of the best plan by prices."""
-    servers = [f"server {server} {price}" for server, price in enumerate(TWO_PRICES)]
-    classes = [
-        f"class {region} " + " ".join(f"{server} {queries}" for server, queries in sent.items())
-        for region, sent in TWO_CLASSES
-    ]
-    return "".join(
-        f"{line}\n" for line in ("HSPLAN PRICES 1", "PLAN", f"cost {TWO_COST}", *servers, *classes, "END")
-    ).encode()
+    lines = ["HSPLAN PRICES 1", "PLAN", f"cost {TWO_COST}"]
+    lines += [f"server {server} {price}" for server, price in enumerate(TWO_PRICES)]
+    for region, sent in TWO_CLASSES:
+        lines.append(f"class {region} " + " ".join(f"{server} {queries}" for server, queries in sent.items()))
+    return "".join(f"{line}\n" for line in [*lines, "END"]).encode()
 
 
 def two_sites() -> Files:
@@ -223,9 +180,7 @@ def two_sites() -> Files:
         "premiere.csv": table("region,handle,count", wanted_more(demand, "film-5", 4)),
         "costs.csv": table("region,site,cost", TWO_COSTS),
         "capacity.csv": table("site,server_id,capacity", two_capacity(TWO_CAPACITY)),
-        "boundless.csv": table(
-            "site,server_id,capacity", [row[:2] + (1000000000,) for row in two_capacity(TWO_CAPACITY)]
-        ),
+        "boundless.csv": table("site,server_id,capacity", [(*row[:2], 10**9) for row in two_capacity(TWO_CAPACITY)]),
         "pings.csv": table("region,site,milliseconds", two_pings()),
         "log.csv": table("region,handle", log_rows(demand, 600, "two-sites")),
         "plan.prices": two_certificate(),
@@ -263,28 +218,16 @@ def server_json(name: str, at: int, addresses: list[str]) -> dict[str, object]:
 
 
 def site_json(name: str, serial: int, addresses: list[str]) -> dict[str, object]:
-    head = {
-        "version": 1,
-        "protocolVersion": "2.11",
-        "serialNumber": serial,
-        "primarySite": False,
-        "multiPrimary": False,
-    }
+    head = {"version": 1, "protocolVersion": "2.11", "serialNumber": serial, "primarySite": False}
     attributes = [{"name": "desc", "value": name.title()}]
-    return {
-        **head,
-        "attributes": attributes,
-        "servers": [server_json(name, at, addresses) for at in range(len(addresses))],
-    }
+    servers = [server_json(name, at, addresses) for at in range(len(addresses))]
+    return {**head, "multiPrimary": False, "attributes": attributes, "servers": servers}
 
 
 def answer_json(index: int, name: str, serial: int, addresses: list[str]) -> bytes:
     """A handle proxy's answer for a handle that has the site and its administrator."""
-    site = {
-        "index": index,
-        "type": "HS_SITE",
-        "data": {"format": "site", "value": site_json(name, serial, addresses)},
-    }
+    data = {"format": "site", "value": site_json(name, serial, addresses)}
+    site = {"index": index, "type": "HS_SITE", "data": data}
     admin = {"handle": "0.NA/20.500.1234", "index": 200, "permissions": "011111110011"}
     values = [site, {"index": 100, "type": "HS_ADMIN", "data": {"format": "admin", "value": admin}}]
     rest = {"ttl": 86400, "timestamp": "2026-11-26T08:00:00Z"}
@@ -297,7 +240,6 @@ def access_line(time: str, client: str, request: str, status: int) -> str:
 
 
 def time_of(hour: int, seconds: int) -> str:
-    """A time of a day, as logs have it."""
     return f"26/Nov/2026:{hour:02}:{seconds // 60:02}:{seconds % 60:02} +0000"
 
 
@@ -309,14 +251,8 @@ def access_log(number: int) -> bytes:
         query = ["", "?noredirect", "?auth=true"][drawn(3, "query", at)]
         odd = NO_QUERIES[drawn(len(NO_QUERIES), "odd", at)]
         path = urllib.parse.quote(handle) if drawn(2, "quoted", at) else handle.replace("-", "%2D")
-        lines.append(
-            access_line(
-                time_of(9, at * 6),
-                client,
-                odd if at % 10 == 9 else f"GET /{path}{query}",
-                200 if at % 10 == 9 else 302,
-            )
-        )
+        request, status = (odd, 200) if at % 10 == 9 else (f"GET /{path}{query}", 302)
+        lines.append(access_line(time_of(9, at * 6), client, request, status))
     return "".join(lines).encode()
 
 
@@ -354,38 +290,18 @@ def bring_in() -> Files:
 
 # Degrees of latitude and longitude.
 TWELVE_SITES = {
-    "paris": (49, 2),
-    "reston": (39, -77),
-    "tokyo": (36, 140),
-    "sydney": (-34, 151),
-    "saopaulo": (-24, -47),
-    "capetown": (-34, 18),
-    "mumbai": (19, 73),
-    "frankfurt": (50, 9),
-    "oslo": (60, 11),
-    "toronto": (44, -79),
-    "seoul": (37, 127),
-    "nairobi": (-1, 37),
-}
-
+    "paris": (49, 2), "reston": (39, -77), "tokyo": (36, 140), "sydney": (-34, 151), "saopaulo": (-24, -47),
+    "capetown": (-34, 18), "mumbai": (19, 73), "frankfurt": (50, 9), "oslo": (60, 11), "toronto": (44, -79),
+    "seoul": (37, 127), "nairobi": (-1, 37),
+}  # fmt: skip
 REGIONS = {
-    "eu-west": (48, 0),
-    "eu-north": (58, 14),
-    "eu-south": (41, 14),
-    "us-east": (40, -76),
-    "us-west": (38, -121),
-    "latin": (-15, -60),
-    "africa": (-5, 25),
-    "india": (20, 78),
-    "east-asia": (34, 122),
-    "oceania": (-33, 147),
-}
-
+    "eu-west": (48, 0), "eu-north": (58, 14), "eu-south": (41, 14), "us-east": (40, -76), "us-west": (38, -121),
+    "latin": (-15, -60), "africa": (-5, 25), "india": (20, 78), "east-asia": (34, 122), "oceania": (-33, 147),
+}  # fmt: skip
 NUMBER_OF_HANDLES = 2400
 
 
 def twelve_addresses() -> dict[str, list[str]]:
-    """Two to seven servers a site."""
     return {
         name: [f"203.0.113.{16 * at + it}" for it in range(2 + drawn(6, "servers", name))]
         for at, name in enumerate(TWELVE_SITES)
@@ -400,9 +316,7 @@ def twelve_count(place: int, region: str) -> int:
 
 def twelve_demand() -> list[Demanded]:
     pairs = [(region, place) for place in range(NUMBER_OF_HANDLES) for region in REGIONS]
-    rows = [
-        (region, f"20.500.{4000 + place % 7}/item-{place}", twelve_count(place, region)) for region, place in pairs
-    ]
+    rows = [(region, f"20.500.{4000 + place % 7}/item-{place}", twelve_count(place, region)) for region, place in pairs]
     return [row for row in rows if row[2]]
 
 

@@ -1,5 +1,4 @@
 """The calls of a run that tools/lib/fail_io.c recorded, each of which it can let fail."""
-from __future__ import annotations
 
 import collections
 from collections.abc import Iterable
@@ -18,7 +17,6 @@ class Call(NamedTuple):
 
 
 def calls_of(lines: Iterable[str]) -> list[Call]:
-    """The calls that a run recorded."""
     numbers: collections.Counter[str] = collections.Counter()
     octets: collections.Counter[tuple[str, str, str]] = collections.Counter()
     calls = []

@@ -1,7 +1,5 @@
 """What the sources of hsplan and hsplan-stream say of their commands, limits and headers."""
 
-from __future__ import annotations
-
 import re
 from pathlib import Path
 from typing import NamedTuple
@@ -10,12 +8,7 @@ from lib import programs
 
 CRATES = Path(programs.TOP) / "crates"
 # The files with limits: hsp_text has those of inputs and certificates, hsp_price_text two, the others one each.
-LIMITS = [
-    "hsp_text/src/limits.rt",
-    "hsp_talk/src/limits.rt",
-    "hsp_log/src/log_rows.rt",
-    "hsp_price_text/src/ranges.rt",
-]
+LIMITS = ["hsp_text/src/limits.rt", "hsp_talk/src/limits.rt", "hsp_log/src/log_rows.rt", "hsp_price_text/src/ranges.rt"]
 # The function that knows the headers of a command's log.
 LOGS = {
     "dispatch": "hsp_log/src/form.rt fn form_of",
@@ -67,7 +60,6 @@ def source(path: str) -> str:
 
 
 def matched(pattern: str, text: str, what: str) -> list[re.Match[str]]:
-    """All matches of a pattern, of which there has to be one."""
     found = list(re.finditer(pattern, text, re.S | re.M))
     if not found:
         raise Unread(f"{what} can't be read by tools/lib/grammar.py")
@@ -115,7 +107,6 @@ def _command(program: str, name: str, arguments: str) -> Command:
 
 
 def limits() -> list[Limit]:
-    """All limits in the order of their files."""
     found = []
     for path in LIMITS:
         pattern = r"^((?:///?[^\n]*\n)+)pub(?:\(crate\))? const (\w+): \w+ = ([\d_]+);"
@@ -129,7 +120,6 @@ def _fields(text: str) -> list[str]:
 
 
 def table_headers() -> dict[str, list[str]]:
-    """The header of each table."""
     pattern = r"read_table::<\w+>\(\s*alloc,\s*text,\s*&\[(.*?)\]"
     paths = {kind: f"hsp_tables/src/{kind}.rt" for kind in TABLES}
     return {kind: _fields(matched(pattern, source(path), path)[0][1]) for kind, path in paths.items()}

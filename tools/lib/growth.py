@@ -1,5 +1,4 @@
 """Which allocations of a run are refused."""
-from __future__ import annotations
 
 import argparse
 from collections.abc import Sequence
@@ -25,7 +24,6 @@ def numbers(count: int, most: int | None = None) -> Sequence[int]:
 
 
 def jobs_of(words: argparse.ArgumentParser) -> None:
-    """Adds the argument for the number of runs side by side."""
     words.add_argument(
         "--jobs", type=int, default=lanes.processors(), help="number of runs side by side (one for each processor)"
     )

@@ -1,11 +1,13 @@
 """Drawn instances at the limits, drawn logs, and what a run over them takes."""
-from __future__ import annotations
 
+import hashlib
 import os
 import random
+import subprocess
 import sys
-from collections.abc import Iterable, Sequence
-from typing import IO, Any
+import tempfile
+from collections.abc import Iterable, Mapping, Sequence
+from typing import NamedTuple
 
 SITES, SERVERS, REGIONS, ROWS = 32, 32, 64, 8192
 # The rows of a demand, their counts, and the options that name the files of an instance.
@@ -28,8 +30,14 @@ def record(site: int, hosts: int) -> str:
 def write(folder: str, name: str, lines: Iterable[str]) -> str:
     path = os.path.join(folder, name)
     with open(path, "w") as file:
-        file.write("".join(line + "\n" for line in lines))
+        file.writelines(f"{line}\n" for line in lines)
     return path
+
+
+def put(folder: str, files: Mapping[str, Iterable[str]]) -> list[str]:
+    """Writes files by their lines. Returns the options that name them."""
+    named = [(f"--{name.partition('.')[0]}", write(folder, name, lines)) for name, lines in files.items()]
+    return [word for pair in named for word in pair]
 
 
 def inputs(folder: str, draw: random.Random, factor: float = 1.5, hosts: int = 0, times: int = 1) -> Instance:
@@ -52,8 +60,7 @@ def inputs(folder: str, draw: random.Random, factor: float = 1.5, hosts: int = 0
         "costs.csv": ["region,site,cost", *costs],
         "capacity.csv": ["site,server_id,capacity", *(f"site-{site},{own},{capacity}" for site, own in servers)],
     }
-    named = [(f"--{name.partition('.')[0]}", write(folder, name, lines)) for name, lines in files.items()]
-    return rows, counts, [word for pair in named for word in pair]
+    return rows, counts, put(folder, files)
 
 
 def log(folder: str, name: str, lines: Sequence[str], weights: Sequence[int], many: int, draw: random.Random) -> str:
@@ -72,25 +79,40 @@ def log(folder: str, name: str, lines: Sequence[str], weights: Sequence[int], ma
 # A small process starts each run, since the peak of a run counts what its parent held when the run began.
 BEGIN = """
 import os, sys
-run = os.posix_spawn(sys.argv[1], sys.argv[1:], os.environ)
+os.chdir(sys.argv[1])
+run = os.posix_spawn(sys.argv[2], sys.argv[2:], os.environ)
 _, status, used = os.wait4(run, 0)
 os.write(3, f"{os.waitstatus_to_exitcode(status)} {used.ru_utime + used.ru_stime} {used.ru_maxrss}".encode())
 """
 
 
-def spent_by(words: list[str], out: IO[Any], reported: IO[Any]) -> tuple[int, float, float]:
-    """The status of a run, its processor seconds and its peak memory in megabytes. What it prints goes to the files
-    `out` and `reported`."""
+class Spent(NamedTuple):
+    """The status of a run, its processor seconds, its peak memory in megabytes, and its standard error."""
+
+    status: int
+    seconds: float
+    megabytes: float
+    reported: str
+
+
+def spent_by(words: list[str], out: str = os.devnull, folder: str = ".") -> Spent:
+    """What a run in a folder takes. What it prints goes to the file `out`."""
     reading, writing = os.pipe()
-    begun = [sys.executable, "-S", "-E", "-c", BEGIN, *words]
-    actions = [
-        (os.POSIX_SPAWN_DUP2, out.fileno(), 1),
-        (os.POSIX_SPAWN_DUP2, reported.fileno(), 2),
-        (os.POSIX_SPAWN_DUP2, writing, 3),
-    ]
-    started = os.posix_spawn(sys.executable, begun, os.environ, file_actions=actions)
-    os.close(writing)
-    with open(reading) as answer:
-        status, seconds, memory = answer.read().split()
-    os.waitpid(started, 0)
-    return int(status), float(seconds), int(memory) / 1000
+    begun = [sys.executable, "-S", "-E", "-c", BEGIN, folder, *words]
+    with open(out, "wb") as printed, tempfile.TemporaryFile("w+") as reported:
+        files = {1: printed.fileno(), 2: reported.fileno(), 3: writing}
+        actions = [(os.POSIX_SPAWN_DUP2, file, number) for number, file in files.items()]
+        started = os.posix_spawn(sys.executable, begun, os.environ, file_actions=actions)
+        os.close(writing)
+        with open(reading) as answer:
+            status, seconds, memory = answer.read().split()
+        os.waitpid(started, 0)
+        reported.seek(0)
+        return Spent(int(status), float(seconds), int(memory) / 1000, reported.read())
+
+
+def digest_of(words: list[str], folder: str = ".") -> str:
+    """The digest of what a run prints."""
+    with subprocess.Popen(words, cwd=folder, stdout=subprocess.PIPE, stderr=subprocess.DEVNULL) as run:
+        assert run.stdout
+        return hashlib.file_digest(run.stdout, "sha256").hexdigest()  # type: ignore[arg-type]

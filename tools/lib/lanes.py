@@ -12,13 +12,11 @@ EACH = 4_000_000
 
 
 def free() -> int:
-    """The kilobytes of memory that are free."""
     with open("/proc/meminfo") as lines:
         return next(int(line.split()[1]) for line in lines if line.startswith("MemAvailable:"))
 
 
 def processors() -> int:
-    """How many processors this process may use."""
     return len(os.sched_getaffinity(0))
 
 

@@ -1,5 +1,4 @@
 """What runs take: seconds, and the most memory that they hold."""
-from __future__ import annotations
 
 import os
 import resource

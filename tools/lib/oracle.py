@@ -3,7 +3,6 @@
 The responsible server of a handle (RFC 3652, section 3.1.3) is computed by Python's own MD5. Rows of one region are
 of one kind where their handles have the same places at the sites where the region has a cost.
 """
-from __future__ import annotations
 
 import functools
 import hashlib
@@ -44,7 +43,6 @@ def field_of(value: object) -> str:
 
 
 def csv_of(header: str, rows: Iterable[Iterable[object]]) -> bytes:
-    """A table as comma-separated values."""
     return "".join(f"{line}\n" for line in (header, *(",".join(map(field_of, row)) for row in rows))).encode()
 
 
@@ -56,7 +54,6 @@ class Site(NamedTuple):
     servers: tuple[int, ...]
 
     def place(self, handle: str) -> int:
-        """The place of the responsible server."""
         return hash_of(self.option, handle) % len(self.servers)
 
     def record(self) -> bytes:
@@ -97,7 +94,6 @@ class Service(NamedTuple):
         return [(*named[kind], number) for kind, number in sums.items()]
 
     def places(self, handle: str) -> Iterator[tuple[str, str, int, int]]:
-        """The lines of a handle's places."""
         for site in self.sites:
             yield handle, site.name, site.place(handle), site.servers[site.place(handle)]
 
@@ -112,7 +108,6 @@ class Service(NamedTuple):
         return "".join(lines).encode()
 
     def files(self, demand: Iterable[Row] = (), capacity: int = 1_000_000_000) -> dict[str, bytes]:
-        """The files of the service with this demand."""
         costs = [(region, site, cost) for (region, site), cost in self.costs.items()]
         servers = [(site.name, own, capacity) for site in self.sites for own in site.servers]
         values = [site.value(FIRST_INDEX + at) for at, site in enumerate(self.sites)]
@@ -126,7 +121,6 @@ class Service(NamedTuple):
 
 
 def uses_of(plan: bytes) -> list[Use]:
-    """The uses of a plan's text."""
     lines = (line.split() for line in plan.decode().splitlines())
     return [Use(*map(int, words[1:])) for words in lines if words[:1] == ["use"]]
 

@@ -24,12 +24,9 @@ WANTED = "apache2-bin dash debootstrap fish fping lintian mandoc nghttp2-client 
 
 
 def absent(names: list[str]) -> list[str]:
-    """Those of the packages that are not installed."""
     words = ["dpkg-query", "-W", "-f", "${Package} ${db:Status-Status}\n", *names]
     try:
-        found = subprocess.run(
-            words, stdout=subprocess.PIPE, stderr=subprocess.DEVNULL, text=True
-        ).stdout.splitlines()
+        found = subprocess.run(words, stdout=subprocess.PIPE, stderr=subprocess.DEVNULL, text=True).stdout.splitlines()
     except FileNotFoundError:
         return names
     return [it for it in names if f"{it} installed" not in found]

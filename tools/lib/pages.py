@@ -68,7 +68,6 @@ def headings_of(path: str) -> list[str]:
 
 
 def below(top: str) -> list[str]:
-    """The paths of the pages below a folder, from there."""
     paths = (os.path.join(at, it) for at, _, names in os.walk(top) for it in names if it.endswith(".md"))
     return sorted(os.path.relpath(it, top) for it in paths)
 

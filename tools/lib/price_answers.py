@@ -3,7 +3,6 @@
 A front counts what it holds for classes as queries are taken, so that an answer takes no longer where there are many
 classes. What is the same each time that a pair is asked for is found once.
 """
-from __future__ import annotations
 
 from collections.abc import Iterable, Sequence
 from dataclasses import dataclass
@@ -72,9 +71,7 @@ class Plan:
         for own in claim.classes:
             self.cells[own.key] = range(first, first + len(own.servers))
             first += len(own.servers)
-        self.names = [
-            f"{site.name} {place} {own}" for site in service.sites for place, own in enumerate(site.servers)
-        ]
+        self.names = [f"{site.name} {place} {own}" for site in service.sites for place, own in enumerate(site.servers)]
         self.routes: dict[tuple[str, str], Route] = {}
 
     def route(self, region: str, handle: str) -> Route:
@@ -192,12 +189,10 @@ def sums_of(answers: Iterable[str]) -> str:
 
 
 def answers_of(front: Front, entries: Iterable[tuple[str, str]]) -> list[str]:
-    """The lines of the answers to pairs in their order."""
     return [front.answer(region, handle) for region, handle in entries]
 
 
 def read_plan(service: Service, bounds: Bounds, text: bytes) -> Plan:
-    """The plan of a certificate that fits."""
     claim = price_verdicts.read(text)
     assert isinstance(claim, Claim) and claim.kind == b"PLAN", claim
     assert unfit(service, bounds, claim) is None

@@ -1,12 +1,11 @@
 """Services whose prices, classes and logs tools/measure/prices_peer.cpp draws, for the measurements by prices."""
-from __future__ import annotations
 
 import os
 import random
 import subprocess
 from typing import NamedTuple
 
-from lib import oracle, programs
+from lib import oracle, preload
 
 MOST_CLASSES, NEARLY_ALL_NEW = 1_048_576, 1_000_000_000
 
@@ -54,12 +53,8 @@ def make(folder: str, case: Case, peer: str, rows: int) -> None:
 
 
 def peer_in(folder: str) -> str:
-    """The peer, compiled."""
-    made = os.path.join(folder, "prices_peer")
-    source = os.path.join(programs.TOP, "tools", "measure", "prices_peer.cpp")
-    words = ["g++", "-O3", "-std=c++20", "-Wno-deprecated-declarations", "-o", made, source, "-lcrypto"]
-    subprocess.run(words, check=True)
-    return made
+    words = "g++ -O3 -std=c++20 -Wno-deprecated-declarations"
+    return preload.compiled("measure/prices_peer.cpp", folder, words, "-lcrypto")
 
 
 def lines_of(folder: str, name: str) -> list[bytes]:

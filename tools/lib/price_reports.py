@@ -1,5 +1,4 @@
 """Reports of valid certificates by prices, computed here by the definitions in the specs of hsp_price_report."""
-from __future__ import annotations
 
 from collections.abc import Sequence
 
@@ -51,6 +50,5 @@ def of_regions(service: Service, rows: Sequence[Row], claim: Claim) -> str:
 
 
 def text_of(kind: str, service: Service, bounds: Bounds, rows: Sequence[Row], claim: Claim) -> bytes:
-    """The report of one of the kinds."""
     is_load = kind == "load"
     return (of_loads(service, bounds, rows, claim) if is_load else of_regions(service, rows, claim)).encode()

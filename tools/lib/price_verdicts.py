@@ -1,5 +1,4 @@
 """Certificates by prices, read and judged here by the definitions in the specs of hsp_price_text and hsp_prices."""
-from __future__ import annotations
 
 import re
 from collections.abc import Iterator, Sequence

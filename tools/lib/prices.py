@@ -1,5 +1,4 @@
 """Certificates by prices, made of what `hsplan plan` prints of a table."""
-from __future__ import annotations
 
 from collections.abc import Mapping, Sequence
 from typing import NamedTuple
@@ -47,7 +46,6 @@ def extras(service: oracle.Service, servers: Sequence[int], hosts: Sequence[int]
 
 
 def least(own: Sequence[Way], beside: Sequence[int]) -> list[Way]:
-    """The ways on which a query pays least."""
     pays = [way.cost + beside[way.server] for way in own]
     return [way for way, pay in zip(own, pays) if pay == min(pays)]
 
@@ -66,7 +64,6 @@ def text_of(cost: int, servers: Sequence[int], hosts: Sequence[int], sent: Mappi
 
 
 def of_plan(service: oracle.Service, table: Sequence[oracle.Row], plan: bytes) -> bytes:
-    """The certificate by prices of a plan of a table."""
     servers, hosts = ([price for _, price in numbers_of(plan, word)] for word in ("server", "host"))
     beside = extras(service, servers, hosts)
     used = {(use.row, use.site): use.number for use in oracle.uses_of(plan)}

@@ -19,35 +19,17 @@ RELEASE = os.path.join(TOP, "release")
 # Where the archive and the package of Debian are made.
 OUT = os.path.join(TOP, "out")
 # What is installed beside the programs, each file with its path below PREFIX (pages: see tools/lib/pages.py).
+_NAMES = ("hsplan", "hsplan-stream", "hsp")
+_PAGES = "use/GUIDE use/FORMATS use/LOGS use/COMMANDS use/FAULTS use/LIMITS use/FLEET use/FORCE use/PROXY use/DAY"
+_GUIDE = [f"{it}.md" for it in f"{_PAGES} maintain/BENCH".split()]
+_GUIDE += [f"pictures/{it}" for it in ("flow.svg", "loads.svg", "page.png", "record.svg")]
 FILES = {
-    "docs/use/hsplan.1": "share/man/man1/hsplan.1",
-    "docs/use/hsplan-stream.1": "share/man/man1/hsplan-stream.1",
-    "docs/use/hsp.1": "share/man/man1/hsp.1",
-    "completions/hsplan.bash": "share/bash-completion/completions/hsplan",
-    "completions/_hsplan": "share/zsh/site-functions/_hsplan",
-    "completions/hsplan.fish": "share/fish/vendor_completions.d/hsplan.fish",
-    "completions/hsplan-stream.bash": "share/bash-completion/completions/hsplan-stream",
-    "completions/_hsplan-stream": "share/zsh/site-functions/_hsplan-stream",
-    "completions/hsplan-stream.fish": "share/fish/vendor_completions.d/hsplan-stream.fish",
-    "completions/hsp.bash": "share/bash-completion/completions/hsp",
-    "completions/_hsp": "share/zsh/site-functions/_hsp",
-    "completions/hsp.fish": "share/fish/vendor_completions.d/hsp.fish",
+    **{f"docs/use/{it}.1": f"share/man/man1/{it}.1" for it in _NAMES},
+    **{f"completions/{it}.bash": f"share/bash-completion/completions/{it}" for it in _NAMES},
+    **{f"completions/_{it}": f"share/zsh/site-functions/_{it}" for it in _NAMES},
+    **{f"completions/{it}.fish": f"share/fish/vendor_completions.d/{it}.fish" for it in _NAMES},
     "README.md": "share/doc/hsplan/README.md",
-    "docs/use/GUIDE.md": "share/doc/hsplan/use/GUIDE.md",
-    "docs/use/FORMATS.md": "share/doc/hsplan/use/FORMATS.md",
-    "docs/use/LOGS.md": "share/doc/hsplan/use/LOGS.md",
-    "docs/use/COMMANDS.md": "share/doc/hsplan/use/COMMANDS.md",
-    "docs/use/FAULTS.md": "share/doc/hsplan/use/FAULTS.md",
-    "docs/use/LIMITS.md": "share/doc/hsplan/use/LIMITS.md",
-    "docs/use/FLEET.md": "share/doc/hsplan/use/FLEET.md",
-    "docs/use/FORCE.md": "share/doc/hsplan/use/FORCE.md",
-    "docs/use/PROXY.md": "share/doc/hsplan/use/PROXY.md",
-    "docs/use/DAY.md": "share/doc/hsplan/use/DAY.md",
-    "docs/maintain/BENCH.md": "share/doc/hsplan/maintain/BENCH.md",
-    "docs/pictures/flow.svg": "share/doc/hsplan/pictures/flow.svg",
-    "docs/pictures/loads.svg": "share/doc/hsplan/pictures/loads.svg",
-    "docs/pictures/page.png": "share/doc/hsplan/pictures/page.png",
-    "docs/pictures/record.svg": "share/doc/hsplan/pictures/record.svg",
+    **{f"docs/{it}": f"share/doc/hsplan/{it}" for it in _GUIDE},
 }
 LEAST_GLIBC = (2, 34)
 NEED_KIT = 'no rt in PATH: a proof takes the Rattle kit; README.md has more under "The kit"'
@@ -98,7 +80,6 @@ def storeys() -> List[Tuple[str, List[str]]]:
 
 
 def crate_of(program: str) -> str:
-    """The crate of a program, by the program's name."""
     return program.replace("-", "_")
 
 
@@ -114,7 +95,6 @@ def crates_of(programs: Tuple[str, ...] = PROGRAMS) -> List[str]:
 
 
 def lines_of(crates: List[str]) -> List[str]:
-    """The lines of crates.txt for these crates."""
     return [it for it in text_of("crates.txt").splitlines() if it.split("#")[0].split(":")[0].strip() in crates]
 
 
@@ -160,6 +140,12 @@ def is_absent(*paths: str) -> bool:
     return bool(absent)
 
 
+def concluded(faults: List[str], line: str, is_fine: bool = True) -> int:
+    """Prints the faults of a check, and behind them a line with their number. Returns the status of the check."""
+    print("\n".join([*faults, f"{line} {len(faults)} faults"]))
+    return 1 if faults or not is_fine else 0
+
+
 def variables() -> Dict[str, str]:
     """The variables by which hsp finds the programs that a check tries."""
     return {variable(it): tested(it) for it in PROGRAMS}
@@ -190,7 +176,6 @@ def archive() -> str:
 
 
 def package() -> str:
-    """The Debian package."""
     return os.path.join(OUT, f"hsplan_{version()}_amd64.deb")
 
 

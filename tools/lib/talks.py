@@ -1,38 +1,48 @@
 """Talks with a program over pipes: a row is written, and its answer is read before the next row is written."""
-from __future__ import annotations
 
 import subprocess
 import sys
 import threading
 import time
 from collections.abc import Iterable
+from typing import NamedTuple
 
 # The seconds of a whole talk, beyond which the program is ended.
 PATIENCE = 60
 
 
-def seconds_each(words: list[str], folder: str, rows: Iterable[tuple[str, str]]) -> float:
-    """The seconds by the clock that a row of a log takes on the average. A talk that stops ends the script."""
-    lines = [f"{region},{handle}\n".encode() for region, handle in rows]
-    pipe = subprocess.PIPE
-    running = subprocess.Popen(words, cwd=folder, stdin=pipe, stdout=pipe, stderr=subprocess.DEVNULL)
-    assert running.stdin and running.stdout
+class Talk(NamedTuple):
+    """The seconds by the clock that each row of a log took, and how the program ended: what it printed behind the last
+    answer, on both streams, and its status."""
+
+    seconds: list[float]
+    ended: tuple[bytes, bytes, int]
+
+    def line(self) -> str:
+        rows = len(self.seconds)
+        each = f"{sum(self.seconds) / rows * 1e6:.1f} microseconds for each of {rows:,} rows"
+        return f"a co-process over pipes: {each}, one after the other"
+
+
+def talk(words: list[str], folder: str, rows: Iterable[bytes]) -> Talk:
+    """Asks for rows of a log. A talk that stops ends the script."""
+    pipe, taken = subprocess.PIPE, []
+    running = subprocess.Popen(words, cwd=folder, stdin=pipe, stdout=pipe, stderr=pipe)
+    assert running.stdin and running.stdout and running.stderr
     watch = threading.Timer(PATIENCE, running.kill)
     watch.start()
     running.stdin.write(b"region,handle\n")
-    begun = time.monotonic()
-    for line in lines:
-        running.stdin.write(line)
+    for row in rows:
+        begun = time.monotonic()
+        running.stdin.write(row + b"\n")
         running.stdin.flush()
-        if not running.stdout.readline():
+        line = running.stdout.readline()
+        taken.append(time.monotonic() - begun)
+        if not line.endswith(b"\n"):
             watch.cancel()
-            sys.exit(f"{' '.join(words)}: no answer to {line!r}")
-    spent = time.monotonic() - begun
-    watch.cancel()
+            running.kill()
+            sys.exit(f"{' '.join(words)}: no answer to {row!r}")
     running.stdin.close()
-    running.wait()
-    return spent / len(lines)
-
-
-def line_of(seconds: float, rows: int) -> str:
-    return f"a co-process over pipes: {seconds * 1e6:.1f} microseconds for each of {rows:,} rows, one after the other"
+    rest, said, status = running.stdout.read(), running.stderr.read(), running.wait()
+    watch.cancel()
+    return Talk(taken, (rest, said, status))

@@ -26,8 +26,6 @@ Prepare = Callable[[str], None]
 
 
 class Step:
-    """A command and what it has to print."""
-
     def __init__(self, line: str) -> None:
         self.lines = [line]
         self.wanted: list[str] = []

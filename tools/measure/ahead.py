@@ -7,7 +7,6 @@ The day has 24 hours: each row's count times a curve of its region's local time,
 force is that of the hour before. Each command runs N times, and the least times count: by the clock, and of all
 processors. The script prints a table in Markdown, with the load of the machine.
 """
-from __future__ import annotations
 
 import argparse
 import math

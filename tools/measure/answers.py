@@ -3,20 +3,14 @@
 
     tools/measure/answers.py [--rows N] [--turns N] [--program FILE] [--folder FOLDER] [--cases NAME,..]
 
-Nothing is solved: tools/measure/prices_peer.cpp draws prices and a log, and makes a certificate for it. Each row of
-the log is one query, in a drawn order: of a handle that is new in nearly each row, or of 20,000 pairs. One log asks for
-three times what is planned.
-
-By turns with the program runs that peer, the same steps in plain C++, over the same files. Both have to print the same
-octets. Before that the peer has to answer a small log as tools/lib/price_answers.py does, by one front and by each of
-three. A program that doesn't answer by prices is not measured. Seconds are processor seconds, the least of all turns.
-Memory is the most that a run held. All runs are on one processor, where the machine lets one be chosen. Then a
-co-process over pipes is asked row by row.
+Nothing is solved: tools/measure/prices_peer.cpp draws prices and a log, and makes a certificate for it. By turns with
+the program runs that peer, the same steps in plain C++, over the same files. Both have to print the same octets, and
+before that to answer a small log as tools/lib/price_answers.py does, by each front. Seconds are processor seconds, the
+least of all turns. Memory is the most that a run held. All runs are on one processor, where the machine lets one be
+chosen. Then a co-process over pipes is asked row by row.
 """
-from __future__ import annotations
 
 import argparse
-import hashlib
 import os
 import subprocess
 import sys
@@ -26,7 +20,7 @@ from typing import NamedTuple
 
 sys.path.insert(0, str(Path(__file__).resolve().parents[1]))
 
-from lib import memory, preload, price_answers, price_cases, programs, talks
+from lib import instances, memory, preload, price_answers, price_cases, programs, talks
 from lib.price_cases import Case, lines_of
 from lib.price_verdicts import Bounds
 
@@ -94,7 +88,6 @@ def runs_of(program: str, peer: str, fronts: int = 1, front: int = 0) -> dict[st
 
 
 def has_answers(folder: str, program: str) -> bool:
-    """Whether the program answers by prices."""
     ended = subprocess.run([program, *ANSWER.split(), "/dev/null"], cwd=folder, capture_output=True)
     return ended.returncode != 2
 
@@ -102,30 +95,18 @@ def has_answers(folder: str, program: str) -> bool:
 # ---- figures
 
 
-def digest_of(words: list[str], folder: str) -> str:
-    """The digest of what a run prints."""
-    with subprocess.Popen(words, cwd=folder, stdout=subprocess.PIPE, stderr=subprocess.DEVNULL) as run:
-        assert run.stdout
-        digest = hashlib.sha256()
-        while block := run.stdout.read(1 << 20):
-            digest.update(block)
-        return digest.hexdigest()
-
-
 def seconds_of(words: list[str], folder: str) -> float:
-    """The seconds of a processor that a run takes."""
     before = memory.spent_below()
     subprocess.run(words, cwd=folder, stdout=subprocess.DEVNULL, stderr=subprocess.DEVNULL, check=True)
     return memory.spent_below() - before
 
 
 def measure(folder: str, runs: dict[str, list[str]], turns: int, preloaded: str) -> None:
-    """Prints the figures of the runs over the files of a case."""
     classes = sum(line.startswith(b"class ") for line in lines_of(folder, "right.prices"))
     log = lines_of(folder, LOG)[1:]
     rows, pairs = len(log), len(set(log))
     print(f"{os.path.basename(folder)}: {rows:,} rows, {pairs:,} pairs, {classes:,} classes")
-    if len({digest_of(words, folder) for words in runs.values()}) > 1:
+    if len({instances.digest_of(words, folder) for words in runs.values()}) > 1:
         sys.exit(f"the answers in {folder} differ")
     spent = [{name: seconds_of(words, folder) for name, words in runs.items()} for _ in range(turns)]
     for name, words in runs.items():
@@ -139,10 +120,8 @@ def measure(folder: str, runs: dict[str, list[str]], turns: int, preloaded: str)
 
 
 def ask(folder: str, program: str) -> None:
-    """Asks a co-process row by row."""
-    rows = [line.decode().rstrip("\n").split(",") for line in lines_of(folder, LOG)[1 : 1 + TALKS]]
-    words = [program, *ANSWER.split(), "/dev/stdin"]
-    print(talks.line_of(talks.seconds_each(words, folder, [(it[0], it[1]) for it in rows]), len(rows)))
+    rows = (line.rstrip(b"\n") for line in lines_of(folder, LOG)[1 : 1 + TALKS])
+    print(talks.talk([program, *ANSWER.split(), "/dev/stdin"], folder, rows).line())
 
 
 def compare_all(folder: str, given: str, peer: str) -> str:
@@ -159,7 +138,6 @@ def compare_all(folder: str, given: str, peer: str) -> str:
 
 
 def measure_all(given: argparse.Namespace, room: str) -> None:
-    """Compares with the model, then measures each case."""
     peer, preloaded = price_cases.peer_in(room), preload.built("report_memory", room)
     program = compare_all(os.path.join(room, "small"), given.program, peer)
     for name in given.cases.split(","):

@@ -7,7 +7,6 @@ Printed are the lines and branches that no test reaches, module by module, and t
 measured, with the tests that reach each line; tools/fuzz/plant_companion.py reads it. This takes Debian's python3-coverage.
 The gate doesn't run this script.
 """
-from __future__ import annotations
 
 import argparse
 import contextlib
@@ -51,7 +50,6 @@ exclude_lines =
 
 
 def covered(room: str, jobs: int, words: list[str]) -> int:
-    """Runs the tests. Returns the status of pytest."""
     path = os.pathsep.join(filter(None, [HOOK, os.environ.get("PYTHONPATH", "")]))
     own = programs.variables()
     environment = {
@@ -68,13 +66,11 @@ def covered(room: str, jobs: int, words: list[str]) -> int:
 
 
 def reported(room: str, *words: str) -> int:
-    """Runs a command of coverage over what was measured."""
     whole = [PYTHON, "-m", "coverage", words[0], f"--rcfile={room}/configuration", *words[1:]]
     return subprocess.run(whole, cwd=COMPANION).returncode
 
 
 def kept(room: str, path: str) -> None:
-    """Keeps what was measured, and how long each test took."""
     seconds: defaultdict[str, float] = defaultdict(float)
     with open(os.path.join(room, "configuration.seconds"), encoding="utf-8") as file:
         for line in file:

@@ -13,7 +13,6 @@ A line of the table has the sums of the day. The fullest server is that of the w
 added up over servers and hours. Costs are those of a query that has a server, beside those of a query by the best plan
 of each hour itself. The last lines ask for three times the plan of the busiest hour.
 """
-from __future__ import annotations
 
 import argparse
 import math
@@ -106,7 +105,6 @@ def scale_of(demand: Iterable[oracle.Row]) -> float:
 
 
 def drawn(demand: Iterable[oracle.Row], hour: int, scale: float, draw: random.Random) -> list[oracle.Row]:
-    """The demand of an hour, with a factor for each row."""
     factor = {region: scale * curve(hour, region) for region in examples.REGIONS}
     return [
         (region, handle, round(count * factor[region] * math.exp(draw.gauss(-SPREAD * SPREAD / 2, SPREAD))))
@@ -153,8 +151,6 @@ def planned(scene: Scene, rows: list[oracle.Row]) -> Hour:
 
 
 def by_program(scene: Scene) -> Answering:
-    """Answers of the program."""
-
     def answering(lines: Sequence[str], fronts: int, front: int) -> list[str]:
         log = "\n".join(["region,handle", *lines, ""]).encode()
         more = f" --fronts {fronts} --front {front}" if fronts > 1 else ""
@@ -165,7 +161,6 @@ def by_program(scene: Scene) -> Answering:
 
 
 def by_model(scene: Scene, text: bytes) -> Answering:
-    """Answers of the model."""
     plan = price_answers.read_plan(scene.service, scene.bounds, text)
 
     def answering(lines: Sequence[str], fronts: int, front: int) -> list[str]:
@@ -176,7 +171,6 @@ def by_model(scene: Scene, text: bytes) -> Answering:
 
 
 def has_answers(scene: Scene) -> bool:
-    """Whether the program answers by prices."""
     words = f"answer {INPUTS} --prices plan.prices --log /dev/stdin".split()
     ended = subprocess.run([scene.stream, *words], input=b"region,handle\n", cwd=scene.folder, capture_output=True)
     return ended.returncode == 0
@@ -229,7 +223,6 @@ def answers_in_turn(answering: Answering, lines: Sequence[str], fronts: int) -> 
 
 
 def count(scene: Scene, found: Counter[tuple[str, str]], sums: Sums) -> None:
-    """Adds an hour's answers."""
     loads: Counter[Server] = Counter()
     for (line, answer), number in found.items():
         word, *rest = answer.split()
@@ -241,7 +234,6 @@ def count(scene: Scene, found: Counter[tuple[str, str]], sums: Sums) -> None:
 
 
 def answer_hour(scene: Scene, lines: Sequence[str], answering: Answering, day: Day) -> None:
-    """Answers an hour's queries by each number of fronts."""
     for fronts, sums in day.items():
         count(scene, answers_in_turn(answering, lines, fronts), sums)
 

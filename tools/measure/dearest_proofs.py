@@ -3,15 +3,11 @@
 
     tools/measure/dearest_proofs.py CRATE [N]        the N most expensive modules, 30 if N is left out
 
-The check keeps a file for each module. The seconds of a module are the time from the writing of the file before it to
-the writing of its own.
-
-A module `F.Proof` is the search for the goals of a function F, and `F.Lts` is how long its values live. A module with
-the name of a derive, as `FaultDebug.fmt.Lts`, is that of what the derive wrote. Other names are files of proofs/ and
-specs/. What a check took from an earlier one has the times of the earlier one. Checks side by side take longer, so
-compare only what was measured at one load.
+The seconds of a module are the time from the writing of the file that was kept before it to the writing of its own. A
+module `F.Proof` is the search for the goals of a function F, and `F.Lts` is how long its values live. Other names are
+files of proofs/ and specs/. What a check took from an earlier one has the times of the earlier one. Checks side by side
+take longer, so compare only what was measured at one load.
 """
-from __future__ import annotations
 
 import argparse
 import os
@@ -36,7 +32,6 @@ def files_of(crate: str) -> list[tuple[float, str]]:
 
 
 def module_of(crate: str, path: str) -> str:
-    """The module that a file holds, without the crate's name."""
     name = re.sub(r"(\.decls)?\.oantt$", "", os.path.basename(path))
     return re.sub(f"^Rattle-{crate}-?", "", name) or crate
 

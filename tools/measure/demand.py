@@ -4,16 +4,10 @@ GoAccess (Debian: goaccess), where it is installed, reads the logs of usual form
 
     tools/measure/demand.py [--lines N] [--turns N] [--program FILE]
 
-Logs are of each form, over a day, and ask for 20,000 handles, a few of them often. One more asks for a new handle
-in nearly each line. Clients have 100,000 addresses in 65,536 networks. GoAccess counts requests and visitors, and no
-regions. It runs on one thread: once as it comes, with all its panels, and once with the panel of requests only, which
-is nearest to what `hsp demand` counts.
-
-Each row has the middle turn by the clock: lines a second, seconds of all processors, and the memory of the largest
-process. Behind them stand the load of the machine before the run, and the share of the processors that others stole
-meanwhile. All runs of `hsp demand` over a log have to write the same octets.
+Logs are of each form, over a day. GoAccess counts requests and visitors, and no regions: on one thread, once with all
+its panels, and once with the panel of requests only, which is nearest to what `hsp demand` counts. Each row has the
+middle turn by the clock. All runs of `hsp demand` over a log have to write the same octets.
 """
-from __future__ import annotations
 
 import argparse
 import hashlib
@@ -47,7 +41,7 @@ FORMS = {
 FRESH = "server, a new handle in each line"
 # How GoAccess reads a form.
 GOACCESS = {
-    "server": ["--log-format=%h %^ \"%d %t.%^\" %^ %^ %Lms %U", "--date-format=%Y-%m-%d", "--time-format=%H:%M:%S"],
+    "server": ['--log-format=%h %^ "%d %t.%^" %^ %^ %Lms %U', "--date-format=%Y-%m-%d", "--time-format=%H:%M:%S"],
     "proxy": ["--log-format=COMBINED"],
 }
 # The panels that GoAccess fills as it comes, beside that of requests.

@@ -1,31 +1,21 @@
 #!/usr/bin/env python3
-"""Measures how many rows of a log the built program answers in a second, over an instance at the limits, and peers by
-turns with it.
+"""Measures how many rows of a log the built program answers in a second, without fronts and with 64, over an instance
+at the limits, and peers by turns with it.
 
     tools/measure/dispatch.py [--rows N] [--turns N] [--times N] [--program FILE]
 
-It measures without fronts and with 64 fronts, by turns. By default the log has 10,000,000 rows, and there are 7
-turns.
-
-The instance has 8,192 rows, 64 regions, 32 sites of 32 servers, 2,048 costs, and counts of 1 to 3,000, or N times as
-many (`--times N`). A log draws its rows at random by their counts, and with fronts also a front for each row. So most
-of it is assigned.
-
-The peers are tools/measure/dispatch_peer, in Rust over the crates csv and indexmap, where cargo and these crates of
-Debian are there (librust-csv-dev, librust-indexmap-dev). They are given the answers of each row, which hsplan gives for
-the rows in their order. Their answers to the log have to be those of hsplan, octet for octet. The log with fronts is
-also given to the fast peer, which passes over the front, and shares nothing out.
-
-Factors are printed by the fastest runs, and by the median of the turns. On a busy machine these differ.
+The instance is that of tools/lib/instances.py, with N times its counts by `--times N`. A log draws its rows at random
+by their counts. So most of it is assigned. The peers are tools/measure/dispatch_peer, in Rust over Debian's crates csv
+and indexmap (librust-csv-dev, librust-indexmap-dev), where they and cargo are there. They are given the answers of each
+row in their order, and have to answer the log as hsplan does, octet for octet.
 
 Seconds are processor seconds, and memory is its peak. A run on a log of only a header measures what is spent before
-the first row. All runs are on one processor, where the machine lets one be chosen.
+the first row. Factors are printed by the fastest runs, and by the median of the turns: on a busy machine these differ.
+All runs are on one processor, where the machine lets one be chosen.
 """
-from __future__ import annotations
 
 import argparse
 import glob
-import hashlib
 import itertools
 import os
 import random
@@ -46,14 +36,12 @@ FAST_PEER, PEER_AT_FRONTS = "peer, fast", "peer, fast, fronts passed over"
 Way = tuple[str, list[str], list[str]]
 
 
-def timed(words: list[str]) -> tuple[float, float, str]:
-    """Processor seconds, peak memory in megabytes, and what was printed on standard error."""
-    with open(os.devnull, "w") as sink, tempfile.TemporaryFile("w+") as reported:
-        status, seconds, memory = instances.spent_by(words, sink, reported)
-        reported.seek(0)
-        if status:
-            sys.exit(reported.read())
-        return seconds, memory, reported.read()
+def timed(words: list[str]) -> instances.Spent:
+    """What a run takes. One that ends badly ends the script."""
+    spent = instances.spent_by(words)
+    if spent.status:
+        sys.exit(spent.reported)
+    return spent
 
 
 def peer_in(folder: str) -> str | None:
@@ -93,24 +81,14 @@ def table_for(folder: str, program: str, instance: instances.Instance, plan: str
     return instances.write(folder, "table.csv", lines)
 
 
-def answers_of(words: list[str]) -> str:
-    """The digest of what a run prints."""
-    with subprocess.Popen(words, stdout=subprocess.PIPE, stderr=subprocess.DEVNULL) as run:
-        assert run.stdout
-        digest = hashlib.sha256()
-        while block := run.stdout.read(1 << 20):
-            digest.update(block)
-        return digest.hexdigest()
-
-
 def measure(kinds: list[Way], many: int, turns: int) -> dict[str, list[float]]:
     """Runs the kinds by turns, and returns the seconds of each run behind its first row. A kind is a name, the words
     for an empty log, and the words for a log."""
-    before = {name: min(timed(empty)[0] for _ in range(3)) for name, empty, _ in kinds}
+    before = {name: min(timed(empty).seconds for _ in range(3)) for name, empty, _ in kinds}
     spent: dict[str, list[float]] = {name: [] for name, *_ in kinds}
     for _ in range(turns):
         for name, _, words in kinds:
-            seconds, memory, reported = timed(words)
+            _, seconds, memory, reported = timed(words)
             spent[name].append(seconds - before[name])
             print(
                 f"{name}: {seconds:.3f} s, {before[name]:.3f} of them before the first row, "
@@ -183,7 +161,7 @@ def main() -> int:
         if hasattr(os, "sched_setaffinity"):
             os.sched_setaffinity(0, {max(os.sched_getaffinity(0))})
         ways = ways_of(chosen, peer, folder, random.Random(1))
-        answers = {name: answers_of(words) for name, _, words in ways if peer and "fronts" not in name}
+        answers = {name: instances.digest_of(words) for name, _, words in ways if peer and "fronts" not in name}
         if len(set(answers.values())) > 1:
             sys.exit(f"answers differ: {answers}")
         compare(measure(ways, chosen.rows, chosen.turns), chosen.turns)

@@ -1,17 +1,12 @@
 #!/usr/bin/env python3
 """Measures what Dask's scheduler costs, and what workers gain: `hsp fleet dispatch` beside one `hsplan dispatch` and
-GNU parallel, by turns over the same rows.
+GNU parallel, by turns over the same rows of 8 fronts. All have to give the same octets.
 
     tools/measure/fleet.py [--rows N] [--turns N] [--workers 1,2,4] [--program FILE]
 
-The instance is that of tools/measure/dispatch.py: 8,192 rows of demand, 32 sites and 1,024 servers. Its log has N rows
-over 8 fronts. One `hsplan` answers it whole. The other ways answer a file of each front, and have to give the same
-octets. A run without rows measures the engine's start, its parts and its end; 64 logs of one line beside one measure
-what a part costs.
-
-Seconds are those of the clock, the middle of the turns, and behind them those of the processor.
+A run without rows measures the engine's start, its parts and its end; 64 logs of one line beside one measure what a
+part costs. Seconds are those of the clock, the middle of the turns, and behind them those of the processor.
 """
-from __future__ import annotations
 
 import argparse
 import hashlib
@@ -70,9 +65,7 @@ def put_logs(folder: str, rows: list[str], counts: list[int], many: int) -> None
 def answers_of_fronts(folder: str) -> list[str]:
     """The sums of each front's answers, taken out of those of the whole log."""
     sums = [hashlib.sha256() for _ in range(FRONTS)]
-    with open(os.path.join(folder, "events.csv"), "rb") as events, open(
-        os.path.join(folder, "whole"), "rb"
-    ) as answers:
+    with open(os.path.join(folder, "events.csv"), "rb") as events, open(os.path.join(folder, "whole"), "rb") as answers:
         next(events)
         for event, answer in zip(events, answers):
             sums[event[0] - 48].update(answer)
@@ -107,7 +100,6 @@ def counting(workers: int, logs: int) -> list[str]:
 
 
 def timed(way: Way) -> tuple[float, float]:
-    """The seconds of the clock and of the processor."""
     before, begun = resource.getrusage(resource.RUSAGE_CHILDREN), time.monotonic()
     way()
     after = resource.getrusage(resource.RUSAGE_CHILDREN)

@@ -8,7 +8,6 @@ The queries of the demand come in random order. `hsplan dispatch` answers each. 
 counted for the cheapest site of its region, which is what a resolver does that nobody steers. Demand other than planned is
 each row's count times a log-normal factor of mean 1. The script prints two tables in Markdown.
 """
-from __future__ import annotations
 
 import argparse
 import csv

@@ -1,25 +1,19 @@
 #!/usr/bin/env python3
 """Runs `rt ci`, and prints the processor seconds that each crate took.
 
-    tools/measure/gate.py [--jobs N] [--log FILE] [--edits]      N checks side by side, by default as many as in
-                                                                 `make test`; the log is what rt ci prints;
-                                                                 each edit's seconds too, dearest first
+    tools/measure/gate.py [--jobs N] [--log FILE] [--edits]    N checks side by side, by default as many as in
+                                                               `make test`; the log is what rt ci prints; each edit's
+                                                               seconds too, dearest first
 
 The seconds of a crate are those of its proof, of the proof that its must-fail edits begin with, of the edits, and of
-its tests. What rt kept of an earlier run on the machine is not proved again, and has no seconds here.
-
-A check is a process of its own. Once a second each check is asked for the processor time that it took, so up to a
-second of each check is missed.
-
-Every half minute a loop of a fixed length is timed too. Its seconds say how fast a processor was meanwhile, so that
-runs on other machines and at other hours can be compared.
+its tests. What rt kept of an earlier run is not proved again, and has no seconds here. Each check is a process that is
+asked once a second for its processor time. Every half minute a loop of a fixed length is timed too, so that runs on
+other machines and at other hours can be compared.
 """
-from __future__ import annotations
 
 import argparse
 import glob
 import os
-import re
 import statistics
 import subprocess
 import time
@@ -54,7 +48,6 @@ class Measured(NamedTuple):
 
 
 def kind_of(words: list[str]) -> str:
-    """What a check of the prover is for, by its words."""
     if "--test" in words:
         return "tests"
     if "--incremental" not in words:
@@ -97,7 +90,6 @@ def loop_seconds() -> float:
 
 
 def measured(jobs: int, log: IO[str]) -> Measured:
-    """Runs rt ci to its end, and the loop beside it."""
     began = time.monotonic()
     seen: dict[tuple[str, str], Check] = {}
     loops: list[float] = []

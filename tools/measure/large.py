@@ -7,7 +7,6 @@ Each file that the program reads is made in turn of a beginning that the program
 again: brackets, dots, quotes, commas, empty lines, keys, tables, digits, zero octets, or one handle. The script
 prints a table in Markdown with the seconds, the memory, the status and what the program prints on standard error.
 """
-from __future__ import annotations
 
 import argparse
 import itertools
@@ -79,7 +78,6 @@ def fill(path: str, begins: bytes, pieces: Iterable[bytes]) -> None:
 
 
 def measure(program: str, room: str, preloaded: str, name: str, filler: str) -> str:
-    """A line of the table."""
     path, begins, words = FILES[name]
     folder = os.path.join(room, "data")
     shutil.copytree(os.path.join(programs.TOP, "examples", "base"), folder)

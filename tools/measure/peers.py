@@ -1,21 +1,15 @@
 #!/usr/bin/env python3
 """Measures whole runs of `hsplan plan` beside LEMON's network simplex on the same networks, by turns.
 
-    tools/measure/peers.py [--turns N] [--program FILE] [FACTOR..]
-    tools/measure/peers.py --parts [--turns N] [--program FILE] [FACTOR..]
+    tools/measure/peers.py [--parts] [--turns N] [--program FILE] [FACTOR..]
 
-It measures processor seconds of whole runs. hsplan reads its files, hashes, solves, and prints the certificate. LEMON
-reads the network as numbers, solves it, and prints flows and potentials. It does so by blocks, which is its own choice
-of a pivot rule, and by an altering list. Beside the faster of these hsplan has its factor. All costs have to be the same.
+It measures processor seconds of whole runs: hsplan reads its files, hashes, solves and prints the certificate; LEMON
+reads the network as numbers, solves it by each of two pivot rules, and prints flows and potentials. All costs have to
+be the same. Capacities are the factor times the demand. It needs a C++ compiler and LEMON (Debian's liblemon-dev).
 
-The instances have 8,192 rows of 64 regions, 32 sites of 16 to 47 servers, 2,048 costs up to 1,000,000, and capacities
-that are the factor times the demand. The script needs a C++ compiler and LEMON (Debian's liblemon-dev).
-
-With `--parts` it needs neither. It measures `hsplan check` of a plan, and of three texts that `check` refuses. The
-first is refused once instance and certificate are read, the second once all arcs are listed, and the third once the
-flows are added up.
+With `--parts` it needs neither, and measures `hsplan check` of a plan, and of three texts that `check` refuses, each a
+step later: after reading, once all arcs are listed, and once the flows are added up.
 """
-from __future__ import annotations
 
 import argparse
 import concurrent.futures
@@ -30,19 +24,11 @@ from typing import NamedTuple
 
 sys.path.insert(0, str(Path(__file__).resolve().parents[1]))
 
-from lib import instances, programs
+from lib import instances, lemon, programs
 
 
 SITES, REGIONS, ROWS = 32, 64, 8192
 FACTORS = [2.0, 1.2, 1.05, 1.01]
-# LEMON's pivot rules, as lemon_peer.cpp names them. The first is LEMON's own choice.
-RULES = ("block", "list")
-
-
-def record(servers: int) -> str:
-    """A site record of this many servers without keys and interfaces. It hashes the whole handle."""
-    head = bytes.fromhex("0001" "0201" "0001" "00" "02") + bytes(8) + servers.to_bytes(4, "big")
-    return (head + b"".join(it.to_bytes(4, "big") + bytes(24) for it in range(servers))).hex()
 
 
 class Instance:
@@ -63,41 +49,20 @@ class Instance:
 
     def written(self, folder: str) -> list[str]:
         """Writes the four files, and returns the options that name them."""
-        servers = iter(self.capacities)
-        tables = {
-            "settings": (
-                "settings.toml",
-                [f'[[site]]\nname = "site-{at}"\nrecord = "{record(many)}"' for at, many in enumerate(self.sites)],
-            ),
-            "demand": (
-                "demand.csv",
-                ["region,handle,count"]
-                + [f"region-{self.regions[row]},{self.handle(row)},{self.counts[row]}" for row in range(ROWS)],
-            ),
-            "costs": (
-                "costs.csv",
-                ["region,site,cost"]
-                + [
-                    f"region-{region},site-{site},{self.costs[region][site]}"
-                    for region in range(REGIONS)
-                    for site in range(SITES)
-                ],
-            ),
-            "capacity": (
-                "capacity.csv",
-                ["site,server_id,capacity"]
-                + [
-                    f"site-{site},{place},{next(servers)}"
-                    for site, many in enumerate(self.sites)
-                    for place in range(many)
-                ],
-            ),
+        servers, rows = iter(self.capacities), enumerate(zip(self.regions, self.counts))
+        sites = enumerate(self.sites)
+        records = [f'[[site]]\nname = "site-{at}"\nrecord = "{lemon.record(2, [0] * many)}"' for at, many in sites]
+        demand = [f"region-{region},{self.handle(row)},{count}" for row, (region, count) in rows]
+        pairs = [(region, site) for region in range(REGIONS) for site in range(SITES)]
+        costs = [f"region-{region},site-{site},{self.costs[region][site]}" for region, site in pairs]
+        places = [(site, place) for site, many in enumerate(self.sites) for place in range(many)]
+        files = {
+            "settings.toml": records,
+            "demand.csv": ["region,handle,count", *demand],
+            "costs.csv": ["region,site,cost", *costs],
+            "capacity.csv": ["site,server_id,capacity", *(f"site-{at},{own},{next(servers)}" for at, own in places)],
         }
-        return [
-            word
-            for option, (name, lines) in tables.items()
-            for word in (f"--{option}", instances.write(folder, name, lines))
-        ]
+        return instances.put(folder, files)
 
     def network(self, program: str, folder: str) -> str:
         """A file of the network in numbers, with the servers that `hsplan locate` names for each handle."""
@@ -117,32 +82,7 @@ class Instance:
             for row in range(ROWS)
             for site in range(SITES)
         ]
-        head = f"{ROWS} {len(self.capacities)} {len(arcs)}"
-        lines = [head, " ".join(map(str, self.counts)), " ".join(map(str, self.capacities)), *arcs]
-        return instances.write(folder, "network.txt", lines)
-
-
-def built_peer(folder: str) -> str:
-    peer = os.path.join(folder, "lemon_peer")
-    subprocess.run(
-        ["g++", "-O3", "-o", peer, os.path.join(programs.TOP, "tools", "measure", "lemon_peer.cpp"), "-llemon"],
-        check=True,
-    )
-    return peer
-
-
-def cost_in(path: str) -> str:
-    """The least cost that a plan states."""
-    with open(path, encoding="utf-8") as plan:
-        return next((line.split()[1] for line in plan if line.startswith("cost ")), "-1")
-
-
-def run(words: list[str], path: str) -> tuple[float, float, str]:
-    """The seconds and the peak megabytes of a run, and its standard error. What it prints goes to a file."""
-    with open(path, "w", encoding="utf-8") as out, tempfile.TemporaryFile("w+") as reported:
-        _, seconds, memory = instances.spent_by(words, out, reported)
-        reported.seek(0)
-        return seconds, memory, reported.read()
+        return lemon.network(folder, self.counts, self.capacities, arcs, len(arcs))
 
 
 def turn(folder: str, program: str, words: list[str], peer: list[str]) -> tuple[dict[str, float], set[str]]:
@@ -150,13 +90,13 @@ def turn(folder: str, program: str, words: list[str], peer: list[str]) -> tuple[
     own, other, verdict = (os.path.join(folder, name) for name in ("own.txt", "other.txt", "verdict.txt"))
     took: dict[str, float] = {}
     costs: set[str] = set()
-    took["plan"], took["memory"], _ = run([program, "plan", *words], own)
-    costs.add(cost_in(own))
-    for rule in RULES:
-        took[rule], took["held"], solving = run([*peer, rule], other)
+    _, took["plan"], took["memory"], _ = instances.spent_by([program, "plan", *words], own)
+    costs.add(lemon.cost_in(own))
+    for rule in lemon.RULES:
+        _, took[rule], took["held"], solving = instances.spent_by([*peer, rule], other)
         took[f"{rule}, solving"] = float(solving)
-        costs.add(cost_in(other))
-    took["check"], _, _ = run([program, "check", *words, "--plan", own], verdict)
+        costs.add(lemon.cost_in(other))
+    took["check"] = instances.spent_by([program, "check", *words, "--plan", own], verdict).seconds
     return took, costs
 
 
@@ -184,7 +124,9 @@ def texts_of(plan: list[str]) -> list[Text]:
 def checked(folder: str, words: list[str], text: Text) -> float:
     """The seconds in which `check`, called by these words, says of a text what it has to say."""
     verdict = os.path.join(folder, "verdict.txt")
-    seconds, _, reported = run([*words, "--plan", instances.write(folder, "text.txt", text.lines)], verdict)
+    _, seconds, _, reported = instances.spent_by(
+        [*words, "--plan", instances.write(folder, "text.txt", text.lines)], verdict
+    )
     said = Path(verdict).read_text(encoding="utf-8") + reported
     if said.strip() != text.verdict:
         sys.exit(f"check says {said.strip()}, and not {text.verdict}")
@@ -194,7 +136,7 @@ def checked(folder: str, words: list[str], text: Text) -> float:
 def parts(folder: str, chosen: argparse.Namespace, factor: float) -> None:
     """Prints what `check` takes of a plan and of the texts that it refuses, each in a row of the table."""
     instance, own = Instance(folder, factor), os.path.join(folder, "own.txt")
-    run([chosen.program, "plan", *instance.words], own)
+    instances.spent_by([chosen.program, "plan", *instance.words], own)
     texts = texts_of(Path(own).read_text(encoding="utf-8").splitlines())
     words = [chosen.program, "check", *instance.words]
     turns = [[checked(folder, words, text) for text in texts] for _ in range(chosen.turns)]
@@ -206,7 +148,6 @@ def parts(folder: str, chosen: argparse.Namespace, factor: float) -> None:
 
 
 def arguments() -> argparse.Namespace:
-    """The words of the command line."""
     words = argparse.ArgumentParser(description="Measures hsplan beside LEMON, or the parts of its check.")
     words.add_argument("--turns", type=int, default=5)
     words.add_argument("--program", default=programs.tested("hsplan"))
@@ -220,7 +161,7 @@ def beside_lemon(folder: str, chosen: argparse.Namespace) -> int:
     heads = "Capacity over demand|Cost|`plan`|LEMON, blocks|LEMON, list|`plan` over the faster|LEMON, solving only"
     heads += "|Memory of `plan`, of LEMON|`check`"
     print(f"| {heads.replace('|', ' | ')} |\n|{'---|' * 9}")
-    peer = built_peer(folder)
+    peer = lemon.peer_in(folder)
     for factor in chosen.factors:
         instance = Instance(folder, factor)
         words = [peer, instance.network(chosen.program, folder)]
@@ -232,8 +173,8 @@ def beside_lemon(folder: str, chosen: argparse.Namespace) -> int:
         mid = {kind: statistics.median(took[kind] for took, _ in turns) for kind in turns[0][0]}
         print(
             f"| {factor:.2f} | {int(costs.pop()):,} | {mid['plan']:.3f} | {mid['block']:.3f} | {mid['list']:.3f} "
-            f"| {mid['plan'] / min(mid[rule] for rule in RULES):.2f} "
-            f"| {', '.join(format(mid[f'{rule}, solving'], '.3f') for rule in RULES)} "
+            f"| {mid['plan'] / min(mid[rule] for rule in lemon.RULES):.2f} "
+            f"| {', '.join(format(mid[f'{rule}, solving'], '.3f') for rule in lemon.RULES)} "
             f"| {mid['memory']:.1f}, {mid['held']:.1f} MB | {mid['check']:.3f} |",
             flush=True,
         )

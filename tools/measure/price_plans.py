@@ -3,20 +3,15 @@
 
     tools/measure/price_plans.py [--program FILE] [--folder FOLDER] [--cases NAME,..] [--lemon NAME,..]
 
-Rows are of random regions and of handles that are all new. Each is put at a random site with its count, and a server
-takes what is put there, times the case's factor. So there is a plan, and where the factor is near 1 it is hard to find.
-Costs are random numbers up to 1,000. Counts are 1 to 1,000, or of a heavy tail: one row in N has a count of N.
-
-Whole runs count. hsplan-stream reads its files, hashes, solves and prints the certificate, to which `check` has to say
-yes. LEMON reads the network as numbers, solves it by each of two pivot rules, and prints flows and potentials. All costs
-have to be the same. Seconds are those of a processor. The files of a case are kept where --folder names a folder.
+Each row is put at a random site with its count, and a server takes what is put there, times the case's factor. So there
+is a plan, and where the factor is near 1 it is hard to find. Counts are 1 to 1,000, or of a heavy tail: one row in N
+has a count of N. `check` has to say yes to each certificate, and all costs have to be the same. Seconds are those of a
+processor. The files of a case are kept where --folder names a folder.
 """
-from __future__ import annotations
 
 import argparse
 import os
 import random
-import subprocess
 import sys
 import tempfile
 from collections.abc import Iterator
@@ -25,14 +20,12 @@ from typing import NamedTuple
 
 sys.path.insert(0, str(Path(__file__).resolve().parents[1]))
 
-from lib import instances, oracle, programs
+from lib import instances, lemon, oracle, programs
 from lib.price_cases import Case as Sites
 from lib.price_cases import service_of
 
 FILES = "--settings settings.toml --costs costs.csv --capacity capacity.csv --log log.csv"
 GREATEST_CAPACITY = 1_000_000_000
-# LEMON's pivot rules, as lemon_peer.cpp names them.
-RULES = ("block", "list")
 
 
 class Case(NamedTuple):
@@ -65,15 +58,6 @@ class Row(NamedTuple):
     servers: list[int]
 
 
-def record(option: int, addresses: list[int]) -> str:
-    """A site record of servers at these addresses, without keys and interfaces."""
-    head = bytes.fromhex("0001" "0200" "0001" "00") + bytes([option]) + bytes(8) + len(addresses).to_bytes(4, "big")
-    return (
-        head
-        + b"".join(at.to_bytes(4, "big") + address.to_bytes(16, "big") + bytes(8) for at, address in enumerate(addresses))
-    ).hex()
-
-
 class Drawn:
     """A case's service, and its rows, which are the same each time."""
 
@@ -99,7 +83,6 @@ class Drawn:
 
 
 def with_room(loads: list[int], factor: float) -> list[int]:
-    """Loads times the factor, rounded up."""
     return [min(int(load * factor) + 1, GREATEST_CAPACITY) for load in loads]
 
 
@@ -123,12 +106,11 @@ def settings_of(drawn: Drawn, limits: list[int]) -> list[str]:
     lines = []
     for site, first, size in zip(drawn.service.sites, drawn.firsts, drawn.sizes):
         own = [host + 1 if host is not None else 0 for host in drawn.hosts[first : first + size]]
-        lines.append(f'[[site]]\nname = "{site.name}"\nrecord = "{record(site.option, own)}"')
+        lines.append(f'[[site]]\nname = "{site.name}"\nrecord = "{lemon.record(site.option, own)}"')
     return lines + [f'[[host]]\naddress = "{at + 1:032x}"\nlimit = {limit}' for at, limit in enumerate(limits)]
 
 
 def make(drawn: Drawn, folder: str) -> None:
-    """Makes the files of a case, where they aren't there yet."""
     if os.path.exists(os.path.join(folder, "capacity.csv")):
         return
     os.makedirs(folder, exist_ok=True)
@@ -146,7 +128,7 @@ def network(drawn: Drawn, folder: str) -> str:
     """A file of the network of all rows and arcs in numbers."""
     costs = drawn.service.costs
     with open(os.path.join(folder, "capacity.csv"), encoding="utf-8") as table:
-        capacities = [line.split(",")[2].strip() for line in table][1:]
+        capacities = [int(line.split(",")[2]) for line in table.readlines()[1:]]
     rows = list(drawn.rows())
     names = [site.name for site in drawn.service.sites]
     arcs = (
@@ -154,36 +136,18 @@ def network(drawn: Drawn, folder: str) -> str:
         for at, row in enumerate(rows)
         for name, server in zip(names, row.servers)
     )
-    head = f"{len(rows)} {len(capacities)} {len(rows) * len(names)}"
-    counts = " ".join(str(row.asked) for row in rows)
-    path = os.path.join(folder, "network.txt")
-    with open(path, "w", encoding="utf-8") as file:
-        file.writelines(f"{line}\n" for line in (head, counts, " ".join(capacities), *arcs))
-    return path
+    return lemon.network(folder, [row.asked for row in rows], capacities, arcs, len(rows) * len(names))
 
 
-def run(words: list[str], folder: str, out: str) -> tuple[float, float]:
-    """The seconds and the peak megabytes of a run. What it prints goes to a file."""
-    with open(os.path.join(folder, out), "w", encoding="utf-8") as file, tempfile.TemporaryFile("w+") as reported:
-        place = os.getcwd()
-        os.chdir(folder)
-        try:
-            _, seconds, memory = instances.spent_by(words, file, reported)
-        finally:
-            os.chdir(place)
-    return seconds, memory
+def run(words: list[str], folder: str, out: str) -> instances.Spent:
+    return instances.spent_by(words, os.path.join(folder, out), folder)
 
 
-def cost_in(path: str) -> str:
-    with open(path, encoding="utf-8") as file:
-        return next((line.split()[1] for line in file if line.startswith("cost ")), "-")
-
-
-def measure(name: str, folder: str, program: str, lemon: str) -> bool:
+def measure(name: str, folder: str, program: str, peer: str) -> bool:
     """Prints the figures of a case. Returns whether its certificate is right."""
     drawn = Drawn(CASES[name])
     make(drawn, folder)
-    seconds, memory = run([program, "plan", *FILES.split()], folder, "own.prices")
+    _, seconds, memory, _ = run([program, "plan", *FILES.split()], folder, "own.prices")
     run([program, "check", *FILES.split(), "--prices", "own.prices"], folder, "verdict")
     path = os.path.join(folder, "own.prices")
     with open(os.path.join(folder, "verdict"), encoding="utf-8") as file:
@@ -192,23 +156,15 @@ def measure(name: str, folder: str, program: str, lemon: str) -> bool:
         classes = sum(line.startswith("class ") for line in file)
     size = os.path.getsize(path)
     print(f"{name}: {seconds:.2f} s, {memory:.0f} MB, {classes:,} classes, {size:,} octets, {verdict}", flush=True)
-    if not lemon:
+    if not peer:
         return verdict == "yes"
-    numbers, cost, are_same = network(drawn, folder), cost_in(path), True
-    for rule in RULES:
-        whole, held = run([lemon, numbers, rule], folder, "other.txt")
-        other = cost_in(os.path.join(folder, "other.txt"))
+    numbers, cost, are_same = network(drawn, folder), lemon.cost_in(path), True
+    for rule in lemon.RULES:
+        _, whole, held, _ = run([peer, numbers, rule], folder, "other.txt")
+        other = lemon.cost_in(os.path.join(folder, "other.txt"))
         print(f"{name}: LEMON, {rule}, {whole:.2f} s, {held:.0f} MB, costs {cost} and {other}", flush=True)
         are_same = are_same and cost == other
     return verdict == "yes" and are_same
-
-
-def lemon_in(folder: str) -> str:
-    """The peer, compiled."""
-    made = os.path.join(folder, "lemon_peer")
-    source = os.path.join(programs.TOP, "tools", "measure", "lemon_peer.cpp")
-    subprocess.run(["g++", "-O3", "-o", made, source, "-llemon"], check=True)
-    return made
 
 
 def main() -> int:
@@ -222,11 +178,11 @@ def main() -> int:
         return 1
     with tempfile.TemporaryDirectory() as room:
         folder = os.path.abspath(given.folder or room)
-        lemon = given.lemon.split(",") if given.lemon else []
-        peer = lemon_in(room) if lemon else ""
+        solved = given.lemon.split(",") if given.lemon else []
+        peer = lemon.peer_in(room) if solved else ""
         program = os.path.abspath(given.program)
         right = [
-            measure(name, os.path.join(folder, name), program, peer if name in lemon else "")
+            measure(name, os.path.join(folder, name), program, peer if name in solved else "")
             for name in given.cases.split(",")
         ]
     return 0 if all(right) else 1

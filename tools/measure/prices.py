@@ -4,15 +4,11 @@
     tools/measure/prices.py [--rows N] [--turns N] [--program FILE] [--folder FOLDER] [--cases NAME,..]
 
 Nothing is solved: tools/measure/prices_peer.cpp draws prices and rows, sends each row to the servers where it pays
-least, and takes the loads as capacities wherever a price is above 0. Handles are nearly all new, and counts are 1 to
-1,000.
-
-By turns with the program runs that peer, the same steps in plain C++, over the same files. Both have to say yes, and no
-to the certificate with another amount. Seconds are processor seconds, the least of all turns. Memory is the most that a
-run held. All runs are on one processor, where the machine lets one be chosen. The files are made before the first
-run, in a folder that is kept where --folder names one, and taken from there the next time.
+least, and takes the loads as capacities wherever a price is above 0. By turns with the program runs that peer, the same
+steps in plain C++, over the same files. Both have to say yes, and no to the certificate with another amount. Seconds
+are processor seconds, the least of all turns. Memory is the most that a run held. All runs are on one processor, where
+the machine lets one be chosen. Files are taken from the folder where it has them.
 """
-from __future__ import annotations
 
 import argparse
 import os
@@ -65,13 +61,11 @@ def one_turn(runs: dict[str, list[str]], folder: str) -> dict[str, float]:
 
 
 def least_seconds(runs: dict[str, list[str]], folder: str, turns: int) -> dict[str, float]:
-    """The least seconds of each run, by turns."""
     spent = [one_turn(runs, folder) for _ in range(turns)]
     return {name: min(own[name] for own in spent) for name in runs}
 
 
 def measure(folder: str, runs: dict[str, list[str]], turns: int, preloaded: str) -> None:
-    """Prints the figures of the runs over the files of a case."""
     certificate = lines_of(folder, "right.prices")
     rows = len(lines_of(folder, "log.csv")) - 1
     classes = sum(line.startswith(b"class ") for line in certificate)

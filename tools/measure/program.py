@@ -8,7 +8,6 @@ plans them, has the answer judged, and reports the loads of a plan. Then it loca
 settings. Of N runs (by default 5) it prints the least, the middle and the greatest. With `--hosts N` the servers
 stand on N machines, whose limits together are three fifths of the capacity.
 """
-from __future__ import annotations
 
 import argparse
 import os
@@ -27,27 +26,19 @@ FACTORS = [2.0, 1.2, 1.05, 1.01, 1.0, 0.99]
 STATUSES = {0: "plan", 3: "shortage"}
 
 
-def spent_by(words: list[str], out: str) -> tuple[int, float, float]:
-    """The status of a run, its processor seconds and its peak memory in megabytes. What it prints goes to the file
-    `out`."""
-    with open(out, "w") as file, open(os.devnull, "w") as reported:
-        return instances.spent_by(words, file, reported)
-
-
 def row(name: str, words: list[str], out: str, runs: int) -> int:
     """Runs a command `runs` times, and prints a row of the table. Returns the status of the last run."""
-    took = [spent_by(words, out) for _ in range(runs)]
-    seconds = [it[1] for it in took]
+    took = [instances.spent_by(words, out) for _ in range(runs)]
+    seconds = [it.seconds for it in took]
     print(
         f"| {name} | {min(seconds):.3f}, {statistics.median(seconds):.3f}, {max(seconds):.3f} "
-        f"| {max(it[2] for it in took):.1f} MB | {took[-1][0]} |",
+        f"| {max(it.megabytes for it in took):.1f} MB | {took[-1].status} |",
         flush=True,
     )
-    return took[-1][0]
+    return took[-1].status
 
 
 def measure(factor: float, chosen: argparse.Namespace, folder: str) -> list[str]:
-    """Plans the inputs of a factor, and has the answer judged."""
     _, _, files = instances.inputs(folder, random.Random(1), factor, chosen.hosts)
     answer, sink = os.path.join(folder, "answer.txt"), os.path.join(folder, "sink.txt")
     status = row(f"`plan` at factor {factor}", [chosen.program, "plan"] + files, answer, chosen.runs)

@@ -1,19 +1,14 @@
 #!/usr/bin/env python3
-"""Measures HAProxy over an exported plan: what servers get by each way to put a plan into force, how many answers it
-gives in a second, and how long a map takes to be swapped.
+"""Measures HAProxy over an exported plan.
 
-    tools/measure/proxy.py ways [--seed N]
-    tools/measure/proxy.py answers [--seconds N]
-    tools/measure/proxy.py swap
-
-- ways: queries of an example in random order, by each way. Lots are drawn as HAProxy draws them, from the maps that hsp
-  writes. Plans of the rest are those of hsp steer.
-- answers: HAProxy with one fixed answer and with exported maps, by turns, asked by wrk. Each answer is a line of a log.
-- swap: maps of some sizes, put in place of that of a HAProxy that runs.
+    tools/measure/proxy.py ways [--seed N]         what servers get of an example's queries, by each way to put a plan
+                                                   into force; lots are drawn as HAProxy draws them
+    tools/measure/proxy.py answers [--seconds N]   how many answers HAProxy gives in a second, with one fixed answer and
+                                                   with exported maps, by turns, asked by wrk
+    tools/measure/proxy.py swap                    how long a map takes to be put in place of another one
 
 Each prints a table in Markdown. Needs Debian's packages haproxy and wrk, and those of hsp.
 """
-from __future__ import annotations
 
 import argparse
 import contextlib
@@ -57,7 +52,6 @@ Way = Callable[[list[Row]], Loads]
 
 
 def example(name: str, room: str) -> str:
-    """A folder of an example."""
     folder = os.path.join(room, name)
     if name == "two-sites":
         shutil.copytree(TOP / "examples" / name, folder)
@@ -245,7 +239,6 @@ class Running:
     process: "subprocess.Popen[bytes]"
 
     def seconds(self) -> float:
-        """The processor time that it has taken."""
         words = Path(f"/proc/{self.process.pid}/stat").read_text().rpartition(")")[2].split()
         return (int(words[11]) + int(words[12])) / os.sysconf("SC_CLK_TCK")
 
@@ -301,7 +294,6 @@ Measured = tuple[float, float, str, str]
 
 
 def asked_by_wrk(own: Running, script: str, seconds: int) -> Measured:
-    """What wrk finds in so many seconds."""
     before = own.seconds()
     words = ["wrk", "-t1", "-c32", f"-d{seconds}s", "--latency", "-s", script, f"http://127.0.0.1:{own.port}"]
     said = subprocess.run(words, capture_output=True, text=True, check=True).stdout
@@ -380,7 +372,9 @@ def main() -> int:
     given = words.parse_args()
     lacking = [name for name in NEEDED[given.what] if not shutil.which(name)]
     if lacking:
-        print(f"proxy: {given.what} needs {' and '.join(lacking)}: apt-get install {' '.join(lacking)}", file=sys.stderr)
+        print(
+            f"proxy: {given.what} needs {' and '.join(lacking)}: apt-get install {' '.join(lacking)}", file=sys.stderr
+        )
         return 1
     os.environ.update(programs.variables())
     if programs.is_absent(*programs.variables().values()):

@@ -7,7 +7,6 @@ Lines are counted as they stand, comments and empty lines too. Those of document
 `console`. The chain is the longest way through crates.txt by the seconds that the table of docs/maintain/GATE.md has
 for the proof of each crate, for the proof before its edits, and for its edits.
 """
-from __future__ import annotations
 
 import re
 import sys
@@ -29,7 +28,6 @@ def lines_in(*patterns: str) -> int:
 
 
 def lines_of_documents() -> int:
-    """The lines of all documents outside of transcripts."""
     paths = [*TOP.glob("*.md"), *TOP.glob("docs/**/*.md"), *TOP.glob("examples/*.md")]
     outside = re.compile(r"^```console\n.*?^```\n|^```[^\n]*\n", re.MULTILINE | re.DOTALL)
     return sum(outside.sub("", path.read_text()).count("\n") for path in paths)

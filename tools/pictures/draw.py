@@ -14,7 +14,6 @@ picture are compared, and not their places.
     tools/pictures/draw.py            writes the pictures
     tools/pictures/draw.py --check    writes nothing, and compares the pictures that are there
 """
-from __future__ import annotations
 
 import argparse
 import hashlib
@@ -39,8 +38,6 @@ STYLE = """fontname="DejaVu Sans"; bgcolor=white;
 
 
 class Server(NamedTuple):
-    """A line of a load report."""
-
     place: int
     number: int
     load: int
@@ -214,9 +211,7 @@ def main() -> int:
     arguments = argparse.ArgumentParser(description="Draws the pictures of docs/pictures/.")
     arguments.add_argument("--check", action="store_true", help="write nothing, and compare the pictures")
     check = arguments.parse_args().check
-    faults = [
-        f"docs/pictures/{it.name} is drawn by nothing" for it in FOLDER.glob("*.svg") if it.name not in PICTURES
-    ]
+    faults = [f"docs/pictures/{it.name} is drawn by nothing" for it in FOLDER.glob("*.svg") if it.name not in PICTURES]
     for name, draw in PICTURES.items():
         path, text = FOLDER / name, draw()
         if not check:

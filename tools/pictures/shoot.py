@@ -8,7 +8,6 @@
 The picture takes Chromium, its driver, and Python's selenium and PIL (Debian: chromium chromium-driver
 python3-selenium python3-pil). Only the pages are compared, since fonts differ between machines.
 """
-from __future__ import annotations
 
 import argparse
 import io
@@ -32,13 +31,17 @@ PAGES = {"two-sites": ["--unit", "ms"], "twelve-sites": ["--title", "twelve-site
 
 
 def page_of(name: str, folder: Path) -> str:
-    """The page of an example, as hsp writes it."""
     source = TOP / "examples" / name
     if name == "twelve-sites":
         source = folder / name
         source.mkdir()
         examples.write(str(source), examples.twelve_sites())
-    environment = {**os.environ, **programs.variables(), "PYTHONPATH": str(TOP / "companion"), "SOURCE_DATE_EPOCH": TIME}
+    environment = {
+        **os.environ,
+        **programs.variables(),
+        "PYTHONPATH": str(TOP / "companion"),
+        "SOURCE_DATE_EPOCH": TIME,
+    }
     out = folder / f"{name}.html"
     words = [sys.executable, "-m", "hsp", "view", str(source), "-o", str(out), *PAGES[name]]
     subprocess.run(words, check=True, env=environment, stdout=subprocess.DEVNULL)

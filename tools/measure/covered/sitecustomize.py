@@ -3,7 +3,6 @@
 Python imports this module at its start, where its folder stands in PYTHONPATH. It is a plugin of pytest too, which
 names the test that each process runs for.
 """
-from __future__ import annotations
 
 import atexit
 import contextlib
