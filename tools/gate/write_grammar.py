@@ -61,8 +61,6 @@ ROWS = {
 }
 HEAD = '''"""The commands, limits and headers of hsplan and hsplan-stream, written by tools/gate/write_grammar.py."""
 
-from __future__ import annotations
-
 from typing import NamedTuple
 
 

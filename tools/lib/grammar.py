@@ -11,8 +11,8 @@ CRATES = Path(programs.TOP) / "crates"
 LIMITS = ["hsp_text/src/limits.rt", "hsp_talk/src/limits.rt", "hsp_log/src/log_rows.rt", "hsp_price_text/src/ranges.rt"]
 # The function that knows the headers of a command's log.
 LOGS = {
-    "dispatch": "hsp_log/src/form.rt fn form_of",
-    "fronts": "hsp_log/src/form.rt fn event_form_of",
+    "dispatch": "hsp_log/src/form.rt fn entry_form",
+    "fronts": "hsp_log/src/form.rt fn event_form",
     "places": "hsp_stream/src/handle_rows.rt fn form_of",
     "answer": "hsp_price_answers/src/asking.rt fn form_of",
     "check": "hsp_price_runs/src/log_pass.rt fn form_of",

@@ -22,8 +22,10 @@ module _ (groups : List Group) (k : ℕ) (d : Group) (l : k < length groups) whe
       ≡ arcs_of_groups (take k groups) ++ map (arc_of k) (slice_index_or groups k d).arcs
   grown =
       let lists = map (λ (group : Group). group.arcs) groups in
-      rw (← take-map (λ (group : Group). group.arcs) k groups, ← take-map (λ (group : Group). group.arcs) (k + 1) groups)
-      (sym (in_columns.grown lists k (slice_index_or groups k d).arcs read))
+      rw (
+        ← take-map (λ (group : Group). group.arcs) k groups,
+        ← take-map (λ (group : Group). group.arcs) (k + 1) groups,
+      ) (sym (in_columns.grown lists k (slice_index_or groups k d).arcs read))
 
   -- the columns of the arcs grow by those of a group
   pub arcs_more : (old new : ArcColumns) → columns.AreColumns (arcs_of_groups (take k groups)) old
