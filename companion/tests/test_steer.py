@@ -374,13 +374,13 @@ def test_no_server_gets_above_its_capacity_where_the_demand_is_off(
     two: Path, into: Path, front: Front, are_two: bool, request: pytest.FixtureRequest
 ) -> None:
     """With one proxy, and with two of which one is killed meanwhile: its last three seconds aren't counted, and they are
-    a twelfth of this period. It is long, since a machine may be busy."""
+    less than a twelfth of this period. It is long, since a machine may be busy."""
     fronts = [front, request.getfixturevalue("other")] if are_two else [front]
     more = [f"--into={beside(into)}"] if are_two else []
     service = read_service(str(two), Programs(), {})
     draws = (off_by(service, random.Random(seed)) for seed in range(100))
     rows = next(own for own in draws if 1.04 < unsteered(service, own) < 1.1)
-    period = period_of(36, 35)
+    period = period_of(60, 59)
     names = {url: name for name, url in urls_in(two).items()}
     with steering(two, into, *more, "--period", period, "--every", "1.2") as own:
         turn = math.ceil(time.time() / float(period)) * float(period)
