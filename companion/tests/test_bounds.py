@@ -272,7 +272,7 @@ def test_an_explanation_without_an_end_is_ended(monkeypatch: pytest.MonkeyPatch)
     begun = time.monotonic()
     result = guard.guarded(work)  # type: ignore[arg-type]
     assert (result.findings, result.is_ended) == ([finding(1), finding(2)], True)
-    assert time.monotonic() - begun < 5
+    assert time.monotonic() - begun < 30
 
 
 def test_an_explanation_that_takes_all_memory_is_ended(monkeypatch: pytest.MonkeyPatch) -> None:
@@ -310,7 +310,7 @@ def test_the_doctor_ends_in_time(example: Example, monkeypatch: pytest.MonkeyPat
     (folder / kind).write_text(texts.get(kind, "a." * 500_000 + "a = 1\n"))
     begun = time.monotonic()
     said = invoke("doctor", folder, status=1).stdout
-    assert time.monotonic() - begun < 8
+    assert time.monotonic() - begun < 40
     if kind == "hsp.toml":
         assert said.startswith("error: hsp.toml has more than 262,144 octets\n")
         return

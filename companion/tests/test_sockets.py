@@ -72,7 +72,7 @@ def test_an_answer_that_never_ends_is_not_waited_for(answering: Callable[[Answer
     begun = time.monotonic()
     with pytest.raises(Missing, match="HAProxy doesn't answer there: timed out"):
         Runtime(answering(_drips)).say("show info", 0.5)
-    assert time.monotonic() - begun < 5
+    assert time.monotonic() - begun < 30
 
 
 def test_an_answer_without_end_takes_little_memory(
@@ -158,4 +158,4 @@ def test_a_long_line_of_a_table_is_read_in_its_length() -> None:
     """Each word of it may be the beginning of a count."""
     before = time.monotonic()
     assert runtime._counts("key=a " * 300_000 + "\n0x1: key=b use=0 http_req_cnt=7 gpc0=1\n") == {"b": 7}
-    assert time.monotonic() - before < 5
+    assert time.monotonic() - before < 30
